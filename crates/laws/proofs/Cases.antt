@@ -1,0 +1,23 @@
+-- Case splits: by a test of two numbers, or through a choice.
+-- Assumes nothing.
+use mathlib.Core.Path.{_≡_, refl}
+use mathlib.Core.Bool.{Bool, true, false}
+use Prim.Native.Nat.{ℕ, _≤_, _<_}
+use lib.Dec.{ltb, eqb}
+use borrow.Author.Tests.{ltb-true, ltb-false, eqb-true, eqb-false}
+use Rattle.laws.specs.Pick.{pick}
+
+pub by-bool : {P : Type 0} (t : Bool) → (t ≡ true → P) → (t ≡ false → P) → P
+by-bool true f g = f refl
+by-bool false f g = g refl
+
+pub by-lt : {P : Type 0} (a b : ℕ) → (a < b → P) → (b ≤ a → P) → P
+by-lt a b f g = by-bool (ltb a b) (λ e. f (ltb-true a b e)) (λ e. g (ltb-false a b e))
+
+pub by-eq : {P : Type 0} (a b : ℕ) → (a ≡ b → P) → ((a ≡ b → ⊥) → P) → P
+by-eq a b f g = by-bool (eqb a b) (λ e. f (eqb-true a b e)) (λ e. g (eqb-false a b e))
+
+-- what holds of both holds of the choice
+pub pick-all : {X : Type 0} (P : X → Type 0) (t : Bool) (x y : X) → (t ≡ true → P x) → (t ≡ false → P y) → P (pick t x y)
+pick-all P true x y f g = f refl
+pick-all P false x y f g = g refl

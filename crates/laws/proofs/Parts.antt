@@ -1,0 +1,29 @@
+-- Parts of a slice, as the code takes them: `&s[n..]`, `&s[a..e]`, and `&mut s[n..]` that comes back.
+-- Assumes nothing.
+use mathlib.Core.Path.{_≡_, refl, sym, ap, _∙_}
+use mathlib.Core.List.{List, [], _∷_, _++_, append-nil}
+use Prim.Native.Nat.{ℕ, zero, suc, _+_, _-_, _≤_, _<_}
+use native.Mathlib.Nat.{le-refl}
+use native.Mathlib.Omega.{arith}
+use lib.ListN.{length, getD, take, drop, length-drop, length-take, drop-of-length-le}
+use lib.Seq.{take-all, length-take-le, getD-take}
+use borrow.Rule.Slice.PartMut.{putMid}
+
+-- what `&s[n..]` is
+pub tail-part : (n : ℕ) (l : List ℕ) → take (length l - n) (drop n l) ≡ drop n l
+tail-part n l = take-all (length l - n) (drop n l) (simp length-drop (le-refl (length l - n)))
+
+pub tail-length : (n m : ℕ) (l : List ℕ) → m + n ≤ length l → m ≤ length (take (length l - n) (drop n l))
+tail-length n m l h = rw tail-part (rw length-drop (omega arith))
+
+-- how long a part from within is
+pub part-length : (a n : ℕ) (l : List ℕ) → a + n ≤ length l → length (take n (drop a l)) ≡ n
+part-length a n l h = length-take-le n (drop a l) (rw length-drop (omega arith))
+
+-- what a slice holds after `&mut s[n..]` came back with m
+pub mid-tail : (n : ℕ) (l m : List ℕ) → putMid n (length l - n) l m ≡ take n l ++ m
+mid-tail n l m = rw (drop-of-length-le (drop n l) {i = length l - n} (simp length-drop (le-refl (length l - n))), append-nil)
+
+-- two runs that agree in their first n > 0 elements agree in the first
+pub same-first : (s t : List ℕ) (n : ℕ) → 0 < n → take n s ≡ take n t → getD s 0 0 ≡ getD t 0 0
+same-first s t n p e = sym (getD-take n s 0 0 p) ∙ ap (λ (l : List ℕ). getD l 0 0) e ∙ getD-take n t 0 0 p

@@ -1,0 +1,5 @@
+pub mod Pick
+pub mod Loop
+pub mod Bytes
+pub mod Placed
+pub mod Once

@@ -1,0 +1,97 @@
+-- GUIDs: sixteen bytes there and back, and the order of the sixteen bytes as an order of numbers.
+-- Assumes nothing.
+use mathlib.Core.Path.{_≡_, refl, sym, ap, _∙_}
+use mathlib.Core.Bool.{Bool, true, false}
+use mathlib.Core.List.{List, [], _∷_, _++_, append-assoc}
+use Prim.Native.Nat.{ℕ, zero, suc, _+_, _-_, _*_, _/_, _%_, _^_, _≤_, _<_}
+use native.Mathlib.Nat.{div-div-eq-div-mul}
+use native.Mathlib.Omega.{arith}
+use lib.ListN.{length, take, drop, set, length-append, length-drop, length-take}
+use lib.Seq.{take-at, drop-at, take-add, take-all, length-take-le}
+use lib.Dec.{ltb}
+use Rattle.laws.specs.Pick.{pick}
+use Rattle.laws.specs.Bytes.{AllBytes, le, bytes, before, be}
+use Rattle.laws.proofs.Numbers.{length-bytes, le-bytes, bytes-le, bytes-bytes, take-bytes, drop-bytes, le-lt}
+use Rattle.laws.proofs.Placing.{laid-behind}
+use Rattle.laws.proofs.Order.{before-be, before-append}
+use Rattle.numbers.specs.Guid.{guidAt, guidBytes, taggedBytes, GuidFits, guidBefore, swapped}
+use Rattle.numbers.specs.declared.guid.Guid.{Guid}
+
+pub length-guid : (g : Guid) → length (guidBytes g) ≡ 16
+unfolding guidBytes
+length-guid g = simp (length-append, length-bytes)
+
+-- what was written reads back, followed by anything
+pub guid-read-written : (g : Guid) → GuidFits g → (t : List ℕ) → guidAt (guidBytes g ++ t) ≡ g
+unfolding guidAt guidBytes
+guid-read-written g h t =
+    let x = bytes 8 (g .low) in
+    let y = bytes 8 (g .high) in
+    let a : take 8 ((x ++ y) ++ t) ≡ x = rw append-assoc (take-at x (y ++ t) 8 (length-bytes 8 (g .low))) in
+    let b : drop 8 ((x ++ y) ++ t) ≡ y ++ t = rw append-assoc (drop-at x (y ++ t) 8 (length-bytes 8 (g .low))) in
+    rw (a, b, take-at y t 8 (length-bytes 8 (g .high)), le-bytes 8 (g .low) (h .0), le-bytes 8 (g .high) (h .1))
+
+-- eight bytes that are there are written as they were
+eight-back : (s : List ℕ) → AllBytes s → 8 ≤ length s → bytes 8 (le (take 8 s)) ≡ take 8 s
+eight-back s b h = rw (length-take-le 8 s h) at (bytes-le (take 8 s) (take-bytes 8 s b))
+
+-- what is read is what is written for it
+pub guid-written-read : (s : List ℕ) → AllBytes s → 16 ≤ length s → guidBytes (guidAt s) ≡ take 16 s
+unfolding guidAt guidBytes
+guid-written-read s b h =
+    rw (eight-back s b (omega arith), eight-back (drop 8 s) (drop-bytes 8 s b) (simp length-drop (omega arith))) (sym (take-add 8 8 s))
+
+-- what is read fits
+pub guid-at-fits : (s : List ℕ) → AllBytes s → GuidFits (guidAt s)
+unfolding guidAt
+guid-at-fits s b = (
+  le-lt 8 (take 8 s) (simp length-take (omega arith)) (take-bytes 8 s b),
+  le-lt 8 (take 8 (drop 8 s)) (simp length-take (omega arith)) (take-bytes 8 (drop 8 s) (drop-bytes 8 s b)),
+)
+
+-- ---- byte 128, the GUID, and a number of n bytes
+
+pub length-tagged : (n : ℕ) (g : Guid) (x : ℕ) → length (taggedBytes n g x) ≡ n + 17
+unfolding taggedBytes
+length-tagged n g x = simp (length-append, length-bytes, length-guid) (omega arith)
+
+-- as the code writes it
+pub tagged-put : (d : List ℕ) (n : ℕ) (g : Guid) (x : ℕ) → 17 ≤ length d
+    → take 17 (take 1 (set d 0 128) ++ (guidBytes g ++ drop 16 (drop 1 (set d 0 128))))
+    ++ (bytes n x ++ drop n (drop 17 (take 1 (set d 0 128) ++ (guidBytes g ++ drop 16 (drop 1 (set d 0 128))))))
+    ≡ taggedBytes n g x ++ drop n (drop 17 d)
+unfolding taggedBytes
+tagged-put [] n g x h = absurd (omega arith)
+tagged-put (y ∷ d) n g x h = laid-behind (128 ∷ guidBytes g) (bytes n x) (drop 16 d) 17 n (ap suc (length-guid g))
+
+-- ---- the order
+
+half-order : (x y : ℕ) → before (bytes 8 x) (bytes 8 y) ≡ ltb (swapped x) (swapped y)
+unfolding swapped
+half-order x y =
+    before-be (bytes 8 x) (bytes 8 y) (bytes-bytes 8 x) (bytes-bytes 8 y) (length-bytes 8 x ∙ sym (length-bytes 8 y))
+
+-- the sixteen bytes stand in order as two numbers do, the first halves' first
+pub guid-order : (a b : Guid) → guidBefore a b
+    ≡ pick (ltb (swapped (a .low)) (swapped (b .low))) true
+    (pick (ltb (swapped (b .low)) (swapped (a .low))) false (ltb (swapped (a .high)) (swapped (b .high))))
+unfolding guidBefore guidBytes
+guid-order a b =
+    rw (← half-order (a .low) (b .low), ← half-order (b .low) (a .low), ← half-order (a .high) (b .high))
+    (before-append (bytes 8 (a .low)) (bytes 8 (b .low)) (bytes 8 (a .high)) (bytes 8 (b .high)) (length-bytes 8 (a .low) ∙ sym (length-bytes 8 (b .low))))
+
+-- the number that the code computes: each byte at its place from the other end
+pub swapped-is : (x : ℕ)
+    → swapped x
+    ≡ x % 256 * 72057594037927936 + x / 256 % 256 * 281474976710656 + x / 65536 % 256 * 1099511627776 + x / 16777216 % 256 * 4294967296
+    + x / 4294967296 % 256 * 16777216 + x / 1099511627776 % 256 * 65536 + x / 281474976710656 % 256 * 256 + x / 72057594037927936 % 256
+unfolding swapped bytes be
+swapped-is x =
+    rw (
+      div-div-eq-div-mul x 256 256,
+      div-div-eq-div-mul x 65536 256,
+      div-div-eq-div-mul x 16777216 256,
+      div-div-eq-div-mul x 4294967296 256,
+      div-div-eq-div-mul x 1099511627776 256,
+      div-div-eq-div-mul x 281474976710656 256,
+    ) (omega arith)

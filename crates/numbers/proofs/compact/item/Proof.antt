@@ -1,0 +1,47 @@
+-- `compact::item` meets its contract: what the form says, strictly.
+-- Assumes nothing.
+use mathlib.Core.Path.{_≡_, refl, sym, ap, _∙_}
+use Rattle.numbers.specs.Compact.{readCompact}
+use borrow.Author.Needs.{needs}
+use Rattle.numbers.proofs.compact.item.Statement.{statement}
+use Rattle.numbers.proofs.compact.item.Tie as tie
+use Rattle.numbers.proofs.compact.item.Reads as reads
+use Rattle.numbers.proofs.compact.item.Lts as lts
+use Rattle.numbers.proofs.compact.form_at.Reads as form-at-reads
+use Rattle.numbers.proofs.refusal.at_front.Reads as at-front-reads
+
+form-at-requires : tie.Need-form-at-requires
+form-at-requires c κs = search needs
+
+enum-known-v : tie.Need-enum-known-v
+enum-known-v c = search needs
+
+at-front-requires : tie.Need-at-front-requires
+at-front-requires c κs = search needs
+
+returns : tie.Need-returns
+unfolding readCompact
+returns c = rw (← c .before .before .before .before .before .form-at .ensures, c .before .before .before .v .given .1, c .before .if1 .taken, c .at-front .ensures)
+
+enum-known-r : tie.Need-enum-known-r
+enum-known-r c = search needs
+
+returns-2 : tie.Need-returns-2
+unfolding readCompact
+returns-2 c = rw (← c .before .before .before .before .form-at .ensures, c .before .before .v .given .1, c .if1 .left)
+
+returns-3 : tie.Need-returns-3
+unfolding readCompact
+returns-3 c = rw (← c .before .before .before .form-at .ensures, c .before .r .given .1)
+
+pub item-spec : {M : Type 1} → statement M
+item-spec =
+    tie.close
+    (tie.spec
+    form-at-requires
+    enum-known-v
+    at-front-requires
+    returns
+    enum-known-r
+    returns-2
+    returns-3)

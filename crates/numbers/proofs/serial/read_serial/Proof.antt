@@ -1,0 +1,26 @@
+-- `serial::read_serial` meets its contract: 1 for an over-long slice, else the item.
+-- Assumes nothing.
+use mathlib.Core.Path.{sym}
+use Rattle.numbers.proofs.Calls.{single-over, single-item}
+use borrow.Author.Needs.{needs}
+use Rattle.numbers.proofs.serial.read_serial.Statement.{statement}
+use Rattle.numbers.proofs.serial.read_serial.Tie as tie
+use Rattle.numbers.proofs.serial.read_serial.Reads as reads
+use Rattle.numbers.proofs.serial.read_serial.Lts as lts
+use Rattle.numbers.proofs.refusal.over_long.Reads as over-long-reads
+use Rattle.numbers.proofs.serial.item.Reads as item-reads
+
+over-long-requires : tie.Need-over-long-requires
+over-long-requires c κs = search needs
+
+returns : tie.Need-returns
+returns c = rw (c .over-long .ensures) (sym (single-over _ _ (c .before .if1 .taken)))
+
+item-requires : tie.Need-item-requires
+item-requires c κs = search needs
+
+returns-2 : tie.Need-returns-2
+returns-2 c = rw (c .item .ensures) (sym (single-item _ _ (c .before .if1 .left)))
+
+pub read-serial-spec : {M : Type 1} → statement M
+read-serial-spec = tie.close (tie.spec over-long-requires returns item-requires returns-2)

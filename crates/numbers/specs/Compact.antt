@@ -1,0 +1,65 @@
+-- The compact integer (document 01, 'Numbers and names'; 000, 2.2.1.1), by one rule for all its forms: the first byte has
+-- k zero bits below its lowest set bit, and form k is a little-endian number of k + 1 bytes (9 where k is 7) whose k + 1
+-- low bits are 2 ^ k and whose other bits are the value. The byte 0 stands for 0.
+-- Assumes nothing.
+use Prim.Native.Nat.{ℕ, zero, suc, _+_, _*_, _/_, _^_}
+use mathlib.Core.Bool.{Bool, true, false}
+use mathlib.Core.List.{List, [], _∷_}
+use lib.ListN.{length, getD, take}
+use lib.Dec.{ltb, eqb}
+use lib.Count.{trailingZeros}
+use Rattle.laws.specs.Pick.{pick}
+use Rattle.laws.specs.Bytes.{le, bytes}
+use Rattle.numbers.specs.Refusals.{fault}
+use Rattle.numbers.specs.declared.compact.Form.{Form}
+use Rattle.numbers.specs.declared.compact.Form.the-variants.{Holds}
+use Rattle.numbers.specs.declared.compact.Form.the-variants as form
+use Rattle.numbers.specs.declared.compact.Compact.{Compact}
+use Rattle.numbers.specs.declared.compact.Compact.the-variants.{Value, Refused}
+
+-- how many bytes form k takes: the table's column 'bytes'
+unfoldable pub sizeOf : ℕ → ℕ
+sizeOf k = pick (eqb k 7) 9 (k + 1)
+
+-- the value of an item of form k at the front of s: the number without its k + 1 low bits
+unfoldable pub valueOf : ℕ → List ℕ → ℕ
+valueOf k s = le (take (sizeOf k) s) / 2 ^ (k + 1)
+
+-- form k: 2 where it runs past the end; else the value, the bytes used, and whether a shorter form would do (the table's
+-- column 'range' starts at 128 ^ k)
+unfoldable pub readForm : ℕ → List ℕ → Form
+readForm k s =
+    pick (ltb (length s) (sizeOf k)) (form.Refused (fault 2))
+    (Holds (valueOf k s) (sizeOf k) (ltb (valueOf k s) (128 ^ k)))
+
+-- what the form at the front of s says by itself
+unfoldable pub formAt : List ℕ → Form
+formAt s =
+    pick (eqb (length s) 0) (form.Refused (fault 2))
+    (pick (eqb (getD s 0 0) 0) (Holds 0 1 false) (readForm (trailingZeros 8 (getD s 0 0)) s))
+
+-- strictly: a form longer than needed is outside its range, 3
+abbrev pub strict : Form → Compact
+strict (Holds v n longer) = pick longer (Refused (fault 3)) (Value v n)
+strict (form.Refused r) = Refused r
+
+unfoldable pub readCompact : List ℕ → Compact
+readCompact s = strict (formAt s)
+
+-- ---- written
+
+-- the least form that has room for a value, seven bits more for each; the last one takes what is left
+unfoldable pub formFrom : ℕ → ℕ → ℕ
+formFrom zero v = 0
+formFrom (suc f) v = pick (ltb v 128) 0 (suc (formFrom f (v / 128)))
+
+unfoldable pub formOf : ℕ → ℕ
+formOf v = formFrom 7 v
+
+-- the number that stands for v in form k
+unfoldable pub marked : ℕ → ℕ → ℕ
+marked k v = v * 2 ^ (k + 1) + 2 ^ k
+
+-- the bytes that stand for v, "writing uses the shortest"
+unfoldable pub compactBytes : ℕ → List ℕ
+compactBytes v = pick (eqb v 0) (0 ∷ []) (bytes (sizeOf (formOf v)) (marked (formOf v) v))

@@ -1,0 +1,6 @@
+pub mod Refusals
+pub mod Compact
+pub mod Guid
+pub mod ExtendedGuid
+pub mod Serial
+pub mod Calls

@@ -1,0 +1,180 @@
+// Compact integers: what a form says by itself, the strict reading over it, and the writing, by one rule for all forms.
+ghost use mathlib.Core.Path.{_≡_};
+ghost use mathlib.Core.List.{_++_, [], _∷_};
+ghost use Prim.Native.Nat.{_+_, _*_, _^_, _≤_, _<_};
+ghost use lib.ListN.{length, drop};
+ghost use Rattle.laws.specs.Bytes.{bytes};
+ghost use Rattle.numbers.specs.Compact.{sizeOf, valueOf, readForm, formAt, strict, readCompact, formOf, marked, compactBytes};
+ghost use Rattle.numbers.specs.Calls.{ReadsCompact, Writes, WritesCompact};
+use crate::bytes::put_le;
+use crate::bytes::read_le;
+use crate::refusal::LONGEST_INPUT;
+use crate::refusal::Refusal;
+use crate::refusal::Wrote;
+use crate::refusal::at_front;
+use crate::refusal::over_long;
+use crate::refusal::too_short;
+
+// What a form says by itself: the value, the bytes used, and whether a shorter form would do.
+pub enum Form {
+    Holds(u64, usize, bool),
+    Refused(Refusal),
+}
+
+// A compact integer: the value and the bytes used.
+pub enum Compact {
+    Value(u64, usize),
+    Refused(Refusal),
+}
+
+// How many bytes form k takes.
+fn size_of(k: usize) -> usize
+    requires { ⌜ k ≤ 7 ⌝ }
+    ensures { λ r. ⌜ r ≡ sizeOf k ⌝ }
+{
+    if k == 7 { 9 } else { k + 1 }
+}
+
+fn value_of(s: &[u8], k: usize) -> u64
+    requires { ⌜ (k ≤ 7) × (sizeOf k ≤ length (now s)) ⌝ }
+    ensures { λ r. ⌜ r ≡ valueOf k (now (s .entry)) ⌝ }
+{
+    if k == 7 {
+        return read_le(&s[1..], 8);
+    }
+    read_le(s, k + 1) >> (k + 1)
+}
+
+fn read_form(s: &[u8], k: usize) -> Form
+    requires { ⌜ k ≤ 7 ⌝ }
+    ensures { λ r. ⌜ r ≡ readForm k (now (s .entry)) ⌝ }
+{
+    let n = size_of(k);
+    if s.len() < n {
+        return Form::Refused(at_front(2));
+    }
+    let v = value_of(s, k);
+    let least: u64 = 1 << (7 * k);
+    Form::Holds(v, n, v < least)
+}
+
+// The form at the front of s.
+pub fn form_at(s: &[u8]) -> Form
+    ensures { λ r. ⌜ r ≡ formAt (now (s .entry)) ⌝ }
+{
+    if s.len() == 0 {
+        return Form::Refused(at_front(2));
+    }
+    let b = s[0];
+    if b == 0 {
+        return Form::Holds(0, 1, false);
+    }
+    let k = u8::trailing_zeros(b) as usize;
+    read_form(s, k)
+}
+
+// The compact integer at the front of a part.
+pub fn item(s: &[u8]) -> Compact
+    ensures { λ r. ⌜ r ≡ readCompact (now (s .entry)) ⌝ }
+{
+    match form_at(s) {
+        Form::Holds(v, n, longer) => {
+            if longer {
+                return Compact::Refused(at_front(3));
+            }
+            Compact::Value(v, n)
+        }
+        Form::Refused(r) => Compact::Refused(r),
+    }
+}
+
+// A single compact integer. Ruled out (proofs/WrongAnswers): taking `02 00` as 0, a longer form than needed; telling 2 of
+// `01`, whose every byte is there.
+pub fn read_compact(s: &[u8]) -> Compact
+    ensures { λ r. ⌜ ReadsCompact (now (s .entry)) r ⌝ }
+{
+    if LONGEST_INPUT < s.len() {
+        return Compact::Refused(over_long());
+    }
+    item(s)
+}
+
+// The shortest form that has room for v.
+fn form_of(v: u64) -> usize
+    ensures { λ r. ⌜ r ≡ formOf v ⌝ }
+{
+    if v < 0x80 {
+        return 0;
+    }
+    if v < 0x4000 {
+        return 1;
+    }
+    if v < 0x200000 {
+        return 2;
+    }
+    if v < 0x10000000 {
+        return 3;
+    }
+    if v < 0x800000000 {
+        return 4;
+    }
+    if v < 0x40000000000 {
+        return 5;
+    }
+    if v < 0x2000000000000 {
+        return 6;
+    }
+    7
+}
+
+fn put_form(out: &mut [u8], k: usize, v: u64)
+    requires { ⌜ (k ≤ 7) × (sizeOf k ≤ length (now out)) × (marked k v < 256 ^ sizeOf k) ⌝ }
+    ensures { λ _. ⌜ now (out .exit) ≡ bytes (sizeOf k) (marked k v) ++ drop (sizeOf k) (now (out .entry)) ⌝ }
+{
+    if k == 7 {
+        out[0] = 128;
+        put_le(&mut out[1..], 8, v);
+        return;
+    }
+    let low: u64 = 1 << k;
+    put_le(out, k + 1, v * (low * 2) + low)
+}
+
+// The byte 0: the number 0, a null extended GUID, a null serial number.
+pub fn write_zero(out: &mut [u8]) -> Wrote
+    ensures { λ r. ⌜ Writes (0 ∷ []) (now (out .entry)) r (now (out .exit)) ⌝ }
+{
+    if out.len() < 1 {
+        return Wrote::Refused(too_short(1));
+    }
+    out[0] = 0;
+    Wrote::Done(1)
+}
+
+// A single compact integer, in its shortest form. Ruled out (proofs/WrongAnswers): 128 in one byte; a needed length of 1
+// for 128.
+pub fn write_compact(out: &mut [u8], v: u64) -> Wrote
+    ensures { λ r. ⌜ WritesCompact v (now (out .entry)) r (now (out .exit)) ⌝ }
+{
+    if v == 0 {
+        return write_zero(out);
+    }
+    let k = form_of(v);
+    let n = size_of(k);
+    if out.len() < n {
+        return Wrote::Refused(too_short(n));
+    }
+    put_form(out, k, v);
+    Wrote::Done(n)
+}
+
+// How many bytes v takes.
+pub fn compact_length(v: u64) -> usize
+    ensures { λ r. ⌜ (r ≡ length (compactBytes v)) × (r ≤ 9) ⌝ }
+{
+    if v == 0 {
+        return 1;
+    }
+    let k = form_of(v);
+    size_of(k)
+}
