@@ -6,8 +6,8 @@ use mathlib.Core.List.{List, [], _∷_, _++_, append-assoc}
 use Prim.Native.Nat.{ℕ, zero, suc, _+_, _-_, _*_, _/_, _%_, _^_, _≤_, _<_}
 use native.Mathlib.Nat.{div-div-eq-div-mul}
 use native.Mathlib.Omega.{arith}
-use lib.ListN.{length, take, drop, set, length-append, length-drop, length-take}
-use lib.Seq.{take-at, drop-at, take-add, take-all, length-take-le}
+use lib.ListN.{length, getD, take, drop, set, length-append, length-drop, length-take}
+use lib.Seq.{drop-drop, take-at, drop-at, take-add, take-all, length-take-le}
 use lib.Dec.{ltb}
 use Rattle.laws.specs.Pick.{pick}
 use Rattle.laws.specs.Bytes.{AllBytes, le, bytes, before, be}
@@ -63,6 +63,33 @@ pub tagged-put : (d : List ℕ) (n : ℕ) (g : Guid) (x : ℕ) → 17 ≤ length
 unfolding taggedBytes
 tagged-put [] n g x h = absurd (omega arith)
 tagged-put (y ∷ d) n g x h = laid-behind (128 ∷ guidBytes g) (bytes n x) (drop 16 d) 17 n (ap suc (length-guid g))
+
+-- its parts, followed by anything
+pub tagged-parts : (n : ℕ) (g : Guid) (x : ℕ) (t : List ℕ) → GuidFits g → x < 256 ^ n
+    → (guidAt (drop 1 (taggedBytes n g x ++ t)) ≡ g) × (le (take n (drop 17 (taggedBytes n g x ++ t))) ≡ x)
+unfolding taggedBytes
+tagged-parts n g x t f b =
+    let s = (128 ∷ (guidBytes g ++ bytes n x)) ++ t in
+    let e : drop 1 s ≡ guidBytes g ++ (bytes n x ++ t) = append-assoc (guidBytes g) (bytes n x) t in
+    let d : drop 17 s ≡ bytes n x ++ t = sym (drop-drop 16 1 s) ∙ ap (drop 16) e ∙ drop-at (guidBytes g) (bytes n x ++ t) 16 (length-guid g) in
+    (rw e (guid-read-written g f (bytes n x ++ t)), rw (d, take-at (bytes n x) t n (length-bytes n x)) (le-bytes n x b))
+
+-- bytes that begin so are what is written for their parts
+pub tagged-same : (n : ℕ) (s : List ℕ) → AllBytes s → getD s 0 0 ≡ 128 → n + 17 ≤ length s
+    → (take (n + 17) s ≡ taggedBytes n (guidAt (drop 1 s)) (le (take n (drop 17 s))))
+    × (GuidFits (guidAt (drop 1 s)) × (le (take n (drop 17 s)) < 256 ^ n))
+unfolding taggedBytes
+tagged-same n [] b e h = absurd (omega arith)
+tagged-same n (c ∷ s) b e h =
+    let bs : AllBytes s = λ j. b (suc j) in
+    let m = drop 16 s in
+    let bm : AllBytes (take n m) = take-bytes n m (drop-bytes 16 s bs) in
+    let f : n ≤ length m = simp length-drop (omega arith) in
+    let y : bytes n (le (take n m)) ≡ take n m = rw (length-take-le n m f) at (bytes-le (take n m) bm) in
+    let k : n + 17 ≡ suc (16 + n) = omega arith in (
+      rw (guid-written-read s bs (omega arith), y, e, k) (ap (λ (l : List ℕ). 128 ∷ l) (take-add 16 n s)),
+      (guid-at-fits s bs, le-lt n (take n m) (simp length-take (omega arith)) bm),
+    )
 
 -- ---- the order
 

@@ -3,3 +3,9 @@ pub mod Forms
 pub mod Calls
 pub mod Guids
 pub mod ExtendedGuids
+pub mod Serials
+pub mod RoundTrip
+pub mod Within
+pub mod OneAnswers
+pub mod OwnBytes
+pub mod WrongAnswers

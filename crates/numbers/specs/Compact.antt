@@ -60,6 +60,6 @@ formOf v = formFrom 7 v
 unfoldable pub marked : ℕ → ℕ → ℕ
 marked k v = v * 2 ^ (k + 1) + 2 ^ k
 
--- the bytes that stand for v, "writing uses the shortest"
+-- the bytes that stand for v: the form whose range has it
 unfoldable pub compactBytes : ℕ → List ℕ
 compactBytes v = pick (eqb v 0) (0 ∷ []) (bytes (sizeOf (formOf v)) (marked (formOf v) v))

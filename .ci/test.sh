@@ -1,0 +1,67 @@
+#!/bin/sh
+# What make test does, in this order: the toolchain is the one that the file toolchain names; every source file is in
+# the layout; rt ci passes; no library rests on an axiom. Only if all of it holds is the last line rt ci's own,
+# 'N passed, 0 failed', and the exit status 0.
+set -u
+cd "$(dirname "$0")/.." || exit 1
+
+# To standard output, so that no run that fails here ends on rt ci's line.
+fail() {
+    printf 'test: FAILED: %s\n' "$*"
+    exit 1
+}
+
+# ---- the toolchain
+needed=$(cat toolchain) || fail 'the file toolchain, which names the toolchain needed, cannot be read'
+command -v rt >/dev/null 2>&1 || fail "the Rattle toolchain is needed ($needed), and there is no command rt on the PATH"
+found=$(rt version) || fail "the Rattle toolchain is needed ($needed), and rt version fails"
+[ "$found" = "$needed" ] || fail "another Rattle toolchain: needed '$needed', found '$found'"
+
+# ---- the layout
+rt fmt --check || fail 'rt fmt --check finds files that are not in the layout (rt fmt sets them right)'
+
+# ---- the proofs, the must-fail edits and the programs
+room=$(mktemp -d) || fail 'there is no room for a temporary file'
+trap 'rm -rf "$room"' EXIT
+trap 'exit 1' HUP INT TERM
+# rt ci removes target/, so its output is kept elsewhere; a pipe's status is that of its last command.
+{ rt ci; echo $? >"$room/status"; } | tee "$room/log"
+status=$(cat "$room/status")
+[ "$status" = 0 ] || exit "${status:-1}"
+last=$(tail -n 1 "$room/log")
+printf '%s\n' "$last" | grep -Eq '^[1-9][0-9]* passed, 0 failed$' ||
+    fail "rt ci ended with status 0, and its last line is not 'N passed, 0 failed'"
+
+# ---- no axiom
+# The only axioms that rt admits are the contracts of C functions. It counts them (axioms=) for a program, which may
+# have some, and never for a library. A library's log names instead each library that its check was handed, directly or
+# through another: none may be but a crate of this repository or a library of the toolchain that declares no C function
+# and stands on none that does.
+without_axioms='std bytes check'
+crates=$(sed -n -e 's/#.*//' -e 's/^[[:space:]]*\([A-Za-z_][A-Za-z0-9_]*\)[[:space:]]*:.*/\1/p' crates.txt)
+crates=$(printf '%s ' $crates)
+bad=''
+for crate in $crates; do
+    [ ! -f "crates/$crate/src/main.rt" ] || continue
+    log=target/log/$crate.out
+    if ! grep -q '^library std:' "$log" || ! grep -q '^logic=proved ' "$log"; then
+        fail "$log, the log of the library $crate, does not read as expected"
+    fi
+    if grep -Eq '^axioms |^logic=proved .*(axioms|foreign)=' "$log"; then
+        bad="$bad $crate"
+        printf 'test: the library %s rests on axioms:\n' "$crate"
+        grep -E '^axioms |^logic=' "$log"
+    fi
+    for library in $(sed -n 's/^library \([^:]*\):.*/\1/p' "$log"); do
+        case " $without_axioms $crates " in
+        *" $library "*) ;;
+        *)
+            bad="$bad $crate"
+            printf 'test: the library %s rests on the library %s, which may bring axioms\n' "$crate" "$library"
+            ;;
+        esac
+    done
+done
+[ -z "$bad" ] || fail 'only a program may rest on axioms'
+
+printf '%s\n' "$last"

@@ -1,0 +1,9 @@
+# make test is what the gate, .ci/run, runs: its last line is rt ci's own, 'N passed, 0 failed'.
+.PHONY: test run
+
+test:
+	@sh .ci/test.sh
+
+run:
+	@echo 'There is no program for users yet: the crates laws and numbers are libraries.'
+	@echo 'make test proves every crate and runs the test programs.'

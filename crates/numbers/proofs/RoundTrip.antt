@@ -1,0 +1,124 @@
+-- Compact integers: what was written reads back, followed by anything; what the strict reader takes is exactly what the
+-- writer writes, so that no longer form passes. Both over the form.
+-- Assumes nothing.
+use mathlib.Core.Path.{_≡_, refl, sym, ap, _∙_}
+use mathlib.Core.Logic.{_≢_}
+use mathlib.Core.Bool.{Bool, true, false}
+use mathlib.Core.List.{List, [], _∷_, _++_}
+use Prim.Native.Nat.{ℕ, zero, suc, _+_, _-_, _*_, _/_, _%_, _^_, _≤_, _<_}
+use native.Mathlib.Nat.{one-le-pow, div-lt-iff-lt-mul, div-le-self, div-le-of-le-mul}
+use native.Mathlib.Numerals.{add-one}
+use native.Mathlib.Omega.{arith}
+use lib.ListN.{length, getD, take, drop, length-append, length-take}
+use lib.Seq.{take-at, length-take-le}
+use lib.Count.{trailingZeros, trailing-of-zero}
+use lib.Dec.{lit<, ltb}
+use lib.Pow.{pow-pos}
+use borrow.Author.Tests.{eq-eqb, ne-eqb, lt-ltb, le-ltb, ltb-false}
+use Rattle.laws.specs.Pick.{pick}
+use Rattle.laws.specs.Bytes.{AllBytes, le, bytes}
+use Rattle.laws.proofs.Cases.{by-lt, by-eq}
+use Rattle.laws.proofs.Numbers.{take-bytes, le-lt, length-bytes, le-bytes, bytes-le, first-byte, low-byte}
+use Rattle.numbers.specs.Refusals.{fault}
+use Rattle.numbers.specs.Compact.{sizeOf, valueOf, readForm, formAt, strict, readCompact, formOf, marked, compactBytes}
+use Rattle.numbers.specs.declared.compact.Form.{Form}
+use Rattle.numbers.specs.declared.compact.Form.the-variants.{Holds}
+use Rattle.numbers.specs.declared.compact.Form.the-variants as form
+use Rattle.numbers.specs.declared.compact.Compact.{Compact}
+use Rattle.numbers.specs.declared.compact.Compact.the-variants.{Value, Refused}
+use Rattle.numbers.proofs.LowestBit.{zeros-lt, zeros-mod, zeros-marked, zeros-low, marked-value}
+use Rattle.numbers.proofs.Forms.{size-short, size-long, size-pos, form-is, form-of-le, form-of-least, marked-lt, compact-is, length-compact, pow-bytes, value-long}
+
+-- ---- reading what was written
+
+read-form-written : (k v : ℕ) (t : List ℕ) → marked k v < 256 ^ sizeOf k
+    → readForm k (bytes (sizeOf k) (marked k v) ++ t) ≡ Holds v (sizeOf k) (ltb v (128 ^ k))
+unfolding readForm valueOf
+read-form-written k v t b =
+    let n = sizeOf k in
+    let s = bytes n (marked k v) ++ t in
+    let h : n ≤ length s = rw (length-append, length-bytes) (omega arith) in
+    let e : le (take n s) / 2 ^ (k + 1) ≡ v =
+    rw (take-at (bytes n (marked k v)) t n (length-bytes n (marked k v)), le-bytes n (marked k v) b) (marked-value k v) in
+    rw e (simp (le-ltb _ _ h))
+
+form-zero : (t : List ℕ) → formAt (compactBytes 0 ++ t) ≡ Holds 0 (length (compactBytes 0)) false
+unfolding formAt compactBytes
+form-zero t = simp (ne-eqb (suc (length t)) 0 (omega arith))
+
+pub form-written : (v : ℕ) → v < 2 ^ 64 → (t : List ℕ) → formAt (compactBytes v ++ t) ≡ Holds v (length (compactBytes v)) false
+unfolding formAt
+form-written v h t =
+    by-eq v 0
+    (λ e. rw e (form-zero t))
+    (λ n.
+    let k = formOf v in
+    let f : getD (bytes (sizeOf k) (marked k v) ++ t) 0 0 ≡ marked k v % 2 ^ 8 = first-byte (sizeOf k) (marked k v) t (size-pos k) in
+    let z : trailingZeros 8 (marked k v % 2 ^ 8) ≡ k = zeros-mod 8 (marked k v) ∙ zeros-marked 8 k v (omega (arith, form-of-le v)) in
+    let a : length (bytes (sizeOf k) (marked k v) ++ t) ≢ 0 = rw (length-append, length-bytes) (omega (arith, size-pos k)) in
+    let b : marked k v % 2 ^ 8 ≢ 0 = λ q. let w : formOf v ≡ 8 = sym (rw q at z) ∙ trailing-of-zero 8 in omega (arith, form-of-le v) in
+    let r : readForm k (bytes (sizeOf k) (marked k v) ++ t) ≡ Holds v (sizeOf k) false =
+    read-form-written k v t (marked-lt v h) ∙ rw (le-ltb v (128 ^ k) (form-of-least v n)) in
+    rw (length-compact v n, compact-is v n, f) (simp (ne-eqb _ _ a, ne-eqb _ _ b) (rw z r)))
+
+pub read-written : (v : ℕ) → v < 2 ^ 64 → (t : List ℕ) → readCompact (compactBytes v ++ t) ≡ Value v (length (compactBytes v))
+unfolding readCompact
+read-written v h t = rw (form-written v h t)
+
+-- ---- what is read is what is written for the value
+
+pub strict-value : (f : Form) (v n : ℕ) → strict f ≡ Value v n → f ≡ Holds v n false
+strict-value (Holds w m true) v n e = absurd (let z : _≡_ {A = ℕ} 0 1 = cc in omega arith)
+strict-value (Holds w m false) v n e = cc
+strict-value (form.Refused r) v n e = absurd (let z : _≡_ {A = ℕ} 0 1 = cc in omega arith)
+
+-- the number of a short form is below the next form's least value
+value-lt : (k : ℕ) (s : List ℕ) → AllBytes s → (k ≡ 7 → ⊥) → valueOf k s < 128 ^ suc k
+unfolding valueOf
+value-lt k s b n =
+    let p : le (take (k + 1) s) < 256 ^ (k + 1) = le-lt (k + 1) (take (k + 1) s) (simp length-take (omega arith)) (take-bytes (k + 1) s b) in
+    let q : 256 ^ (k + 1) ≡ 128 ^ suc k * 2 ^ (k + 1) = rw (pow-bytes (k + 1), add-one) in
+    rw (size-short k n) (div-lt-iff-lt-mul (pow-pos (k + 1)) .1 (omega arith))
+
+value-written : (s : List ℕ) (k : ℕ) → AllBytes s → k ≡ trailingZeros 8 (getD s 0 0) → k < 8 → sizeOf k ≤ length s → 128 ^ k ≤ valueOf k s
+    → take (sizeOf k) s ≡ compactBytes (valueOf k s)
+unfolding valueOf formOf
+value-written s k b ek hk l m =
+    let n = sizeOf k in
+    let x = le (take n s) in
+    let z : trailingZeros 8 x ≡ k = sym (zeros-mod 8 x) ∙ ap (trailingZeros 8) (low-byte n s b (size-pos k)) ∙ sym ek in
+    let low : x ≡ marked k (valueOf k s) = rw z at (zeros-low 8 x (rw z hk)) in
+    let f : formOf (valueOf k s) ≡ k = form-is 7 k (valueOf k s) (omega arith) (λ p. m) (λ p. value-lt k s b (λ e. omega arith)) in
+    let y : bytes n x ≡ take n s = rw (length-take-le n s l) at (bytes-le (take n s) (take-bytes n s b)) in
+    rw (compact-is (valueOf k s) (λ e. omega (arith, one-le-pow k 128 (lit< tt))), f, ← low) (sym y)
+
+form-read : (s : List ℕ) (k v n : ℕ) → AllBytes s → k ≡ trailingZeros 8 (getD s 0 0) → k < 8 → readForm k s ≡ Holds v n false
+    → take n s ≡ compactBytes v
+unfolding readForm
+form-read s k v n b ek hk r =
+    by-lt (length s) (sizeOf k)
+    (λ l. let x : form.Refused (fault 2) ≡ Holds v n false = rw (lt-ltb _ _ l) at r in absurd (let z : _≡_ {A = ℕ} 0 1 = cc in omega arith))
+    (λ l.
+    let x : Holds (valueOf k s) (sizeOf k) (ltb (valueOf k s) (128 ^ k)) ≡ Holds v n false = rw (le-ltb _ _ l) at r in
+    let ev : valueOf k s ≡ v = cc in
+    let en : sizeOf k ≡ n = cc in
+    let el : ltb (valueOf k s) (128 ^ k) ≡ false = cc in
+    rw (← ev, ← en) (value-written s k b ek hk l (ltb-false _ _ el)))
+
+form-at-read : (s : List ℕ) (v n : ℕ) → AllBytes s → formAt s ≡ Holds v n false → take n s ≡ compactBytes v
+unfolding formAt compactBytes
+form-at-read [] v n b r = absurd (let z : _≡_ {A = ℕ} 0 1 = cc in omega arith)
+form-at-read (c ∷ s) v n b r =
+    by-eq c 0
+    (λ e.
+    let x : Holds 0 1 false ≡ Holds v n false = simp (ne-eqb (suc (length s)) 0 (omega arith), eq-eqb c 0 e) at r in
+    let ev : 0 ≡ v = cc in
+    let en : 1 ≡ n = cc in
+    rw (← ev, ← en, e))
+    (λ z.
+    let x : readForm (trailingZeros 8 c) (c ∷ s) ≡ Holds v n false = simp (ne-eqb (suc (length s)) 0 (omega arith), ne-eqb c 0 z) at r in
+    form-read (c ∷ s) (trailingZeros 8 c) v n b refl (zeros-lt 8 c (b 0) z) x)
+
+pub written-read : (s : List ℕ) (v n : ℕ) → AllBytes s → readCompact s ≡ Value v n → take n s ≡ compactBytes v
+unfolding readCompact
+written-read s v n b r = form-at-read s v n b (strict-value (formAt s) v n r)
