@@ -26,6 +26,10 @@ refuses r = record { number = r .number; input = r .input; place = r .place; nee
 abbrev pub fault : ℕ → Refusal
 fault k = record { number = k; input = 0; place = 0; needed = 0 }
 
+-- a fault at a place of the first input
+abbrev pub faultAt : ℕ → ℕ → Refusal
+faultAt k p = record { number = k; input = 0; place = p; needed = 0 }
+
 -- 1: "an input is over 16,777,216 bytes"; "the limit as its place"
 abbrev pub longestInput : ℕ
 longestInput = 16777216

@@ -1,6 +1,6 @@
 // How every call of the project refuses, and what a call that writes one item answers.
 ghost use mathlib.Core.Path.{_≡_};
-ghost use Rattle.numbers.specs.Refusals.{fault, overLong, tooShort};
+ghost use Rattle.numbers.specs.Refusals.{fault, faultAt, overLong, tooShort};
 
 // Document 01, 'Why it says no': the number, the input (0: the store, or the first), the place, and the needed length
 // for 14 (else 0).
@@ -22,6 +22,18 @@ pub fn at_front(number: u8) -> Refusal
         number,
         input: 0,
         place: 0,
+        needed: 0,
+    }
+}
+
+// The same at a place.
+pub fn at_place(number: u8, place: usize) -> Refusal
+    ensures { λ r. ⌜ r ≡ faultAt number place ⌝ }
+{
+    Refusal {
+        number,
+        input: 0,
+        place,
         needed: 0,
     }
 }
