@@ -1,0 +1,3 @@
+pub mod Header
+pub mod Nesting
+pub mod Calls
