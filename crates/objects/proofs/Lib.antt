@@ -1,2 +1,4 @@
 pub mod HeaderLaws
 pub mod Ahead
+pub mod ItemsAt
+pub mod NullId

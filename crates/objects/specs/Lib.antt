@@ -1,3 +1,4 @@
 pub mod Header
 pub mod Nesting
+pub mod Steps
 pub mod Calls

@@ -1,8 +1,8 @@
 -- `bytes::put_le` meets its contract. The invariant: the first i bytes of x stand in front of out's own, and `rest` is what is left of x.
 -- Assumes nothing.
-use mathlib.Core.Path.{_≡_, refl, sym, ap, _∙_}
-use mathlib.Core.List.{List, _++_}
-use Prim.Native.Nat.{ℕ, _≤_, _<_, _^_, _*_, _+_, _-_, _/_, _%_}
+use mathlib.Core.Path.{_≡_, refl}
+use mathlib.Core.List.{_++_}
+use Prim.Native.Nat.{_≤_, _^_, _+_, _-_, _/_}
 use native.Mathlib.Nat.{div-one, div-div-eq-div-mul, pow-suc}
 use native.Mathlib.Numerals.{add-one}
 use native.Mathlib.Omega.{arith}
@@ -11,8 +11,6 @@ use Rattle.laws.specs.Bytes.{bytes}
 use Rattle.laws.proofs.Numbers.{put-step}
 use Rattle.numbers.proofs.bytes.put_le.Statement.{statement}
 use Rattle.numbers.proofs.bytes.put_le.Tie as tie
-use Rattle.numbers.proofs.bytes.put_le.Reads as reads
-use Rattle.numbers.proofs.bytes.put_le.Lts as lts
 
 abbrev Inv-loop : tie.InvT-loop
 Inv-loop out₀ n x rest₀ i₀ out rest i = (i ≤ n) × (length out ≡ length out₀) × (out ≡ bytes i x ++ drop i out₀) × (rest ≡ x / 256 ^ i)

@@ -1,17 +1,14 @@
 -- `bytes::read_le` meets its contract. The invariant: x is the number of the bytes from i up to n.
 -- Assumes nothing.
-use mathlib.Core.Path.{_≡_, refl, sym, ap, _∙_}
-use mathlib.Core.List.{List}
-use Prim.Native.Nat.{ℕ, _≤_, _<_, _^_, _*_, _+_, _-_}
+use mathlib.Core.Path.{_≡_}
+use Prim.Native.Nat.{_≤_, _<_, _^_, _*_, _+_, _-_}
 use native.Mathlib.Omega.{arith}
-use lib.ListN.{length, getD, take, drop, length-take, length-drop, drop-of-length-le}
-use lib.Seq.{drop-length, length-take-le, getD-take}
+use lib.ListN.{getD, take, drop, length-take, length-drop, drop-of-length-le}
+use lib.Seq.{getD-take}
 use Rattle.laws.specs.Bytes.{le}
 use Rattle.laws.proofs.Numbers.{le-lt, le-step, take-bytes, drop-bytes}
 use Rattle.numbers.proofs.bytes.read_le.Statement.{statement}
 use Rattle.numbers.proofs.bytes.read_le.Tie as tie
-use Rattle.numbers.proofs.bytes.read_le.Reads as reads
-use Rattle.numbers.proofs.bytes.read_le.Lts as lts
 
 abbrev Inv-loop : tie.InvT-loop
 Inv-loop s n x₀ i₀ x i = (i ≤ n) × (x ≡ le (drop i (take n s)))

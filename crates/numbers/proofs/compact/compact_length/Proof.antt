@@ -1,6 +1,6 @@
 -- `compact::compact_length` meets its contract.
 -- Assumes nothing.
-use mathlib.Core.Path.{_≡_, refl, sym, ap, _∙_}
+use mathlib.Core.Path.{_≡_, refl}
 use native.Mathlib.Omega.{arith}
 use lib.ListN.{length}
 use Rattle.numbers.specs.Compact.{compactBytes, formOf}
@@ -8,10 +8,6 @@ use Rattle.numbers.proofs.Forms.{form-of-le, length-compact, size-le}
 use borrow.Author.Needs.{needs}
 use Rattle.numbers.proofs.compact.compact_length.Statement.{statement}
 use Rattle.numbers.proofs.compact.compact_length.Tie as tie
-use Rattle.numbers.proofs.compact.compact_length.Reads as reads
-use Rattle.numbers.proofs.compact.compact_length.Lts as lts
-use Rattle.numbers.proofs.compact.form_of.Reads as form-of-reads
-use Rattle.numbers.proofs.compact.size_of.Reads as size-of-reads
 
 returns : tie.Need-returns
 unfolding compactBytes

@@ -1,20 +1,15 @@
 -- `compact::form_at` meets its contract: the tests that led to a `return` say which case of `formAt` holds.
 -- Assumes nothing.
-use mathlib.Core.Path.{_≡_, refl, sym, ap, _∙_}
 use native.Mathlib.Omega.{arith}
-use borrow.Author.Tests.{lt-ltb, le-ltb, eq-eqb, ne-eqb}
-use Prim.Native.Nat.{ℕ, _+_, _-_, _*_, _/_, _%_, _^_, _≤_, _<_}
-use lib.ListN.{length, getD}
+use borrow.Author.Tests.{eq-eqb, ne-eqb}
+use Prim.Native.Nat.{_-_, _<_}
+use lib.ListN.{getD}
 use lib.Count.{trailingZeros}
 use Rattle.numbers.specs.Compact.{formAt}
 use Rattle.numbers.proofs.LowestBit.{zeros-lt}
 use borrow.Author.Needs.{needs}
 use Rattle.numbers.proofs.compact.form_at.Statement.{statement}
 use Rattle.numbers.proofs.compact.form_at.Tie as tie
-use Rattle.numbers.proofs.compact.form_at.Reads as reads
-use Rattle.numbers.proofs.compact.form_at.Lts as lts
-use Rattle.numbers.proofs.compact.read_form.Reads as read-form-reads
-use Rattle.numbers.proofs.refusal.at_front.Reads as at-front-reads
 
 at-front-requires : tie.Need-at-front-requires
 at-front-requires c κs = search needs

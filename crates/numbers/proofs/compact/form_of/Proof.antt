@@ -6,8 +6,6 @@ use Rattle.numbers.specs.Compact.{formOf}
 use Rattle.numbers.proofs.Forms.{form-is}
 use Rattle.numbers.proofs.compact.form_of.Statement.{statement}
 use Rattle.numbers.proofs.compact.form_of.Tie as tie
-use Rattle.numbers.proofs.compact.form_of.Reads as reads
-use Rattle.numbers.proofs.compact.form_of.Lts as lts
 
 returns : tie.Need-returns
 unfolding formOf

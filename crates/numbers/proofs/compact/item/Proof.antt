@@ -1,14 +1,9 @@
 -- `compact::item` meets its contract: what the form says, strictly.
 -- Assumes nothing.
-use mathlib.Core.Path.{_≡_, refl, sym, ap, _∙_}
 use Rattle.numbers.specs.Compact.{readCompact}
 use borrow.Author.Needs.{needs}
 use Rattle.numbers.proofs.compact.item.Statement.{statement}
 use Rattle.numbers.proofs.compact.item.Tie as tie
-use Rattle.numbers.proofs.compact.item.Reads as reads
-use Rattle.numbers.proofs.compact.item.Lts as lts
-use Rattle.numbers.proofs.compact.form_at.Reads as form-at-reads
-use Rattle.numbers.proofs.refusal.at_front.Reads as at-front-reads
 
 form-at-requires : tie.Need-form-at-requires
 form-at-requires c κs = search needs

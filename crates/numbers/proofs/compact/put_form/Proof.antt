@@ -1,19 +1,16 @@
 -- `compact::put_form` meets its contract: the long form is a byte 128 and then the value, any other one number.
 -- Assumes nothing.
-use mathlib.Core.Path.{_≡_, ap, _∙_}
-use Prim.Native.Nat.{ℕ, _+_, _*_, _%_, _^_, _<_, _-_}
+use mathlib.Core.Path.{_≡_, _∙_}
+use Prim.Native.Nat.{_+_, _*_, _%_, _^_, _<_, _-_}
 use borrow.Author.Needs.{needs}
 use native.Mathlib.Omega.{arith}
-use lib.ListN.{length, set, length-set, length-drop}
+use lib.ListN.{length, set, length-set}
 use borrow.Rule.Slice.PartMut.{same-len-mid}
 use Rattle.numbers.specs.Compact.{marked, sizeOf}
 use Rattle.laws.proofs.Parts.{tail-part, tail-length, mid-tail}
 use Rattle.numbers.proofs.Forms.{size-long, size-short, long-put, marked-shl, marked-short}
 use Rattle.numbers.proofs.compact.put_form.Statement.{statement}
 use Rattle.numbers.proofs.compact.put_form.Tie as tie
-use Rattle.numbers.proofs.compact.put_form.Reads as reads
-use Rattle.numbers.proofs.compact.put_form.Lts as lts
-use Rattle.numbers.proofs.bytes.put_le.Reads as put-le-reads
 
 slice-write-out : tie.Need-slice-write-out
 slice-write-out c = omega (arith, size-long _ (c .if1 .taken))

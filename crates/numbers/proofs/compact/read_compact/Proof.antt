@@ -5,10 +5,6 @@ use Rattle.numbers.proofs.Calls.{single-over, single-item}
 use borrow.Author.Needs.{needs}
 use Rattle.numbers.proofs.compact.read_compact.Statement.{statement}
 use Rattle.numbers.proofs.compact.read_compact.Tie as tie
-use Rattle.numbers.proofs.compact.read_compact.Reads as reads
-use Rattle.numbers.proofs.compact.read_compact.Lts as lts
-use Rattle.numbers.proofs.compact.item.Reads as item-reads
-use Rattle.numbers.proofs.refusal.over_long.Reads as over-long-reads
 
 over-long-requires : tie.Need-over-long-requires
 over-long-requires c κs = search needs

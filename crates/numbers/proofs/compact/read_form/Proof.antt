@@ -1,20 +1,14 @@
 -- `compact::read_form` meets its contract: the tests that led to a `return` say which case of `readForm` holds.
 -- Assumes nothing.
-use mathlib.Core.Path.{_≡_, refl, sym, ap, _∙_}
 use native.Mathlib.Omega.{arith}
-use borrow.Author.Tests.{lt-ltb, le-ltb, eq-eqb, ne-eqb}
-use Prim.Native.Nat.{ℕ, _+_, _-_, _*_, _/_, _%_, _^_, _≤_, _<_}
+use borrow.Author.Tests.{lt-ltb, le-ltb}
+use Prim.Native.Nat.{_-_, _≤_, _<_}
 use lib.ListN.{length}
-use Rattle.numbers.specs.Compact.{readForm, valueOf, sizeOf}
+use Rattle.numbers.specs.Compact.{readForm, sizeOf}
 use Rattle.numbers.proofs.Forms.{least-shl}
 use borrow.Author.Needs.{needs}
 use Rattle.numbers.proofs.compact.read_form.Statement.{statement}
 use Rattle.numbers.proofs.compact.read_form.Tie as tie
-use Rattle.numbers.proofs.compact.read_form.Reads as reads
-use Rattle.numbers.proofs.compact.read_form.Lts as lts
-use Rattle.numbers.proofs.compact.size_of.Reads as size-of-reads
-use Rattle.numbers.proofs.compact.value_of.Reads as value-of-reads
-use Rattle.numbers.proofs.refusal.at_front.Reads as at-front-reads
 
 size-of-requires : tie.Need-size-of-requires
 size-of-requires c κs = search needs

@@ -1,10 +1,10 @@
+-- `compact::size_of` meets its contract.
+-- Assumes nothing.
 use borrow.Author.Needs.{needs}
 use borrow.Author.Tests.{eq-eqb, ne-eqb}
 use Rattle.numbers.specs.Compact.{sizeOf}
 use Rattle.numbers.proofs.compact.size_of.Statement.{statement}
 use Rattle.numbers.proofs.compact.size_of.Tie as tie
-use Rattle.numbers.proofs.compact.size_of.Reads as reads
-use Rattle.numbers.proofs.compact.size_of.Lts as lts
 
 add-result : tie.Need-add-result
 add-result c = search needs

@@ -1,11 +1,10 @@
 -- `compact::value_of` meets its contract: the long form's first byte holds no bit of the value.
 -- Assumes nothing.
-use mathlib.Core.Path.{_≡_, ap}
-use Prim.Native.Nat.{ℕ}
+use mathlib.Core.Path.{_≡_}
 use borrow.Author.Needs.{needs}
 use native.Mathlib.Omega.{arith}
 use lib.ListN.{length-drop}
-use Rattle.numbers.specs.Compact.{valueOf, sizeOf}
+use Rattle.numbers.specs.Compact.{valueOf}
 use Rattle.laws.proofs.Parts.{tail-part}
 use Rattle.numbers.proofs.Forms.{size-long, size-short, value-long}
 use Rattle.numbers.proofs.compact.value_of.Statement.{statement}

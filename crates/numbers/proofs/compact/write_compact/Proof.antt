@@ -1,8 +1,8 @@
 -- `compact::write_compact` meets its contract: 0 is one byte; any other value is the number of its form.
 -- Assumes nothing.
-use mathlib.Core.Path.{_≡_, refl, sym, ap, _∙_}
+use mathlib.Core.Path.{_≡_}
 use native.Mathlib.Omega.{arith}
-use Prim.Native.Nat.{ℕ, _+_, _-_, _*_, _/_, _%_, _^_, _≤_, _<_}
+use Prim.Native.Nat.{_-_}
 use lib.ListN.{length}
 use Rattle.numbers.specs.Compact.{compactBytes}
 use Rattle.numbers.proofs.Forms.{form-of-le, marked-lt, compact-is, length-compact}
@@ -10,13 +10,6 @@ use Rattle.numbers.proofs.Calls.{wrote-short, wrote-done}
 use borrow.Author.Needs.{needs}
 use Rattle.numbers.proofs.compact.write_compact.Statement.{statement}
 use Rattle.numbers.proofs.compact.write_compact.Tie as tie
-use Rattle.numbers.proofs.compact.write_compact.Reads as reads
-use Rattle.numbers.proofs.compact.write_compact.Lts as lts
-use Rattle.numbers.proofs.compact.form_of.Reads as form-of-reads
-use Rattle.numbers.proofs.compact.put_form.Reads as put-form-reads
-use Rattle.numbers.proofs.compact.size_of.Reads as size-of-reads
-use Rattle.numbers.proofs.compact.write_zero.Reads as write-zero-reads
-use Rattle.numbers.proofs.refusal.too_short.Reads as too-short-reads
 
 write-zero-requires : tie.Need-write-zero-requires
 write-zero-requires c κs = search needs

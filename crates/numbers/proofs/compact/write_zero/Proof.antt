@@ -1,6 +1,6 @@
 -- `compact::write_zero` meets its contract.
 -- Assumes nothing.
-use mathlib.Core.Path.{_≡_, refl, sym, ap, _∙_}
+use mathlib.Core.Path.{refl}
 use mathlib.Core.List.{[], _∷_}
 use lib.ListN.{set}
 use lib.Seq.{set-split}
@@ -8,9 +8,6 @@ use Rattle.numbers.proofs.Calls.{wrote-short, wrote-done}
 use borrow.Author.Needs.{needs}
 use Rattle.numbers.proofs.compact.write_zero.Statement.{statement}
 use Rattle.numbers.proofs.compact.write_zero.Tie as tie
-use Rattle.numbers.proofs.compact.write_zero.Reads as reads
-use Rattle.numbers.proofs.compact.write_zero.Lts as lts
-use Rattle.numbers.proofs.refusal.too_short.Reads as too-short-reads
 
 too-short-requires : tie.Need-too-short-requires
 too-short-requires c κs = search needs

@@ -1,6 +1,6 @@
 -- `extended_guid::extended_guid_length` meets its contract: by the range that has the number.
 -- Assumes nothing.
-use mathlib.Core.Path.{_≡_, refl, sym, ap, _∙_}
+use mathlib.Core.Path.{refl}
 use native.Mathlib.Omega.{arith}
 use Rattle.numbers.specs.ExtendedGuid.{extendedGuidBytes}
 use Rattle.numbers.proofs.ExtendedGuids.{named-5, named-10, named-17, named-32, length-short}
@@ -8,8 +8,6 @@ use Rattle.numbers.proofs.Guids.{length-tagged}
 use borrow.Author.Needs.{needs}
 use Rattle.numbers.proofs.extended_guid.extended_guid_length.Statement.{statement}
 use Rattle.numbers.proofs.extended_guid.extended_guid_length.Tie as tie
-use Rattle.numbers.proofs.extended_guid.extended_guid_length.Reads as reads
-use Rattle.numbers.proofs.extended_guid.extended_guid_length.Lts as lts
 
 enum-told : tie.Need-enum-told
 enum-told c = search needs

@@ -1,16 +1,10 @@
 -- `extended_guid::item` meets its contract: the first byte says the form.
 -- Assumes nothing.
-use mathlib.Core.Path.{_≡_, refl, sym, ap, _∙_}
-use borrow.Author.Tests.{lt-ltb, le-ltb, eq-eqb, ne-eqb}
+use borrow.Author.Tests.{eq-eqb, ne-eqb}
 use Rattle.numbers.specs.ExtendedGuid.{readExtendedGuid, formOfId}
 use borrow.Author.Needs.{needs}
 use Rattle.numbers.proofs.extended_guid.item.Statement.{statement}
 use Rattle.numbers.proofs.extended_guid.item.Tie as tie
-use Rattle.numbers.proofs.extended_guid.item.Reads as reads
-use Rattle.numbers.proofs.extended_guid.item.Lts as lts
-use Rattle.numbers.proofs.extended_guid.read_long.Reads as read-long-reads
-use Rattle.numbers.proofs.extended_guid.read_short.Reads as read-short-reads
-use Rattle.numbers.proofs.refusal.at_front.Reads as at-front-reads
 
 at-front-requires : tie.Need-at-front-requires
 at-front-requires c κs = search needs

@@ -5,10 +5,6 @@ use Rattle.numbers.proofs.Calls.{single-over, single-item}
 use borrow.Author.Needs.{needs}
 use Rattle.numbers.proofs.extended_guid.read_extended_guid.Statement.{statement}
 use Rattle.numbers.proofs.extended_guid.read_extended_guid.Tie as tie
-use Rattle.numbers.proofs.extended_guid.read_extended_guid.Reads as reads
-use Rattle.numbers.proofs.extended_guid.read_extended_guid.Lts as lts
-use Rattle.numbers.proofs.extended_guid.item.Reads as item-reads
-use Rattle.numbers.proofs.refusal.over_long.Reads as over-long-reads
 
 over-long-requires : tie.Need-over-long-requires
 over-long-requires c κs = search needs

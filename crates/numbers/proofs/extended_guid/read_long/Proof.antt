@@ -1,22 +1,17 @@
 -- `extended_guid::read_long` meets its contract: the tests that led to a `return` say which case of `namedOf` holds.
 -- Assumes nothing.
-use mathlib.Core.Path.{_≡_, refl, sym, ap, _∙_}
+use mathlib.Core.Path.{_≡_}
 use native.Mathlib.Omega.{arith}
-use borrow.Author.Tests.{lt-ltb, le-ltb, eq-eqb, ne-eqb}
-use Prim.Native.Nat.{ℕ, _+_, _-_, _*_, _/_, _%_, _^_, _≤_, _<_}
-use Rattle.laws.proofs.Parts.{tail-part, mid-tail, tail-length}
-use lib.ListN.{length, take, drop, length-take}
+use borrow.Author.Tests.{lt-ltb, le-ltb}
+use Prim.Native.Nat.{_-_, _^_, _<_}
+use Rattle.laws.proofs.Parts.{tail-part}
+use lib.ListN.{take, drop, length-take}
 use Rattle.laws.specs.Bytes.{le}
 use Rattle.laws.proofs.Numbers.{le-lt, take-bytes, drop-bytes}
 use Rattle.numbers.specs.ExtendedGuid.{longForm, namedOf}
 use borrow.Author.Needs.{needs}
 use Rattle.numbers.proofs.extended_guid.read_long.Statement.{statement}
 use Rattle.numbers.proofs.extended_guid.read_long.Tie as tie
-use Rattle.numbers.proofs.extended_guid.read_long.Reads as reads
-use Rattle.numbers.proofs.extended_guid.read_long.Lts as lts
-use Rattle.numbers.proofs.bytes.read_le.Reads as read-le-reads
-use Rattle.numbers.proofs.guid.guid_at.Reads as guid-at-reads
-use Rattle.numbers.proofs.refusal.at_front.Reads as at-front-reads
 
 at-front-requires : tie.Need-at-front-requires
 at-front-requires c κs = search needs

@@ -1,22 +1,14 @@
 -- `extended_guid::read_short` meets its contract: the tests that led to a `return` say which case of `namedOf` holds.
 -- Assumes nothing.
-use mathlib.Core.Path.{_≡_, refl, sym, ap, _∙_}
 use native.Mathlib.Omega.{arith}
-use borrow.Author.Tests.{lt-ltb, le-ltb, eq-eqb, ne-eqb}
-use Prim.Native.Nat.{ℕ, _+_, _-_, _*_, _/_, _%_, _^_, _≤_, _<_}
-use Rattle.laws.proofs.Parts.{tail-part, mid-tail, tail-length}
-use lib.ListN.{length, take, drop}
-use Rattle.laws.specs.Bytes.{le}
+use borrow.Author.Tests.{lt-ltb, le-ltb}
+use Prim.Native.Nat.{_-_}
+use Rattle.laws.proofs.Parts.{tail-part}
 use Rattle.numbers.specs.ExtendedGuid.{shortForm, namedOf}
 use Rattle.numbers.proofs.ExtendedGuids.{short-fits}
 use borrow.Author.Needs.{needs}
 use Rattle.numbers.proofs.extended_guid.read_short.Statement.{statement}
 use Rattle.numbers.proofs.extended_guid.read_short.Tie as tie
-use Rattle.numbers.proofs.extended_guid.read_short.Reads as reads
-use Rattle.numbers.proofs.extended_guid.read_short.Lts as lts
-use Rattle.numbers.proofs.bytes.read_le.Reads as read-le-reads
-use Rattle.numbers.proofs.guid.guid_at.Reads as guid-at-reads
-use Rattle.numbers.proofs.refusal.at_front.Reads as at-front-reads
 
 add-n : tie.Need-add-n
 add-n c = search needs

@@ -4,10 +4,6 @@ use Rattle.numbers.specs.ExtendedGuid.{extendedGuidBytes}
 use borrow.Author.Needs.{needs}
 use Rattle.numbers.proofs.extended_guid.write_extended_guid.Statement.{statement}
 use Rattle.numbers.proofs.extended_guid.write_extended_guid.Tie as tie
-use Rattle.numbers.proofs.extended_guid.write_extended_guid.Reads as reads
-use Rattle.numbers.proofs.extended_guid.write_extended_guid.Lts as lts
-use Rattle.numbers.proofs.compact.write_zero.Reads as write-zero-reads
-use Rattle.numbers.proofs.extended_guid.write_named.Reads as write-named-reads
 
 enum-told : tie.Need-enum-told
 enum-told c = search needs

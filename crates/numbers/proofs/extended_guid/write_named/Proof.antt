@@ -5,10 +5,6 @@ use Rattle.numbers.proofs.ExtendedGuids.{named-5, named-10, named-17, n
 use borrow.Author.Needs.{needs}
 use Rattle.numbers.proofs.extended_guid.write_named.Statement.{statement}
 use Rattle.numbers.proofs.extended_guid.write_named.Tie as tie
-use Rattle.numbers.proofs.extended_guid.write_named.Reads as reads
-use Rattle.numbers.proofs.extended_guid.write_named.Lts as lts
-use Rattle.numbers.proofs.extended_guid.write_short.Reads as write-short-reads
-use Rattle.numbers.proofs.guid.write_tagged.Reads as write-tagged-reads
 
 write-short-requires : tie.Need-write-short-requires
 write-short-requires c κs = (omega arith, omega arith, room-5 _ (c .before .if1 .taken))

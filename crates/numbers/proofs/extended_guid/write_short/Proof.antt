@@ -1,11 +1,10 @@
 -- `extended_guid::write_short` meets its contract: the number, and the GUID behind it.
 -- Assumes nothing.
-use mathlib.Core.Path.{_≡_, refl, sym, ap, _∙_}
+use mathlib.Core.Path.{_≡_, _∙_}
 use native.Mathlib.Omega.{arith}
-use Prim.Native.Nat.{ℕ, _+_, _-_, _*_, _/_, _%_, _^_, _≤_, _<_}
-use Rattle.laws.proofs.Parts.{tail-part, mid-tail, tail-length}
-use mathlib.Core.List.{_++_}
-use lib.ListN.{length, take, drop}
+use Prim.Native.Nat.{_+_, _-_, _*_, _%_, _^_, _≤_, _<_}
+use Rattle.laws.proofs.Parts.{tail-part, mid-tail}
+use lib.ListN.{drop}
 use lib.Seq.{drop-drop}
 use lib.Dec.{lit<}
 use native.Mathlib.Nat.{pow-le-pow-right}
@@ -21,11 +20,6 @@ use Rattle.numbers.proofs.Calls.{wrote-short, wrote-done}
 use borrow.Author.Needs.{needs}
 use Rattle.numbers.proofs.extended_guid.write_short.Statement.{statement}
 use Rattle.numbers.proofs.extended_guid.write_short.Tie as tie
-use Rattle.numbers.proofs.extended_guid.write_short.Reads as reads
-use Rattle.numbers.proofs.extended_guid.write_short.Lts as lts
-use Rattle.numbers.proofs.bytes.put_le.Reads as put-le-reads
-use Rattle.numbers.proofs.guid.put_guid.Reads as put-guid-reads
-use Rattle.numbers.proofs.refusal.too_short.Reads as too-short-reads
 
 add-n : tie.Need-add-n
 add-n c = search needs

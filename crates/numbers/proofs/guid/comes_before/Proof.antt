@@ -1,14 +1,10 @@
 -- `guid::comes_before` meets its contract: by the first halves, and then by the second.
 -- Assumes nothing.
-use mathlib.Core.Path.{_≡_, refl, sym, ap, _∙_}
-use borrow.Author.Tests.{lt-ltb, le-ltb, eq-eqb, ne-eqb}
+use borrow.Author.Tests.{lt-ltb, le-ltb}
 use Rattle.numbers.proofs.Guids.{guid-order}
 use borrow.Author.Needs.{needs}
 use Rattle.numbers.proofs.guid.comes_before.Statement.{statement}
 use Rattle.numbers.proofs.guid.comes_before.Tie as tie
-use Rattle.numbers.proofs.guid.comes_before.Reads as reads
-use Rattle.numbers.proofs.guid.comes_before.Lts as lts
-use Rattle.numbers.proofs.guid.swap.Reads as swap-reads
 
 swap-requires : tie.Need-swap-requires
 swap-requires c κs = search needs

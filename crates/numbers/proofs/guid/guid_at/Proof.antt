@@ -5,9 +5,6 @@ use Rattle.numbers.specs.Guid.{guidAt}
 use borrow.Author.Needs.{needs}
 use Rattle.numbers.proofs.guid.guid_at.Statement.{statement}
 use Rattle.numbers.proofs.guid.guid_at.Tie as tie
-use Rattle.numbers.proofs.guid.guid_at.Reads as reads
-use Rattle.numbers.proofs.guid.guid_at.Lts as lts
-use Rattle.numbers.proofs.bytes.read_le.Reads as read-le-reads
 
 read-le-requires : tie.Need-read-le-requires
 read-le-requires c κs = search needs

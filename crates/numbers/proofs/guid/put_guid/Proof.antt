@@ -1,6 +1,6 @@
 -- `guid::put_guid` meets its contract: the low number, and the high one behind it.
 -- Assumes nothing.
-use mathlib.Core.Path.{_≡_, refl, sym, ap, _∙_}
+use mathlib.Core.Path.{_∙_}
 use Rattle.laws.proofs.Parts.{tail-part, mid-tail}
 use Rattle.laws.proofs.Placing.{laid-behind}
 use Rattle.laws.proofs.Numbers.{length-bytes}
@@ -11,9 +11,6 @@ use Rattle.numbers.specs.Guid.{guidBytes}
 use borrow.Author.Needs.{needs}
 use Rattle.numbers.proofs.guid.put_guid.Statement.{statement}
 use Rattle.numbers.proofs.guid.put_guid.Tie as tie
-use Rattle.numbers.proofs.guid.put_guid.Reads as reads
-use Rattle.numbers.proofs.guid.put_guid.Lts as lts
-use Rattle.numbers.proofs.bytes.put_le.Reads as put-le-reads
 
 put-le-requires : tie.Need-put-le-requires
 put-le-requires c κs = search needs

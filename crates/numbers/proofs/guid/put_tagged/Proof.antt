@@ -1,8 +1,8 @@
 -- `guid::put_tagged` meets its contract: the byte 128, the GUID behind it, the number behind that.
 -- Assumes nothing.
-use mathlib.Core.Path.{_≡_, refl, sym, ap, _∙_}
+use mathlib.Core.Path.{_≡_, _∙_}
 use native.Mathlib.Omega.{arith}
-use Prim.Native.Nat.{ℕ, _+_, _-_, _*_, _/_, _%_, _^_, _≤_, _<_}
+use Prim.Native.Nat.{ℕ, _+_, _-_}
 use Rattle.laws.proofs.Parts.{tail-part, mid-tail, tail-length}
 use mathlib.Core.List.{List, _++_}
 use lib.ListN.{length, take, drop, set, length-set}
@@ -12,10 +12,6 @@ use Rattle.numbers.proofs.Guids.{tagged-put}
 use borrow.Author.Needs.{needs}
 use Rattle.numbers.proofs.guid.put_tagged.Statement.{statement}
 use Rattle.numbers.proofs.guid.put_tagged.Tie as tie
-use Rattle.numbers.proofs.guid.put_tagged.Reads as reads
-use Rattle.numbers.proofs.guid.put_tagged.Lts as lts
-use Rattle.numbers.proofs.bytes.put_le.Reads as put-le-reads
-use Rattle.numbers.proofs.guid.put_guid.Reads as put-guid-reads
 
 slice-write-out : tie.Need-slice-write-out
 slice-write-out c = search needs

@@ -5,8 +5,6 @@ use Rattle.numbers.proofs.Guids.{swapped-is}
 use borrow.Author.Needs.{needs}
 use Rattle.numbers.proofs.guid.swap.Statement.{statement}
 use Rattle.numbers.proofs.guid.swap.Tie as tie
-use Rattle.numbers.proofs.guid.swap.Reads as reads
-use Rattle.numbers.proofs.guid.swap.Lts as lts
 
 mul-result : tie.Need-mul-result
 mul-result c = search needs

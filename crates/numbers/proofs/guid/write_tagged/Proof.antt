@@ -1,9 +1,8 @@
 -- `guid::write_tagged` meets its contract.
 -- Assumes nothing.
-use mathlib.Core.Path.{_≡_, refl, sym, ap, _∙_}
-use Prim.Native.Nat.{ℕ, _+_, _-_, _*_, _/_, _%_, _^_, _≤_, _<_}
+use mathlib.Core.Path.{_∙_}
+use Prim.Native.Nat.{_+_, _-_}
 use native.Mathlib.Nat.{add-comm}
-use lib.ListN.{length, drop}
 use lib.Seq.{drop-drop}
 use Rattle.numbers.specs.Guid.{taggedBytes}
 use Rattle.numbers.proofs.Guids.{length-tagged}
@@ -11,10 +10,6 @@ use Rattle.numbers.proofs.Calls.{wrote-short, wrote-done}
 use borrow.Author.Needs.{needs}
 use Rattle.numbers.proofs.guid.write_tagged.Statement.{statement}
 use Rattle.numbers.proofs.guid.write_tagged.Tie as tie
-use Rattle.numbers.proofs.guid.write_tagged.Reads as reads
-use Rattle.numbers.proofs.guid.write_tagged.Lts as lts
-use Rattle.numbers.proofs.guid.put_tagged.Reads as put-tagged-reads
-use Rattle.numbers.proofs.refusal.too_short.Reads as too-short-reads
 
 add-needed : tie.Need-add-needed
 add-needed c = search needs

@@ -1,14 +1,10 @@
 -- `serial::item` meets its contract: the first byte says the form.
 -- Assumes nothing.
-use borrow.Author.Tests.{lt-ltb, le-ltb, eq-eqb, ne-eqb}
+use borrow.Author.Tests.{eq-eqb, ne-eqb}
 use Rattle.numbers.specs.Serial.{readSerial}
 use borrow.Author.Needs.{needs}
 use Rattle.numbers.proofs.serial.item.Statement.{statement}
 use Rattle.numbers.proofs.serial.item.Tie as tie
-use Rattle.numbers.proofs.serial.item.Reads as reads
-use Rattle.numbers.proofs.serial.item.Lts as lts
-use Rattle.numbers.proofs.refusal.at_front.Reads as at-front-reads
-use Rattle.numbers.proofs.serial.read_numbered.Reads as read-numbered-reads
 
 at-front-requires : tie.Need-at-front-requires
 at-front-requires c κs = search needs

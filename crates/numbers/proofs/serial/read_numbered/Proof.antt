@@ -1,16 +1,11 @@
 -- `serial::read_numbered` meets its contract.
 -- Assumes nothing.
-use borrow.Author.Tests.{lt-ltb, le-ltb, eq-eqb, ne-eqb}
+use borrow.Author.Tests.{lt-ltb, le-ltb}
 use Rattle.laws.proofs.Parts.{tail-part}
 use Rattle.numbers.specs.Serial.{numbered}
 use borrow.Author.Needs.{needs}
 use Rattle.numbers.proofs.serial.read_numbered.Statement.{statement}
 use Rattle.numbers.proofs.serial.read_numbered.Tie as tie
-use Rattle.numbers.proofs.serial.read_numbered.Reads as reads
-use Rattle.numbers.proofs.serial.read_numbered.Lts as lts
-use Rattle.numbers.proofs.bytes.read_le.Reads as read-le-reads
-use Rattle.numbers.proofs.guid.guid_at.Reads as guid-at-reads
-use Rattle.numbers.proofs.refusal.at_front.Reads as at-front-reads
 
 at-front-requires : tie.Need-at-front-requires
 at-front-requires c κs = search needs

@@ -5,10 +5,6 @@ use Rattle.numbers.proofs.Calls.{single-over, single-item}
 use borrow.Author.Needs.{needs}
 use Rattle.numbers.proofs.serial.read_serial.Statement.{statement}
 use Rattle.numbers.proofs.serial.read_serial.Tie as tie
-use Rattle.numbers.proofs.serial.read_serial.Reads as reads
-use Rattle.numbers.proofs.serial.read_serial.Lts as lts
-use Rattle.numbers.proofs.refusal.over_long.Reads as over-long-reads
-use Rattle.numbers.proofs.serial.item.Reads as item-reads
 
 over-long-requires : tie.Need-over-long-requires
 over-long-requires c κs = search needs

@@ -7,8 +7,6 @@ use Rattle.numbers.proofs.Guids.{length-tagged}
 use borrow.Author.Needs.{needs}
 use Rattle.numbers.proofs.serial.serial_length.Statement.{statement}
 use Rattle.numbers.proofs.serial.serial_length.Tie as tie
-use Rattle.numbers.proofs.serial.serial_length.Reads as reads
-use Rattle.numbers.proofs.serial.serial_length.Lts as lts
 
 enum-told : tie.Need-enum-told
 enum-told c = search needs

@@ -4,10 +4,6 @@ use Rattle.numbers.specs.Serial.{serialBytes}
 use borrow.Author.Needs.{needs}
 use Rattle.numbers.proofs.serial.write_serial.Statement.{statement}
 use Rattle.numbers.proofs.serial.write_serial.Tie as tie
-use Rattle.numbers.proofs.serial.write_serial.Reads as reads
-use Rattle.numbers.proofs.serial.write_serial.Lts as lts
-use Rattle.numbers.proofs.compact.write_zero.Reads as write-zero-reads
-use Rattle.numbers.proofs.guid.write_tagged.Reads as write-tagged-reads
 
 enum-told : tie.Need-enum-told
 enum-told c = search needs

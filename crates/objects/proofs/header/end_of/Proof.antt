@@ -1,14 +1,10 @@
 -- `header::end_of` meets its contract.
 -- Assumes nothing.
-use borrow.Author.Tests.{lt-ltb, le-ltb, eq-eqb, ne-eqb}
+use borrow.Author.Tests.{lt-ltb, le-ltb}
 use Rattle.objects.specs.Header.{sized, endOf}
 use borrow.Author.Needs.{needs}
 use Rattle.objects.proofs.header.end_of.Statement.{statement}
 use Rattle.objects.proofs.header.end_of.Tie as tie
-use Rattle.objects.proofs.header.end_of.Reads as reads
-use Rattle.objects.proofs.header.end_of.Lts as lts
-use Rattle.numbers.proofs.bytes.read_le.Reads as read-le-reads
-use Rattle.numbers.proofs.refusal.at_place.Reads as at-place-reads
 
 at-place-requires : tie.Need-at-place-requires
 at-place-requires c κs = search needs

@@ -7,10 +7,6 @@ use Rattle.objects.proofs.HeaderLaws.{header-past}
 use borrow.Author.Needs.{needs}
 use Rattle.objects.proofs.header.header_at.Statement.{statement}
 use Rattle.objects.proofs.header.header_at.Tie as tie
-use Rattle.objects.proofs.header.header_at.Reads as reads
-use Rattle.objects.proofs.header.header_at.Lts as lts
-use Rattle.numbers.proofs.refusal.at_place.Reads as at-place-reads
-use Rattle.objects.proofs.header.header_of.Reads as header-of-reads
 
 at-place-requires : tie.Need-at-place-requires
 at-place-requires c κs = search needs

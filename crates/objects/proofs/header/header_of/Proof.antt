@@ -1,15 +1,10 @@
 -- `header::header_of` meets its contract: the low two bits tell the form.
 -- Assumes nothing.
-use borrow.Author.Tests.{lt-ltb, le-ltb, eq-eqb, ne-eqb}
+use borrow.Author.Tests.{eq-eqb, ne-eqb}
 use Rattle.objects.specs.Header.{headerOf}
 use borrow.Author.Needs.{needs}
 use Rattle.objects.proofs.header.header_of.Statement.{statement}
 use Rattle.objects.proofs.header.header_of.Tie as tie
-use Rattle.objects.proofs.header.header_of.Reads as reads
-use Rattle.objects.proofs.header.header_of.Lts as lts
-use Rattle.numbers.proofs.refusal.at_place.Reads as at-place-reads
-use Rattle.objects.proofs.header.end_of.Reads as end-of-reads
-use Rattle.objects.proofs.header.start_of.Reads as start-of-reads
 
 at-place-requires : tie.Need-at-place-requires
 at-place-requires c κs = search needs

@@ -1,14 +1,10 @@
 -- `header::item` meets its contract.
 -- Assumes nothing.
-use mathlib.Core.Path.{_≡_, refl, sym, ap, _∙_}
+use mathlib.Core.Path.{sym, _∙_}
 use Rattle.objects.specs.Header.{wholeHeader}
 use borrow.Author.Needs.{needs}
 use Rattle.objects.proofs.header.item.Statement.{statement}
 use Rattle.objects.proofs.header.item.Tie as tie
-use Rattle.objects.proofs.header.item.Reads as reads
-use Rattle.objects.proofs.header.item.Lts as lts
-use Rattle.objects.proofs.header.header_of.Reads as header-of-reads
-use Rattle.objects.proofs.header.length_at.Reads as length-at-reads
 
 header-of-requires : tie.Need-header-of-requires
 header-of-requires c κs = search needs

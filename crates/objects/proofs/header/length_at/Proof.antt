@@ -1,18 +1,14 @@
 -- `header::length_at` meets its contract: the true length is read where the escape stands.
 -- Assumes nothing.
-use mathlib.Core.Path.{_≡_, refl, sym, ap, _∙_}
+use mathlib.Core.Path.{sym, _∙_}
 use native.Mathlib.Omega.{arith}
-use borrow.Author.Tests.{lt-ltb, le-ltb, eq-eqb, ne-eqb}
+use borrow.Author.Tests.{eq-eqb, ne-eqb}
 use Rattle.laws.proofs.Parts.{tail-part}
 use Rattle.objects.specs.Header.{lengthAt}
 use Rattle.objects.proofs.HeaderLaws.{compact-past, compact-fits}
 use borrow.Author.Needs.{needs}
 use Rattle.objects.proofs.header.length_at.Statement.{statement}
 use Rattle.objects.proofs.header.length_at.Tie as tie
-use Rattle.objects.proofs.header.length_at.Reads as reads
-use Rattle.objects.proofs.header.length_at.Lts as lts
-use Rattle.numbers.proofs.compact.item.Reads as item-reads
-use Rattle.numbers.proofs.refusal.at_place.Reads as at-place-reads
 
 returns : tie.Need-returns
 unfolding lengthAt

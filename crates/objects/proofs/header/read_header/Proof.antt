@@ -5,10 +5,6 @@ use Rattle.numbers.proofs.Calls.{single-over, single-item}
 use borrow.Author.Needs.{needs}
 use Rattle.objects.proofs.header.read_header.Statement.{statement}
 use Rattle.objects.proofs.header.read_header.Tie as tie
-use Rattle.objects.proofs.header.read_header.Reads as reads
-use Rattle.objects.proofs.header.read_header.Lts as lts
-use Rattle.numbers.proofs.refusal.over_long.Reads as over-long-reads
-use Rattle.objects.proofs.header.item.Reads as item-reads
 
 over-long-requires : tie.Need-over-long-requires
 over-long-requires c κs = search needs

@@ -1,18 +1,17 @@
 -- `nesting::read_object` and `nesting::read_run`, which call each other, meet their contracts. The measure of the calls is
 -- the depth, twice for an object and once more for a run; that of the loop is what is left of the input.
 -- Assumes nothing.
-use mathlib.Core.Path.{_≡_, refl, sym, ap, subst, _∙_}
-use Prim.Native.Nat.{ℕ, suc, _+_, _-_, _<_, _≤_}
+use mathlib.Core.Path.{_≡_, sym, _∙_}
+use Prim.Native.Nat.{ℕ, suc, _+_, _-_, _<_}
 use native.Mathlib.Omega.{arith}
 use lib.ListN.{length}
 use borrow.Author.Needs.{needs}
-use borrow.Author.Tests.{lt-ltb, le-ltb, eq-eqb, ne-eqb}
+use borrow.Author.Tests.{eq-eqb, ne-eqb}
 use borrow.Fn.Kinds.{In}
 use borrow.Fn.PlainCycle.{Measures, is, falls, and}
-use Rattle.objects.specs.Nesting.{objectAt, runAt}
-use Rattle.objects.specs.declared.nesting.Passed.the-variants.{To, Refused}
+use Rattle.objects.specs.Nesting.{runAt}
 use Rattle.objects.proofs.HeaderLaws.{header-fits-at}
-use Rattle.objects.proofs.Ahead.{object-at, run-at, run-start, object-next, data-ahead-at}
+use Rattle.objects.proofs.Ahead.{object-at, run-at, run-start, object-next}
 use Rattle.objects.proofs.nesting.read_object.Reads as read-object
 use Rattle.objects.proofs.nesting.read_object.Kinds as read-object-kinds
 use Rattle.objects.proofs.nesting.+read_object+read_run.Lts-read_object as read-object-lts

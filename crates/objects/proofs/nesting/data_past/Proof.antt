@@ -1,16 +1,11 @@
 -- `nesting::data_past` meets its contract.
 -- Assumes nothing.
-use mathlib.Core.Path.{_≡_, refl, sym, ap, _∙_}
-use borrow.Author.Tests.{lt-ltb, le-ltb, eq-eqb, ne-eqb}
+use mathlib.Core.Path.{sym, _∙_}
+use borrow.Author.Tests.{lt-ltb, le-ltb}
 use Rattle.objects.specs.Nesting.{dataPast}
 use borrow.Author.Needs.{needs}
 use Rattle.objects.proofs.nesting.data_past.Statement.{statement}
 use Rattle.objects.proofs.nesting.data_past.Tie as tie
-use Rattle.objects.proofs.nesting.data_past.Reads as reads
-use Rattle.objects.proofs.nesting.data_past.Lts as lts
-use Rattle.numbers.proofs.refusal.at_place.Reads as at-place-reads
-use Rattle.objects.proofs.header.length_at.Reads as length-at-reads
-use Rattle.objects.proofs.nesting.left_of.Reads as left-of-reads
 
 length-at-requires : tie.Need-length-at-requires
 length-at-requires c κs = search needs
