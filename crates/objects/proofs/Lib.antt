@@ -1,4 +1,11 @@
 pub mod HeaderLaws
 pub mod Ahead
+pub mod Shift
+pub mod Rules
+pub mod Local
+pub mod Deeper
+pub mod Carry
 pub mod ItemsAt
 pub mod NullId
+pub mod Keep
+pub mod Written
