@@ -3,6 +3,7 @@
 use mathlib.Core.Path.{_≡_, refl}
 use mathlib.Core.Bool.{Bool, true, false}
 use Prim.Native.Nat.{ℕ, _≤_, _<_}
+use native.Mathlib.Omega.{arith}
 use lib.Dec.{ltb, eqb}
 use borrow.Author.Tests.{ltb-true, ltb-false, eqb-true, eqb-false}
 use Rattle.laws.specs.Pick.{pick}
@@ -16,6 +17,10 @@ by-lt a b f g = by-bool (ltb a b) (λ e. f (ltb-true a b e)) (λ e. g (ltb-false
 
 pub by-eq : {P : Type 0} (a b : ℕ) → (a ≡ b → P) → ((a ≡ b → ⊥) → P) → P
 by-eq a b f g = by-bool (eqb a b) (λ e. f (eqb-true a b e)) (λ e. g (eqb-false a b e))
+
+-- where two different constructors are equal, `impossible (cc)`
+pub impossible : {P : Type 0} → _≡_ {A = ℕ} 0 1 → P
+impossible z = absurd (omega arith)
 
 -- what holds of both holds of the choice
 pub pick-all : {X : Type 0} (P : X → Type 0) (t : Bool) (x y : X) → (t ≡ true → P x) → (t ≡ false → P y) → P (pick t x y)

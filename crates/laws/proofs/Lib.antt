@@ -3,6 +3,7 @@ pub mod Loops
 pub mod Numbers
 pub mod Order
 pub mod Parts
+pub mod Agreement
 pub mod Placing
 pub mod Twice
 pub mod OneAnswer

@@ -8,10 +8,10 @@ use native.Mathlib.Omega.{arith}
 use lib.ListN.{length, getD}
 use Rattle.laws.specs.Pick.{pick}
 use Rattle.laws.specs.Once.{seen, once}
-use Rattle.laws.proofs.Cases.{by-bool}
+use Rattle.laws.proofs.Cases.{by-bool, impossible}
 
-clash : true ≡ false → ⊥
-clash z = let y : _≡_ {A = ℕ} 0 1 = cc in omega arith
+other : {P : Type 0} → true ≡ false → P
+other z = impossible (cc)
 
 module _ {K : Type 0} (same : K → K → Bool) where
   -- among the keys of two lists
@@ -25,9 +25,9 @@ module _ {K : Type 0} (same : K → K → Bool) where
   pub unseen-at : (k d : K) (xs : List K) → seen same k xs ≡ false → (i : ℕ) → i < length xs → same k (getD xs i d) ≡ false
   unfolding seen
   unseen-at k d [] h i l = absurd (omega arith)
-  unseen-at k d (x ∷ xs) h zero l = by-bool (same k x) (λ e. absurd (clash (rw e at h))) (λ e. e)
+  unseen-at k d (x ∷ xs) h zero l = by-bool (same k x) (λ e. other (rw e at h)) (λ e. e)
   unseen-at k d (x ∷ xs) h (suc i) l =
-      by-bool (same k x) (λ e. absurd (clash (rw e at h))) (λ e. unseen-at k d xs (rw e at h) i (omega arith))
+      by-bool (same k x) (λ e. other (rw e at h)) (λ e. unseen-at k d xs (rw e at h) i (omega arith))
 
   -- in a list with no key twice, any two places differ
   pub once-apart : (d : K) (xs : List K) → once same xs ≡ true → (i j : ℕ) → i < j → j < length xs → same (getD xs i d) (getD xs j d) ≡ false
@@ -35,9 +35,9 @@ module _ {K : Type 0} (same : K → K → Bool) where
   once-apart d [] h i j l m = absurd (omega arith)
   once-apart d (x ∷ xs) h i zero l m = absurd (omega arith)
   once-apart d (x ∷ xs) h zero (suc j) l m =
-      by-bool (seen same x xs) (λ e. absurd (clash (sym (rw e at h)))) (λ e. unseen-at x d xs e j (omega arith))
+      by-bool (seen same x xs) (λ e. other (sym (rw e at h))) (λ e. unseen-at x d xs e j (omega arith))
   once-apart d (x ∷ xs) h (suc i) (suc j) l m =
-      by-bool (seen same x xs) (λ e. absurd (clash (sym (rw e at h)))) (λ e. once-apart d xs (rw e at h) i j (omega arith) (omega arith))
+      by-bool (seen same x xs) (λ e. other (sym (rw e at h))) (λ e. once-apart d xs (rw e at h) i j (omega arith) (omega arith))
 
   -- one key more at the end
   pub once-more : ((a b : K) → same a b ≡ same b a) → (k : K) (xs : List K)

@@ -12,7 +12,7 @@ use lib.Count.{trailingZeros}
 use lib.Dec.{lit<, ltb, eqb}
 use borrow.Author.Tests.{lt-ltb, le-ltb, eq-eqb, ne-eqb}
 use Rattle.laws.specs.Bytes.{AllBytes, le, bytes}
-use Rattle.laws.proofs.Cases.{by-lt, by-eq}
+use Rattle.laws.proofs.Cases.{by-lt, by-eq, impossible}
 use Rattle.laws.proofs.Numbers.{length-bytes, le-lt, take-bytes, drop-bytes, le-bytes, bytes-le, first-byte, low-byte}
 use Rattle.numbers.specs.Compact.{marked}
 use Rattle.numbers.specs.Guid.{guidAt, guidBytes, taggedBytes, GuidFits}
@@ -186,10 +186,10 @@ named-read : (n g x least : ℕ) (s : List ℕ) (i : ExtendedGuid) (u : ℕ) →
 unfolding namedOf
 named-read n g x least s i u e =
     by-lt (length s) n
-    (λ h. let z : Refused (fault 2) ≡ Value i u = rw (lt-ltb _ _ h) at e in absurd (let z : _≡_ {A = ℕ} 0 1 = cc in omega arith))
+    (λ h. let z : Refused (fault 2) ≡ Value i u = rw (lt-ltb _ _ h) at e in impossible (cc))
     (λ h.
     by-lt x least
-    (λ k. let z : Refused (fault 3) ≡ Value i u = rw (le-ltb _ _ h, lt-ltb _ _ k) at e in absurd (let z : _≡_ {A = ℕ} 0 1 = cc in omega arith))
+    (λ k. let z : Refused (fault 3) ≡ Value i u = rw (le-ltb _ _ h, lt-ltb _ _ k) at e in impossible (cc))
     (λ k. let z : Value (Named (guidAt (drop g s)) x) n ≡ Value i u = rw (le-ltb _ _ h, le-ltb _ _ k) at e in (h, k, cc, cc)))
 
 -- what a reader's answer must be: the bytes used are those that are written for the value, which fits
@@ -242,12 +242,12 @@ form-same k s i u b e r =
     (λ q. long-same s i u b (long-byte (getD s 0 0) (b 0) (e ∙ q)) (rw q at r))
     (λ n7.
     let z : Refused (fault 3) ≡ Value i u = rw (ne-eqb k 2 n2, ne-eqb k 5 n5, ne-eqb k 6 n6, ne-eqb k 7 n7) at r in
-    absurd (let z : _≡_ {A = ℕ} 0 1 = cc in omega arith)))))
+    impossible (cc)))))
 
 pub extended-guid-written-read : (s : List ℕ) (i : ExtendedGuid) (u : ℕ) → AllBytes s → readExtendedGuid s ≡ Value i u
     → (take u s ≡ extendedGuidBytes i) × ExtendedGuidFits i
 unfolding readExtendedGuid extendedGuidBytes
-extended-guid-written-read [] i u b r = absurd (let z : _≡_ {A = ℕ} 0 1 = cc in omega arith)
+extended-guid-written-read [] i u b r = impossible (cc)
 extended-guid-written-read (c ∷ s) i u b r =
     let n : suc (length s) ≢ 0 = omega arith in
     by-eq c 0

@@ -4,6 +4,7 @@ use mathlib.Core.Path.{_≡_, refl, sym, ap, _∙_}
 use Prim.Native.Nat.{ℕ}
 use mathlib.Core.List.{List, [], _∷_}
 use native.Mathlib.Omega.{arith}
+use Rattle.laws.proofs.Cases.{impossible}
 use Rattle.laws.proofs.OneAnswer.{Telling, one-answer, one-outcome}
 use Rattle.numbers.specs.Refusals.{Told, gives, refuses, tellWrote}
 use Rattle.numbers.specs.Calls.{tellCompact, tellExtendedGuid, tellSerial, ReadsCompact, ReadsExtendedGuid, ReadsSerial, Writes}
@@ -44,14 +45,14 @@ refuses-telling r q e =
 
 pub wrote-telling : Telling tellWrote
 wrote-telling (wrote.Done n) (wrote.Done m) e = let v = values-of _ _ e in cc
-wrote-telling (wrote.Done n) (wrote.Refused q) e = absurd (let v = values-of _ _ e in let z : _≡_ {A = ℕ} 0 1 = cc in omega arith)
-wrote-telling (wrote.Refused r) (wrote.Done m) e = absurd (let v = values-of _ _ e in let z : _≡_ {A = ℕ} 0 1 = cc in omega arith)
+wrote-telling (wrote.Done n) (wrote.Refused q) e = let v = values-of _ _ e in impossible (cc)
+wrote-telling (wrote.Refused r) (wrote.Done m) e = let v = values-of _ _ e in impossible (cc)
 wrote-telling (wrote.Refused r) (wrote.Refused q) e = ap wrote.Refused (refuses-telling r q e)
 
 pub compact-telling : Telling tellCompact
 compact-telling (compact.Value v n) (compact.Value w m) e = let v = values-of _ _ e in cc
-compact-telling (compact.Value v n) (compact.Refused q) e = absurd (let v = values-of _ _ e in let z : _≡_ {A = ℕ} 0 1 = cc in omega arith)
-compact-telling (compact.Refused r) (compact.Value w m) e = absurd (let v = values-of _ _ e in let z : _≡_ {A = ℕ} 0 1 = cc in omega arith)
+compact-telling (compact.Value v n) (compact.Refused q) e = let v = values-of _ _ e in impossible (cc)
+compact-telling (compact.Refused r) (compact.Value w m) e = let v = values-of _ _ e in impossible (cc)
 compact-telling (compact.Refused r) (compact.Refused q) e = ap compact.Refused (refuses-telling r q e)
 
 -- a GUID, a number and the bytes used, among four values
@@ -63,24 +64,24 @@ same-named {g} {h} {x} {y} {n} {m} v =
 
 pub extended-guid-telling : Telling tellExtendedGuid
 extended-guid-telling (extended.Value id.Null n) (extended.Value id.Null m) e = let v = values-of _ _ e in cc
-extended-guid-telling (extended.Value id.Null n) (extended.Value (id.Named h y) m) e = absurd (let v = values-of _ _ e in let z : _≡_ {A = ℕ} 0 1 = cc in omega arith)
-extended-guid-telling (extended.Value id.Null n) (extended.Refused q) e = absurd (let v = values-of _ _ e in let z : _≡_ {A = ℕ} 0 1 = cc in omega arith)
-extended-guid-telling (extended.Value (id.Named g x) n) (extended.Value id.Null m) e = absurd (let v = values-of _ _ e in let z : _≡_ {A = ℕ} 0 1 = cc in omega arith)
+extended-guid-telling (extended.Value id.Null n) (extended.Value (id.Named h y) m) e = let v = values-of _ _ e in impossible (cc)
+extended-guid-telling (extended.Value id.Null n) (extended.Refused q) e = let v = values-of _ _ e in impossible (cc)
+extended-guid-telling (extended.Value (id.Named g x) n) (extended.Value id.Null m) e = let v = values-of _ _ e in impossible (cc)
 extended-guid-telling (extended.Value (id.Named g x) n) (extended.Value (id.Named h y) m) e = let s = same-named (values-of _ _ e) in cc
-extended-guid-telling (extended.Value (id.Named g x) n) (extended.Refused q) e = absurd (let v = values-of _ _ e in let z : _≡_ {A = ℕ} 0 1 = cc in omega arith)
-extended-guid-telling (extended.Refused r) (extended.Value id.Null m) e = absurd (let v = values-of _ _ e in let z : _≡_ {A = ℕ} 0 1 = cc in omega arith)
-extended-guid-telling (extended.Refused r) (extended.Value (id.Named h y) m) e = absurd (let v = values-of _ _ e in let z : _≡_ {A = ℕ} 0 1 = cc in omega arith)
+extended-guid-telling (extended.Value (id.Named g x) n) (extended.Refused q) e = let v = values-of _ _ e in impossible (cc)
+extended-guid-telling (extended.Refused r) (extended.Value id.Null m) e = let v = values-of _ _ e in impossible (cc)
+extended-guid-telling (extended.Refused r) (extended.Value (id.Named h y) m) e = let v = values-of _ _ e in impossible (cc)
 extended-guid-telling (extended.Refused r) (extended.Refused q) e = ap extended.Refused (refuses-telling r q e)
 
 pub serial-telling : Telling tellSerial
 serial-telling (serial.Value number.Null n) (serial.Value number.Null m) e = let v = values-of _ _ e in cc
-serial-telling (serial.Value number.Null n) (serial.Value (number.Numbered h y) m) e = absurd (let v = values-of _ _ e in let z : _≡_ {A = ℕ} 0 1 = cc in omega arith)
-serial-telling (serial.Value number.Null n) (serial.Refused q) e = absurd (let v = values-of _ _ e in let z : _≡_ {A = ℕ} 0 1 = cc in omega arith)
-serial-telling (serial.Value (number.Numbered g x) n) (serial.Value number.Null m) e = absurd (let v = values-of _ _ e in let z : _≡_ {A = ℕ} 0 1 = cc in omega arith)
+serial-telling (serial.Value number.Null n) (serial.Value (number.Numbered h y) m) e = let v = values-of _ _ e in impossible (cc)
+serial-telling (serial.Value number.Null n) (serial.Refused q) e = let v = values-of _ _ e in impossible (cc)
+serial-telling (serial.Value (number.Numbered g x) n) (serial.Value number.Null m) e = let v = values-of _ _ e in impossible (cc)
 serial-telling (serial.Value (number.Numbered g x) n) (serial.Value (number.Numbered h y) m) e = let s = same-named (values-of _ _ e) in cc
-serial-telling (serial.Value (number.Numbered g x) n) (serial.Refused q) e = absurd (let v = values-of _ _ e in let z : _≡_ {A = ℕ} 0 1 = cc in omega arith)
-serial-telling (serial.Refused r) (serial.Value number.Null m) e = absurd (let v = values-of _ _ e in let z : _≡_ {A = ℕ} 0 1 = cc in omega arith)
-serial-telling (serial.Refused r) (serial.Value (number.Numbered h y) m) e = absurd (let v = values-of _ _ e in let z : _≡_ {A = ℕ} 0 1 = cc in omega arith)
+serial-telling (serial.Value (number.Numbered g x) n) (serial.Refused q) e = let v = values-of _ _ e in impossible (cc)
+serial-telling (serial.Refused r) (serial.Value number.Null m) e = let v = values-of _ _ e in impossible (cc)
+serial-telling (serial.Refused r) (serial.Value (number.Numbered h y) m) e = let v = values-of _ _ e in impossible (cc)
 serial-telling (serial.Refused r) (serial.Refused q) e = ap serial.Refused (refuses-telling r q e)
 
 -- ---- any two answers allowed are equal

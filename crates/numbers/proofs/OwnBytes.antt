@@ -12,8 +12,9 @@ use lib.Count.{trailingZeros}
 use lib.Dec.{ltb, eqb}
 use borrow.Author.Tests.{lt-ltb, le-ltb, eq-eqb, ne-eqb}
 use Rattle.laws.specs.Bytes.{le}
-use Rattle.laws.proofs.Cases.{by-lt, by-eq}
+use Rattle.laws.proofs.Cases.{by-lt, by-eq, impossible}
 use Rattle.laws.proofs.Parts.{same-first, same-part}
+use Rattle.laws.proofs.Agreement.{Agree, agree-less}
 use Rattle.numbers.specs.Refusals.{fault}
 use Rattle.numbers.specs.Compact.{sizeOf, valueOf, readForm, formAt, strict, readCompact}
 use Rattle.numbers.specs.Guid.{guidAt}
@@ -35,19 +36,6 @@ use Rattle.numbers.specs.declared.serial.ReadSerial.the-variants as seri
 use Rattle.numbers.proofs.Forms.{size-pos}
 use Rattle.numbers.proofs.RoundTrip.{strict-value}
 
--- t has the first n bytes of s
-pub record Agree (s t : List ℕ) (n : ℕ) : Type 0 where
-  pub long : n ≤ length t
-  pub same : take n s ≡ take n t
-
--- fewer of them
-pub agree-less : (s t : List ℕ) (n m : ℕ) → m ≤ n → Agree s t n → Agree s t m
-agree-less s t n m l a =
-    record {
-      long = omega (arith, a .long);
-      same = sym (take-take m n s l) ∙ ap (take m) (a .same) ∙ take-take m n t l;
-    }
-
 -- the first byte
 agree-first : (s t : List ℕ) (n : ℕ) → 0 < n → Agree s t n → getD s 0 0 ≡ getD t 0 0
 agree-first s t n p a = same-first s t n p (a .same)
@@ -61,7 +49,7 @@ read-form-own : (k : ℕ) (s t : List ℕ) (v n : ℕ) (longer : Bool) → readF
 unfolding readForm valueOf
 read-form-own k s t v n longer e a =
     by-lt (length s) (sizeOf k)
-    (λ l. let x : form.Refused (fault 2) ≡ Holds v n longer = rw (lt-ltb _ _ l) at e in absurd (let z : _≡_ {A = ℕ} 0 1 = cc in omega arith))
+    (λ l. let x : form.Refused (fault 2) ≡ Holds v n longer = rw (lt-ltb _ _ l) at e in impossible (cc))
     (λ l.
     let x : Holds (valueOf k s) (sizeOf k) (ltb (valueOf k s) (128 ^ k)) ≡ Holds v n longer = rw (le-ltb _ _ l) at e in
     let q : sizeOf k ≡ n = cc in
@@ -73,7 +61,7 @@ pub form-own : (s t : List ℕ) (v n : ℕ) (longer : Bool) → formAt s ≡ Hol
 unfolding formAt
 form-own s t v n longer e p a =
     by-eq (length s) 0
-    (λ z. let x : form.Refused (fault 2) ≡ Holds v n longer = rw (eq-eqb _ _ z) at e in absurd (let z : _≡_ {A = ℕ} 0 1 = cc in omega arith))
+    (λ z. let x : form.Refused (fault 2) ≡ Holds v n longer = rw (eq-eqb _ _ z) at e in impossible (cc))
     (λ z.
     by-eq (getD s 0 0) 0
     (λ f. rw (ne-eqb _ _ (not-empty s t n p a), ← agree-first s t n p a, eq-eqb _ _ f) (rw (ne-eqb _ _ z, eq-eqb _ _ f) at e))
@@ -97,10 +85,10 @@ named-own : (n g x y least : ℕ) (s t : List ℕ) (i : ExtendedGuid) (u : ℕ) 
 unfolding namedOf
 named-own n g x y least s t i u p l same e a =
     by-lt (length s) n
-    (λ h. let z : extended.Refused (fault 2) ≡ extended.Value i u = rw (lt-ltb _ _ h) at e in absurd (let z : _≡_ {A = ℕ} 0 1 = cc in omega arith))
+    (λ h. let z : extended.Refused (fault 2) ≡ extended.Value i u = rw (lt-ltb _ _ h) at e in impossible (cc))
     (λ h.
     by-lt x least
-    (λ k. let z : extended.Refused (fault 3) ≡ extended.Value i u = rw (le-ltb _ _ h, lt-ltb _ _ k) at e in absurd (let z : _≡_ {A = ℕ} 0 1 = cc in omega arith))
+    (λ k. let z : extended.Refused (fault 3) ≡ extended.Value i u = rw (le-ltb _ _ h, lt-ltb _ _ k) at e in impossible (cc))
     (λ k.
     let z : extended.Value (Named (guidAt (drop g s)) x) n ≡ extended.Value i u = rw (le-ltb _ _ h, le-ltb _ _ k) at e in
     let q : n ≡ u = cc in
@@ -134,7 +122,7 @@ pub extended-guid-own : (s t : List ℕ) (i : ExtendedGuid) (n : ℕ) → readEx
 unfolding readExtendedGuid
 extended-guid-own s t i n e p a =
     by-eq (length s) 0
-    (λ z. let x : extended.Refused (fault 2) ≡ extended.Value i n = rw (eq-eqb _ _ z) at e in absurd (let z : _≡_ {A = ℕ} 0 1 = cc in omega arith))
+    (λ z. let x : extended.Refused (fault 2) ≡ extended.Value i n = rw (eq-eqb _ _ z) at e in impossible (cc))
     (λ z.
     by-eq (getD s 0 0) 0
     (λ f. rw (ne-eqb _ _ (not-empty s t n p a), ← agree-first s t n p a, eq-eqb _ _ f) (rw (ne-eqb _ _ z, eq-eqb _ _ f) at e))
@@ -148,7 +136,7 @@ numbered-own : (s t : List ℕ) (i : Serial) (n : ℕ) → numbered s ≡ serial
 unfolding numbered
 numbered-own s t i n e a =
     by-lt (length s) 25
-    (λ h. let z : serial.Refused (fault 2) ≡ serial.Value i n = rw (lt-ltb _ _ h) at e in absurd (let z : _≡_ {A = ℕ} 0 1 = cc in omega arith))
+    (λ h. let z : serial.Refused (fault 2) ≡ serial.Value i n = rw (lt-ltb _ _ h) at e in impossible (cc))
     (λ h.
     let z : serial.Value (Numbered (guidAt (drop 1 s)) (le (take 8 (drop 17 s)))) 25 ≡ serial.Value i n = rw (le-ltb _ _ h) at e in
     let q : 25 ≡ n = cc in
@@ -160,7 +148,7 @@ pub serial-own : (s t : List ℕ) (i : Serial) (n : ℕ) → readSerial s ≡ se
 unfolding readSerial
 serial-own s t i n e p a =
     by-eq (length s) 0
-    (λ z. let x : serial.Refused (fault 2) ≡ serial.Value i n = rw (eq-eqb _ _ z) at e in absurd (let z : _≡_ {A = ℕ} 0 1 = cc in omega arith))
+    (λ z. let x : serial.Refused (fault 2) ≡ serial.Value i n = rw (eq-eqb _ _ z) at e in impossible (cc))
     (λ z.
     by-eq (getD s 0 0) 0
     (λ f. rw (ne-eqb _ _ (not-empty s t n p a), ← agree-first s t n p a, eq-eqb _ _ f) (rw (ne-eqb _ _ z, eq-eqb _ _ f) at e))
@@ -171,4 +159,4 @@ serial-own s t i n e p a =
     rw (ne-eqb _ _ (not-empty s t n p a), ← agree-first s t n p a, ne-eqb _ _ f, eq-eqb _ _ g) (numbered-own s t i n x a))
     (λ g.
     let x : serial.Refused (fault 3) ≡ serial.Value i n = rw (ne-eqb _ _ z, ne-eqb _ _ f, ne-eqb _ _ g) at e in
-    absurd (let z : _≡_ {A = ℕ} 0 1 = cc in omega arith))))
+    impossible (cc))))

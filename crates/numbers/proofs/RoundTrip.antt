@@ -6,7 +6,7 @@ use mathlib.Core.Logic.{_≢_}
 use mathlib.Core.Bool.{Bool, true, false}
 use mathlib.Core.List.{List, [], _∷_, _++_}
 use Prim.Native.Nat.{ℕ, zero, suc, _+_, _-_, _*_, _/_, _%_, _^_, _≤_, _<_}
-use native.Mathlib.Nat.{one-le-pow, div-lt-iff-lt-mul, div-le-self, div-le-of-le-mul}
+use native.Mathlib.Nat.{one-le-pow, pow-le-pow-right, div-lt-iff-lt-mul}
 use native.Mathlib.Numerals.{add-one}
 use native.Mathlib.Omega.{arith}
 use lib.ListN.{length, getD, take, drop, length-append, length-take}
@@ -17,8 +17,8 @@ use lib.Pow.{pow-pos}
 use borrow.Author.Tests.{eq-eqb, ne-eqb, lt-ltb, le-ltb, ltb-false}
 use Rattle.laws.specs.Pick.{pick}
 use Rattle.laws.specs.Bytes.{AllBytes, le, bytes}
-use Rattle.laws.proofs.Cases.{by-lt, by-eq}
-use Rattle.laws.proofs.Numbers.{take-bytes, le-lt, length-bytes, le-bytes, bytes-le, first-byte, low-byte}
+use Rattle.laws.proofs.Cases.{by-lt, by-eq, impossible}
+use Rattle.laws.proofs.Numbers.{take-bytes, drop-bytes, le-lt, length-bytes, le-bytes, bytes-le, first-byte, low-byte}
 use Rattle.numbers.specs.Refusals.{fault}
 use Rattle.numbers.specs.Compact.{sizeOf, valueOf, readForm, formAt, strict, readCompact, formOf, marked, compactBytes}
 use Rattle.numbers.specs.declared.compact.Form.{Form}
@@ -67,11 +67,6 @@ read-written v h t = rw (form-written v h t)
 
 -- ---- what is read is what is written for the value
 
-pub strict-value : (f : Form) (v n : ℕ) → strict f ≡ Value v n → f ≡ Holds v n false
-strict-value (Holds w m true) v n e = absurd (let z : _≡_ {A = ℕ} 0 1 = cc in omega arith)
-strict-value (Holds w m false) v n e = cc
-strict-value (form.Refused r) v n e = absurd (let z : _≡_ {A = ℕ} 0 1 = cc in omega arith)
-
 -- the number of a short form is below the next form's least value
 value-lt : (k : ℕ) (s : List ℕ) → AllBytes s → (k ≡ 7 → ⊥) → valueOf k s < 128 ^ suc k
 unfolding valueOf
@@ -79,6 +74,37 @@ value-lt k s b n =
     let p : le (take (k + 1) s) < 256 ^ (k + 1) = le-lt (k + 1) (take (k + 1) s) (simp length-take (omega arith)) (take-bytes (k + 1) s b) in
     let q : 256 ^ (k + 1) ≡ 128 ^ suc k * 2 ^ (k + 1) = rw (pow-bytes (k + 1), add-one) in
     rw (size-short k n) (div-lt-iff-lt-mul (pow-pos (k + 1)) .1 (omega arith))
+
+-- what any form holds fits 64 bits
+value-fits : (k : ℕ) (s : List ℕ) → AllBytes s → k < 8 → valueOf k s < 2 ^ 64
+value-fits k s b h =
+    by-eq k 7
+    (λ e. rw (e, value-long s b) (le-lt 8 (take 8 (drop 1 s)) (simp length-take (omega arith)) (take-bytes 8 (drop 1 s) (drop-bytes 1 s b))))
+    (λ n.
+    let p : 128 ^ suc k ≤ 128 ^ 7 = pow-le-pow-right {n = 128} (lit< tt) {i = suc k} {j = 7} (omega arith) in
+    omega (arith, value-lt k s b n))
+
+form-at-fits : (s : List ℕ) (v n : ℕ) (longer : Bool) → AllBytes s → formAt s ≡ Holds v n longer → v < 2 ^ 64
+unfolding formAt readForm
+form-at-fits s v n longer b e =
+    by-eq (length s) 0
+    (λ z. let x : form.Refused (fault 2) ≡ Holds v n longer = rw (eq-eqb _ _ z) at e in impossible (cc))
+    (λ z.
+    by-eq (getD s 0 0) 0
+    (λ f. let x : Holds 0 1 false ≡ Holds v n longer = rw (ne-eqb _ _ z, eq-eqb _ _ f) at e in let q : 0 ≡ v = cc in rw (← q) (omega arith))
+    (λ f.
+    let k = trailingZeros 8 (getD s 0 0) in
+    by-lt (length s) (sizeOf k)
+    (λ l. let x : form.Refused (fault 2) ≡ Holds v n longer = rw (ne-eqb _ _ z, ne-eqb _ _ f, lt-ltb _ _ l) at e in impossible (cc))
+    (λ l.
+    let x : Holds (valueOf k s) (sizeOf k) (ltb (valueOf k s) (128 ^ k)) ≡ Holds v n longer = rw (ne-eqb _ _ z, ne-eqb _ _ f, le-ltb _ _ l) at e in
+    let q : valueOf k s ≡ v = cc in
+    rw (← q) (value-fits k s b (zeros-lt 8 (getD s 0 0) (b 0) f)))))
+
+pub strict-value : (f : Form) (v n : ℕ) → strict f ≡ Value v n → f ≡ Holds v n false
+strict-value (Holds w m true) v n e = impossible (cc)
+strict-value (Holds w m false) v n e = cc
+strict-value (form.Refused r) v n e = impossible (cc)
 
 value-written : (s : List ℕ) (k : ℕ) → AllBytes s → k ≡ trailingZeros 8 (getD s 0 0) → k < 8 → sizeOf k ≤ length s → 128 ^ k ≤ valueOf k s
     → take (sizeOf k) s ≡ compactBytes (valueOf k s)
@@ -97,7 +123,7 @@ form-read : (s : List ℕ) (k v n : ℕ) → AllBytes s → k ≡ trailingZeros 
 unfolding readForm
 form-read s k v n b ek hk r =
     by-lt (length s) (sizeOf k)
-    (λ l. let x : form.Refused (fault 2) ≡ Holds v n false = rw (lt-ltb _ _ l) at r in absurd (let z : _≡_ {A = ℕ} 0 1 = cc in omega arith))
+    (λ l. let x : form.Refused (fault 2) ≡ Holds v n false = rw (lt-ltb _ _ l) at r in impossible (cc))
     (λ l.
     let x : Holds (valueOf k s) (sizeOf k) (ltb (valueOf k s) (128 ^ k)) ≡ Holds v n false = rw (le-ltb _ _ l) at r in
     let ev : valueOf k s ≡ v = cc in
@@ -107,7 +133,7 @@ form-read s k v n b ek hk r =
 
 form-at-read : (s : List ℕ) (v n : ℕ) → AllBytes s → formAt s ≡ Holds v n false → take n s ≡ compactBytes v
 unfolding formAt compactBytes
-form-at-read [] v n b r = absurd (let z : _≡_ {A = ℕ} 0 1 = cc in omega arith)
+form-at-read [] v n b r = impossible (cc)
 form-at-read (c ∷ s) v n b r =
     by-eq c 0
     (λ e.
@@ -119,6 +145,8 @@ form-at-read (c ∷ s) v n b r =
     let x : readForm (trailingZeros 8 c) (c ∷ s) ≡ Holds v n false = simp (ne-eqb (suc (length s)) 0 (omega arith), ne-eqb c 0 z) at r in
     form-read (c ∷ s) (trailingZeros 8 c) v n b refl (zeros-lt 8 c (b 0) z) x)
 
-pub written-read : (s : List ℕ) (v n : ℕ) → AllBytes s → readCompact s ≡ Value v n → take n s ≡ compactBytes v
+pub written-read : (s : List ℕ) (v n : ℕ) → AllBytes s → readCompact s ≡ Value v n → (take n s ≡ compactBytes v) × (v < 2 ^ 64)
 unfolding readCompact
-written-read s v n b r = form-at-read s v n b (strict-value (formAt s) v n r)
+written-read s v n b r =
+    let f = strict-value (formAt s) v n r in
+    (form-at-read s v n b f, form-at-fits s v n false b f)

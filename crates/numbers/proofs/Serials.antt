@@ -9,7 +9,7 @@ use lib.ListN.{length, getD, take, drop, length-append, length-drop, length-take
 use lib.Seq.{drop-drop, take-at, drop-at, take-add, length-take-le}
 use borrow.Author.Tests.{lt-ltb, le-ltb, eq-eqb, ne-eqb}
 use Rattle.laws.specs.Bytes.{AllBytes, le, bytes}
-use Rattle.laws.proofs.Cases.{by-lt, by-eq}
+use Rattle.laws.proofs.Cases.{by-lt, by-eq, impossible}
 use Rattle.laws.proofs.Numbers.{length-bytes, le-lt, take-bytes, drop-bytes, le-bytes, bytes-le}
 use Rattle.numbers.specs.Refusals.{fault}
 use Rattle.numbers.specs.Guid.{guidAt, guidBytes, taggedBytes, GuidFits}
@@ -50,7 +50,7 @@ numbered-same : (s : List ℕ) (i : Serial) (u : ℕ) → AllBytes s → getD s 
 unfolding numbered serialBytes
 numbered-same s i u b e r =
     by-lt (length s) 25
-    (λ h. let z : Refused (fault 2) ≡ Value i u = rw (lt-ltb _ _ h) at r in absurd (let z : _≡_ {A = ℕ} 0 1 = cc in omega arith))
+    (λ h. let z : Refused (fault 2) ≡ Value i u = rw (lt-ltb _ _ h) at r in impossible (cc))
     (λ h.
     let z : Value (Numbered (guidAt (drop 1 s)) (le (take 8 (drop 17 s)))) 25 ≡ Value i u = rw (le-ltb _ _ h) at r in
     let ei : i ≡ Numbered (guidAt (drop 1 s)) (le (take 8 (drop 17 s))) = cc in
@@ -59,7 +59,7 @@ numbered-same s i u b e r =
 
 pub serial-written-read : (s : List ℕ) (i : Serial) (u : ℕ) → AllBytes s → readSerial s ≡ Value i u → (take u s ≡ serialBytes i) × SerialFits i
 unfolding readSerial serialBytes
-serial-written-read [] i u b r = absurd (let z : _≡_ {A = ℕ} 0 1 = cc in omega arith)
+serial-written-read [] i u b r = impossible (cc)
 serial-written-read (c ∷ s) i u b r =
     let n : suc (length s) ≢ 0 = omega arith in
     by-eq c 0
@@ -73,4 +73,4 @@ serial-written-read (c ∷ s) i u b r =
     (λ e. numbered-same (c ∷ s) i u b e (rw (ne-eqb _ _ n, ne-eqb c 0 z, eq-eqb c 128 e) at r))
     (λ e.
     let x : Refused (fault 3) ≡ Value i u = rw (ne-eqb _ _ n, ne-eqb c 0 z, ne-eqb c 128 e) at r in
-    absurd (let z : _≡_ {A = ℕ} 0 1 = cc in omega arith)))
+    impossible (cc)))

@@ -1,5 +1,5 @@
 -- An object or a run that is read lies ahead of its start and within the input; a fault's place lies between the start and
--- the input's end. And the equations of both at a header that is known.
+-- the input's end, and it is 2, 3, 4 or 6. And the equations of both at a header that is known.
 -- Assumes nothing.
 use mathlib.Core.Path.{_≡_, refl, sym, subst, ap, _∙_}
 use mathlib.Core.Bool.{Bool, true, false}
@@ -28,9 +28,16 @@ use Rattle.objects.specs.declared.nesting.Passed.{Passed}
 use Rattle.objects.specs.declared.nesting.Passed.the-variants.{To, Refused}
 use Rattle.objects.proofs.HeaderLaws.{Fits, header-fits, LengthFits, length-fits}
 
--- a fault's place is at or behind `at`, and within the input if `at` is
+-- 2, 3, 4 or 6 of the first input, with no needed length
+pub data NestingFault : Refusal → Type 0 where
+  two : (p : ℕ) → NestingFault (faultAt 2 p)
+  three : (p : ℕ) → NestingFault (faultAt 3 p)
+  four : (p : ℕ) → NestingFault (faultAt 4 p)
+  six : (p : ℕ) → NestingFault (faultAt 6 p)
+
+-- such a fault; its place is at or behind `at`, and within the input if `at` is
 abbrev pub FaultAhead : List ℕ → ℕ → Refusal → Type 0
-FaultAhead s at r = (at ≤ r .place) × (at ≤ length s → r .place ≤ length s)
+FaultAhead s at r = (at ≤ r .place) × (at ≤ length s → r .place ≤ length s) × NestingFault r
 
 -- at or behind `at`, within the input if `at` is
 abbrev pub AtLeast : List ℕ → ℕ → Passed → Type 0
@@ -44,15 +51,15 @@ Ahead s at (Refused r) = FaultAhead s at r
 
 -- ---- the data
 
-here : (s : List ℕ) (at k : ℕ) → FaultAhead s at (faultAt k at)
-here s at k = (omega arith, λ h. h)
+here : (s : List ℕ) (at k : ℕ) → NestingFault (faultAt k at) → FaultAhead s at (faultAt k at)
+here s at k f = (omega arith, λ h. h, f)
 
 data-on-ahead : (s : List ℕ) (at : ℕ) (l : Length) → LengthFits s at l → AtLeast s at (dataOn s l)
 data-on-ahead s at (length′.Is v from) w =
-    pick-all (AtLeast s at) (ltb (length s - from) v) _ _ (λ t. (w .0, w .1))
+    pick-all (AtLeast s at) (ltb (length s - from) v) _ _ (λ t. (w .0, w .1, two from))
     (λ t. let q = ltb-false (length s - from) v t in (omega arith, λ h. let x = w .1 h in omega arith))
-data-on-ahead s at (length′.Refused r) (inl e) = rw e (here s at 2)
-data-on-ahead s at (length′.Refused r) (inr e) = rw e (here s at 3)
+data-on-ahead s at (length′.Refused r) (inl e) = rw e (here s at 2 (two at))
+data-on-ahead s at (length′.Refused r) (inr e) = rw e (here s at 3 (three at))
 
 pub data-ahead : (s : List ℕ) (at n : ℕ) → AtLeast s at (dataPast s at n)
 unfolding dataPast
@@ -66,20 +73,20 @@ data-ahead-at s at n p e = subst (AtLeast s at) e (data-ahead s at n)
 -- from a place within the input, further on
 further : (s : List ℕ) (at e : ℕ) (r : Passed) → at < e → e ≤ length s → Ahead s e r → Ahead s at r
 further s at e (To x) h l a = omega arith
-further s at e (Refused r) h l a = (omega arith, λ q. a .1 l)
+further s at e (Refused r) h l a = (omega arith, λ q. a .1 l, a .2)
 
 data-further : (s : List ℕ) (at from : ℕ) (p : Passed) → at < from → from ≤ length s → AtLeast s from p → Ahead s at p
 data-further s at from (To e) h l w = let x = w .1 l in omega arith
-data-further s at from (Refused r) h l w = (omega arith, λ q. w .1 l)
+data-further s at from (Refused r) h l w = (omega arith, λ q. w .1 l, w .2)
 
 and-on-ahead : (s : List ℕ) (at from : ℕ) (p : Passed) (go : ℕ → Passed) → at < from → from ≤ length s → AtLeast s from p → ((e : ℕ) → Ahead s e (go e)) → Ahead s at (andOn p go)
 and-on-ahead s at from (To e) go h l w f = let x = w .1 l in further s at e (go e) (omega arith) x (f e)
-and-on-ahead s at from (Refused r) go h l w f = (omega arith, λ q. w .1 l)
+and-on-ahead s at from (Refused r) go h l w f = (omega arith, λ q. w .1 l, w .2)
 
 object-by-ahead : (inside : ℕ → Passed → Passed) (s : List ℕ) (at : ℕ) (h : Header) → Fits at (length s - at) h
     → ((k from : ℕ) (p : Passed) → at < from → from ≤ length s → AtLeast s from p → Ahead s at (inside k p)) → Ahead s at (objectBy inside s at h)
-object-by-ahead inside s at (header.Refused r) w f = rw w (here s at 2)
-object-by-ahead inside s at (header.End k u) w f = here s at 4
+object-by-ahead inside s at (header.Refused r) w f = rw w (here s at 2 (two at))
+object-by-ahead inside s at (header.End k u) w f = here s at 4 (four at)
 object-by-ahead inside s at (header.Start k c n u) w f =
     let a : at < at + u = omega arith in
     let b : at + u ≤ length s = omega arith in
@@ -106,8 +113,8 @@ ahead-falls s at (done r) a = tt
 
 module _ (s : List ℕ) (object : ℕ → Passed) (kind : ℕ) (ahead : (i : ℕ) → Ahead s i (object i)) where
   turn-ahead : (i : ℕ) (h : Header) → Fits i (length s - i) h → AheadTurn s i (runTurn object kind i h)
-  turn-ahead i (header.Refused r) w = rw w (here s i 2)
-  turn-ahead i (header.End k u) w = pick-all (Ahead s i) (eqb k kind) (To (i + u)) (Refused (faultAt 4 i)) (λ t. omega arith) (λ t. here s i 4)
+  turn-ahead i (header.Refused r) w = rw w (here s i 2 (two i))
+  turn-ahead i (header.End k u) w = pick-all (Ahead s i) (eqb k kind) (To (i + u)) (Refused (faultAt 4 i)) (λ t. omega arith) (λ t. here s i 4 (four i))
   turn-ahead i (header.Start k c n u) w = onward-ahead s i (object i) (ahead i)
 
   pub falls : (i : ℕ) → Falls (λ j. length s - j) i (runTurn object kind i (headerAt s i))
@@ -127,7 +134,7 @@ module _ (s : List ℕ) (object : ℕ → Passed) (kind : ℕ) (ahead : (i : ℕ
 pub object-d-ahead : (d : ℕ) (s : List ℕ) (at : ℕ) → Ahead s at (objectD d s at)
 unfolding objectD
 object-d-ahead zero s at =
-    object-by-ahead (λ k p. Refused (faultAt 6 at)) s at (headerAt s at) (header-fits s at) (λ k from p h l w. here s at 6)
+    object-by-ahead (λ k p. Refused (faultAt 6 at)) s at (headerAt s at) (header-fits s at) (λ k from p h l w. here s at 6 (six at))
 object-d-ahead (suc d) s at =
     object-by-ahead (λ k p. andOn p (λ e. runOf (λ i. objectD d s i) s k e)) s at (headerAt s at) (header-fits s at)
     (λ k from p h l w. and-on-ahead s at from p (λ e. runOf (λ i. objectD d s i) s k e) h l w (run-of-ahead s (λ i. objectD d s i) k (λ i. object-d-ahead d s i)))

@@ -7,7 +7,7 @@ use native.Mathlib.Nat.{add-zero}
 use native.Mathlib.Omega.{arith}
 use lib.ListN.{length, take, drop, length-append, length-drop}
 use lib.Seq.{take-at, length-take-le, drop-append-seam}
-use Rattle.numbers.proofs.OwnBytes.{Agree}
+use Rattle.laws.proofs.Agreement.{Agree}
 use Rattle.objects.specs.Nesting.{objectAt, runAt}
 use Rattle.objects.specs.declared.nesting.Passed.{Passed}
 use Rattle.objects.specs.declared.nesting.Passed.the-variants.{To, Refused}

@@ -24,7 +24,7 @@ use Rattle.numbers.specs.declared.serial.ReadSerial.the-variants as serial
 use Rattle.numbers.proofs.Within.{CompactWithin, compact-within, ExtendedGuidWithin, extended-guid-within, SerialWithin, serial-within}
 use Rattle.objects.specs.Header.{headerAt, lengthAt}
 use Rattle.objects.specs.Nesting.{runAt}
-use Rattle.objects.specs.Steps.{no, placeOf, valued, fixedIn, numberOn, number, numberIsOn, numberIs, nullIdOn, nullId, skip, guidHere, onGuid, idOn, idHere, onId, serialOn, serialHere, onSerial, sameBit, lengthTo, startOn, startHere, lengthIs, startOfLength, endOn, endHere, insideOn, inside, finish, runHere, closedAt, closed, GoodIn, Good}
+use Rattle.objects.specs.Steps.{no, placeOf, valued, need, fixedIn, numberOn, number, numberIsOn, numberIs, nullIdOn, nullId, skip, guidHere, onGuid, idOn, idHere, onId, serialOn, serialHere, onSerial, sameBit, lengthTo, startOn, startHere, lengthIs, startOfLength, endOn, endHere, insideOn, inside, finish, runHere, closedAt, closed, GoodIn, Good}
 use Rattle.objects.specs.declared.header.Header.{Header}
 use Rattle.objects.specs.declared.header.Header.the-variants as header
 use Rattle.objects.specs.declared.header.Length.{Length}
@@ -35,6 +35,7 @@ use Rattle.objects.specs.declared.reading.Reading.{Reading}
 use Rattle.objects.specs.declared.reading.Reading.the-variants.{At, Refused}
 use Rattle.objects.proofs.HeaderLaws.{Fits, header-fits, LengthFits, length-fits}
 use Rattle.objects.proofs.Ahead.{Ahead, run-ahead}
+use Rattle.objects.proofs.ItemsAt.{part-fits}
 
 pub good-front : (d : List ℕ) (v : ℕ) → Good d (At 0 v)
 good-front d v = omega arith
@@ -43,6 +44,11 @@ pub good-valued : (d : List ℕ) (v : ℕ) (c : Reading) → Good d c → Good d
 unfolding valued
 good-valued d v (At at u) g = g
 good-valued d v (Refused r) g = g
+
+pub good-need : (d : List ℕ) (fine : Bool) (k p : ℕ) (c : Reading) → p ≤ length d → Good d c → Good d (need fine k p c)
+unfolding need
+good-need d fine k p (At at v) h g = pick-all (Good d) fine (At at v) (no k p) (λ e. g) (λ e. h)
+good-need d fine k p (Refused r) h g = g
 
 -- ---- fields
 
@@ -152,7 +158,7 @@ unfolding lengthIs
 good-length-is d n p (At from v) h g = pick-all (Good d) (eqb v n) (At from v) (no 5 p) (λ e. g) (λ e. h)
 good-length-is d n p (Refused r) h g = g
 
-good-place : (d : List ℕ) (c : Reading) → Good d c → placeOf c ≤ length d
+pub good-place : (d : List ℕ) (c : Reading) → Good d c → placeOf c ≤ length d
 unfolding placeOf
 good-place d (At at v) g = g
 good-place d (Refused r) g = omega arith
@@ -190,7 +196,7 @@ good-finish d (Refused r) g = g
 -- ---- a data run, read by fields that stay within it
 
 run-fits : (d : List ℕ) (from n : ℕ) → from ≤ length d → from + length (take n (drop from d)) ≤ length d
-run-fits d from n g = omega (arith, length-take n (drop from d), length-drop from d)
+run-fits d from n g = part-fits d from n (length d) g (omega arith)
 
 pub good-closed : (d : List ℕ) (c f : Reading) → Good d c → Good (runHere d c) f → Good d (closed d c f)
 unfolding runHere closedAt

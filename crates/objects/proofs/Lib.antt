@@ -9,3 +9,5 @@ pub mod ItemsAt
 pub mod NullId
 pub mod Keep
 pub mod Written
+pub mod Forward
+pub mod Types

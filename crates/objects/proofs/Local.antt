@@ -12,13 +12,14 @@ use lib.Dec.{eqb}
 use borrow.Author.Tests.{lt-ltb, le-ltb, eq-eqb, ne-eqb}
 use Rattle.laws.specs.Pick.{pick}
 use Rattle.laws.specs.Bytes.{le}
-use Rattle.laws.proofs.Cases.{by-lt, by-eq}
+use Rattle.laws.proofs.Cases.{by-lt, by-eq, impossible}
 use Rattle.laws.proofs.Parts.{same-first, same-part}
 use Rattle.numbers.specs.Refusals.{faultAt}
 use Rattle.numbers.specs.Compact.{readCompact}
 use Rattle.numbers.specs.declared.compact.Compact.{Compact}
 use Rattle.numbers.specs.declared.compact.Compact.the-variants as compact
-use Rattle.numbers.proofs.OwnBytes.{Agree, agree-less, compact-own}
+use Rattle.laws.proofs.Agreement.{Agree, agree-less, agree-drop, agree-append}
+use Rattle.numbers.proofs.OwnBytes.{compact-own}
 use Rattle.objects.specs.Header.{startOf, endOf, sized, headerOf, headerAt, escape, lengthOn, lengthAt}
 use Rattle.objects.specs.Nesting.{dataOn, dataPast, objectAt, runAt}
 use Rattle.objects.specs.declared.header.Header.{Header}
@@ -30,21 +31,6 @@ use Rattle.objects.specs.declared.nesting.Passed.the-variants.{To}
 use Rattle.objects.proofs.HeaderLaws.{header-fits-at, compact-fits}
 use Rattle.objects.proofs.Ahead.{data-ahead-at, run-next}
 use Rattle.objects.proofs.Rules.{no-place, object-plain, object-compound, run-end, run-object, Kept, object-ind, run-ind}
-
--- ---- runs of bytes that agree
-
--- from a place on
-pub agree-drop : (s t : List ℕ) (at n : ℕ) → Agree s t (at + n) → Agree (drop at s) (drop at t) n
-agree-drop s t at n a =
-    record {
-      long = omega (arith, a .long, length-drop at t);
-      same = same-part s t (at + n) at n (omega arith) (a .same);
-    }
-
--- up to a place within the first part
-pub agree-append : (xs ys zs : List ℕ) (e : ℕ) → e ≤ length xs → Agree (xs ++ ys) (xs ++ zs) e
-agree-append xs ys zs e l =
-    record { long = omega (arith, length-append xs zs); same = take-append-le e xs ys l ∙ sym (take-append-le e xs zs l) }
 
 -- ---- the header
 
@@ -119,7 +105,7 @@ length-on-own s t at v from (compact.Value w m) c a e =
     let f = compact-fits s at w m c in
     let b : Agree (drop at s) (drop at t) m = agree-drop s t at m (rw q a) in
     rw (compact-own (drop at s) (drop at t) w m c (f .0) b) e
-length-on-own s t at v from (compact.Refused r) c a e = absurd (let z : _≡_ {A = ℕ} 0 1 = cc in omega arith)
+length-on-own s t at v from (compact.Refused r) c a e = impossible (cc)
 
 pub length-own : (s t : List ℕ) (at n v from : ℕ) → lengthAt s at n ≡ Is v from → Agree s t from → lengthAt t at n ≡ Is v from
 unfolding lengthAt

@@ -19,6 +19,7 @@ use Rattle.numbers.specs.declared.refusal.Refusal.{Refusal}
 use Rattle.numbers.specs.declared.compact.Compact.{Compact}
 use Rattle.numbers.specs.declared.compact.Compact.the-variants as compact
 use Rattle.objects.specs.Header.{startOf, endOf, sized, headerOf, headerAt, escape, lengthOn, lengthAt}
+use Rattle.objects.specs.Steps.{carried}
 use Rattle.objects.specs.Nesting.{dataOn, dataPast, andOn, onward, runTurn, runOf, objectBy, objectD, objectAt, runAt}
 use Rattle.objects.specs.declared.header.Header.{Header}
 use Rattle.objects.specs.declared.header.Header.the-variants as header
@@ -30,22 +31,19 @@ use Rattle.objects.proofs.Ahead.{falls, object-d-ahead}
 
 -- ---- p higher
 
-abbrev pub movedRefusal : ℕ → Refusal → Refusal
-movedRefusal p r = record { number = r .number; input = r .input; place = p + r .place; needed = r .needed }
-
 -- the bytes used stay
 abbrev pub movedHeader : ℕ → Header → Header
 movedHeader p (header.Start k c n u) = header.Start k c n u
 movedHeader p (header.End k u) = header.End k u
-movedHeader p (header.Refused r) = header.Refused (movedRefusal p r)
+movedHeader p (header.Refused r) = header.Refused (carried p r)
 
 abbrev pub movedLength : ℕ → Length → Length
 movedLength p (length′.Is v from) = length′.Is v (p + from)
-movedLength p (length′.Refused r) = length′.Refused (movedRefusal p r)
+movedLength p (length′.Refused r) = length′.Refused (carried p r)
 
 abbrev pub moved : ℕ → Passed → Passed
 moved p (To e) = To (p + e)
-moved p (Refused r) = Refused (movedRefusal p r)
+moved p (Refused r) = Refused (carried p r)
 
 -- through a choice
 pick-moved : {X Y : Type 0} (f : X → Y) (b : Bool) (x y : X) (x′ y′ : Y) → x′ ≡ f x → y′ ≡ f y → pick b x′ y′ ≡ f (pick b x y)

@@ -23,7 +23,7 @@ use Rattle.numbers.proofs.RoundTrip.{read-written}
 use Rattle.numbers.proofs.Guids.{length-guid, guid-read-written}
 use Rattle.numbers.proofs.ExtendedGuids.{extended-guid-read-written}
 use Rattle.numbers.proofs.Serials.{serial-read-written}
-use Rattle.objects.specs.Steps.{fixedIn, number, numberIs, nullId, skip, guidHere, idHere, serialHere, valued, finish, runHere, closedAt, inRun}
+use Rattle.objects.specs.Steps.{fixedIn, number, numberIs, nullId, skip, guidHere, idHere, serialHere, valued, need, finish, runHere, closedAt, inRun}
 use Rattle.objects.specs.declared.reading.Reading.{Reading}
 use Rattle.objects.specs.declared.reading.Reading.the-variants.{At, Refused}
 use Rattle.objects.specs.declared.reading.ReadingGuid.the-variants as guid′
@@ -59,6 +59,11 @@ whole {p} {d} {u} {v} f = f .here d 0 [] (sym (append-nil d)) ∙ ap (λ (x : �
 pub reads-valued : {p : List ℕ → Reading → Reading} (v : ℕ) {u y : ℕ} {w : List ℕ} → Reads p u w y → Reads (λ s c. valued v (p s c)) u w v
 unfolding valued
 reads-valued v f = record { here = λ s at t h. rw (f .here s at t h) }
+
+-- a test that holds
+pub reads-need : (k p : ℕ) {u v : ℕ} {q : List ℕ → Reading → Reading} {w : List ℕ} → Reads q u w v → Reads (λ s c. need true k p (q s c)) u w v
+unfolding need
+reads-need k p f = record { here = λ s at t h. rw (f .here s at t h) }
 
 -- ---- fields
 

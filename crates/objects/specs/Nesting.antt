@@ -19,7 +19,7 @@ use Rattle.objects.specs.declared.header.Length.the-variants as length�
 use Rattle.objects.specs.declared.nesting.Passed.{Passed}
 use Rattle.objects.specs.declared.nesting.Passed.the-variants.{To, Refused}
 
--- ---- the data run: "An undivided run .. is 2 at its own first byte"
+-- ---- the data run, not divided: 2 at its own first byte (D-7)
 
 abbrev pub dataOn : List ℕ → Length → Passed
 dataOn s (length′.Is v from) = pick (ltb (length s - from) v) (Refused (faultAt 2 from)) (To (from + v))

@@ -72,6 +72,10 @@ valueOf (Refused r) = 0
 unfoldable pub valued : ℕ → Reading → Reading
 valued v c = then c (λ at. At at v)
 
+-- refusal k at p, unless a test holds
+unfoldable pub need : Bool → ℕ → ℕ → Reading → Reading
+need fine k p c = then c (λ at. pick fine c (no k p))
+
 -- ---- fields
 
 -- a little-endian number of n bytes, from lo to hi: 2 where a byte is missing, k outside the bounds
@@ -155,9 +159,9 @@ abbrev pub lengthTo : Length → Reading
 lengthTo (length′.Is v from) = At from v
 lengthTo (length′.Refused r) = Refused r
 
--- "An end of another type, or with nothing open, is 4 even where an object is needed; an end of the open object's own type
--- where the layout still needs an object is 5." Then 5 for another type or compound bit, then 9 where there is no room for
--- one more, then the true length's own 2 and 3.
+-- An end of another type, or with nothing open, is 4; an end of the open object's own type, where the layout still needs an
+-- object, is 5 (D-9). Then 5 for another type or compound bit, then 9 where there is no room for one more, then the true
+-- length's own 2 and 3 (D-4).
 abbrev pub startOn : List ℕ → ℕ → ℕ → Bool → Bool → ℕ → Header → Reading
 startOn s outer kind compound room at (header.Refused r) = Refused r
 startOn s outer kind compound room at (header.End k u) = pick (eqb k outer) (no 5 at) (no 4 at)
@@ -165,6 +169,10 @@ startOn s outer kind compound room at (header.Start k b n u) =
     pick (eqb k kind)
     (pick (sameBit b compound) (pick room (lengthTo (lengthAt s (at + u) n)) (no 9 at)) (no 5 at))
     (no 5 at)
+
+-- the type of no object: nothing is open
+abbrev pub nothingOpen : ℕ
+nothingOpen = 0xFFFF
 
 -- the start of an object of this type and compound bit, inside an open object of type `outer`
 unfoldable pub startHere : List ℕ → ℕ → ℕ → Bool → Bool → Reading → Reading
@@ -235,6 +243,11 @@ closed s c f = closedAt c (length (runHere s c)) f
 -- a run read by its fields
 abbrev pub inRun : List ℕ → (List ℕ → Reading) → Reading → Reading
 inRun s fields c = closed s c (fields (runHere s c))
+
+-- at or behind a place
+abbrev pub Behind : ℕ → Reading → Type 0
+Behind p (At at v) = p ≤ at
+Behind p (Refused r) = Unit {0}
 
 -- within the m bytes of a part, a fault's place too
 abbrev pub GoodIn : ℕ → Reading → Type 0

@@ -15,7 +15,7 @@ use crate::reading::Reading;
 use numbers::refusal::Refusal;
 use numbers::refusal::at_place;
 
-// Nothing is open: no end has this type.
+// Nothing is open: no object has this type (proofs/Types).
 pub const NOTHING: u64 = 0xFFFF;
 
 // The place where the data begins, with its length as the number.

@@ -4,7 +4,7 @@ ghost use mathlib.Core.Path.{_≡_};
 ghost use Prim.Native.Nat.{_+_, _-_, _≤_, _<_};
 ghost use lib.ListN.{length, take, drop};
 ghost use Rattle.laws.specs.Bytes.{le};
-ghost use Rattle.objects.specs.Steps.{placeOf, valueOf, valued, fixedIn, number, numberIs, nullId, skip, guidHere, onGuid, idHere, onId, serialHere, onSerial};
+ghost use Rattle.objects.specs.Steps.{placeOf, valueOf, valued, need, fixedIn, number, numberIs, nullId, skip, guidHere, onGuid, idHere, onId, serialHere, onSerial};
 use crate::nesting::left_of;
 use numbers::compact::Compact;
 use numbers::extended_guid::ExtendedGuid;
@@ -66,6 +66,21 @@ impl Reading {
         }
     }
 
+    // Refusal k at p, unless a test holds.
+    pub fn need(self, fine: bool, k: u8, p: usize) -> Reading
+        ensures { λ r. ⌜ r ≡ need fine k p self ⌝ }
+    {
+        match self {
+            Reading::Refused(r) => Reading::Refused(r),
+            Reading::At(at, v) => {
+                if fine {
+                    return Reading::At(at, v);
+                }
+                Reading::Refused(at_place(k, p))
+            }
+        }
+    }
+
     // A little-endian number of n bytes, from lo to hi; else k at its place.
     pub fn fixed_in(self, s: &[u8], n: usize, lo: u64, hi: u64, k: u8) -> Reading
         requires { ⌜ n ≤ 8 ⌝ }
@@ -90,7 +105,7 @@ impl Reading {
         }
     }
 
-    // A compact integer.
+    // A compact integer, with its own 2 and 3.
     pub fn number(self, s: &[u8]) -> Reading
         ensures { λ r. ⌜ r ≡ number (now (s .entry)) self ⌝ }
     {
@@ -147,7 +162,7 @@ impl Reading {
         }
     }
 
-    // A GUID.
+    // A GUID: 2 where a byte is missing.
     pub fn guid(self, s: &[u8]) -> ReadingGuid
         ensures { λ r. ⌜ r ≡ guidHere (now (s .entry)) self ⌝ }
     {
@@ -163,7 +178,7 @@ impl Reading {
         }
     }
 
-    // An extended GUID.
+    // An extended GUID, with its own 2 and 3.
     pub fn extended_guid(self, s: &[u8]) -> ReadingId
         ensures { λ r. ⌜ r ≡ idHere (now (s .entry)) self ⌝ }
     {
@@ -194,7 +209,7 @@ impl Reading {
         }
     }
 
-    // A serial number.
+    // A serial number, with its own 2 and 3.
     pub fn serial(self, s: &[u8]) -> ReadingSerial
         ensures { λ r. ⌜ r ≡ serialHere (now (s .entry)) self ⌝ }
     {

@@ -5,7 +5,6 @@ use native.Mathlib.Omega.{arith}
 use Rattle.objects.proofs.HeaderLaws.{header-fits-at}
 use borrow.Author.Tests.{lt-ltb, le-ltb, eq-eqb, ne-eqb}
 use Rattle.objects.specs.Steps.{endHere}
-use mathlib.Core.Path.{sym, _∙_}
 use borrow.Author.Needs.{needs}
 use Rattle.objects.proofs.reading.Reading.end.Statement.{statement}
 use Rattle.objects.proofs.reading.Reading.end.Tie as tie

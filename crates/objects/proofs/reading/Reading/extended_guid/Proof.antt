@@ -6,7 +6,6 @@ use Rattle.objects.proofs.ItemsAt.{id-past, id-fits}
 use borrow.Author.Tests.{lt-ltb, le-ltb, eq-eqb, ne-eqb}
 use Rattle.laws.proofs.Parts.{tail-part}
 use Rattle.objects.specs.Steps.{idHere}
-use mathlib.Core.Path.{sym, _∙_}
 use borrow.Author.Needs.{needs}
 use Rattle.objects.proofs.reading.Reading.extended_guid.Statement.{statement}
 use Rattle.objects.proofs.reading.Reading.extended_guid.Tie as tie

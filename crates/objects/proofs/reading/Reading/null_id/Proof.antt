@@ -2,7 +2,6 @@
 -- Assumes nothing.
 use Rattle.objects.proofs.NullId.{null-id}
 use mathlib.Core.Path.{sym, _∙_}
-use mathlib.Core.Path.{sym, _∙_}
 use borrow.Author.Needs.{needs}
 use Rattle.objects.proofs.reading.Reading.null_id.Statement.{statement}
 use Rattle.objects.proofs.reading.Reading.null_id.Tie as tie

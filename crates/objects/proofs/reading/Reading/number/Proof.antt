@@ -6,7 +6,6 @@ use Rattle.objects.proofs.HeaderLaws.{compact-past, compact-fits}
 use borrow.Author.Tests.{lt-ltb, le-ltb, eq-eqb, ne-eqb}
 use Rattle.laws.proofs.Parts.{tail-part}
 use Rattle.objects.specs.Steps.{number}
-use mathlib.Core.Path.{sym, _∙_}
 use borrow.Author.Needs.{needs}
 use Rattle.objects.proofs.reading.Reading.number.Statement.{statement}
 use Rattle.objects.proofs.reading.Reading.number.Tie as tie
