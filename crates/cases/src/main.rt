@@ -1,5 +1,6 @@
 // A filter for tests: each line of the input is one case, and gives one line of output (README.md says which). It shows the
 // calls of the libraries from outside, so that a run can be compared with what another program makes of the same cases.
+mod headers;
 mod items;
 mod say;
 mod words;
@@ -41,6 +42,9 @@ fn two_words(line: &[u8], space: &mut [u8]) {
     if check::same(mode, b"serial") {
         return items::serial(s);
     }
+    if check::same(mode, b"header") {
+        return headers::header(s);
+    }
     say::bad()
 }
 
@@ -49,6 +53,9 @@ fn three_words(line: &[u8], out: &mut [u8]) {
     let mode = words::word(line, 0);
     if check::same(mode, b"wcompact") {
         return items::wcompact(line, out);
+    }
+    if check::same(mode, b"wend") {
+        return headers::wend(line, out);
     }
     say::bad()
 }
@@ -65,12 +72,22 @@ fn four_words(line: &[u8], out: &mut [u8]) {
     say::bad()
 }
 
+// `MODE TYPE COMPOUND LENGTH OUTLEN`
+fn five_words(line: &[u8], out: &mut [u8]) {
+    let mode = words::word(line, 0);
+    if check::same(mode, b"wstart") {
+        return headers::wstart(line, out);
+    }
+    say::bad()
+}
+
 // The modes go by how many words a case has, so that a word too many or too few is told.
 fn one_case(line: &[u8], space: &mut [u8], out: &mut [u8]) {
     match words::count(line) {
         2 => two_words(line, space),
         3 => three_words(line, out),
         4 => four_words(line, out),
+        5 => five_words(line, out),
         _ => say::bad(),
     }
 }

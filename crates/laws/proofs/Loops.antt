@@ -1,7 +1,7 @@
 -- The one loop: a bound that is proved not to matter, its equation, induction, uniqueness, and a loop over moved states.
 -- Assumes nothing.
 use mathlib.Core.Path.{_≡_, refl, sym, ap, subst, _∙_}
-use Prim.Native.Nat.{ℕ, zero, suc, _<_, _≤_}
+use Prim.Native.Nat.{ℕ, zero, suc, _<_}
 use native.Mathlib.Omega.{arith}
 use Rattle.laws.specs.Loop.{Turn, after, turns, iterate, mapTurn}
 use Rattle.laws.specs.Loop.Turn.{more, done}

@@ -1,15 +1,13 @@
 -- What the calls for a single item tell, case by case, and that an answer is known by what it tells.
 -- Assumes nothing.
-use mathlib.Core.Path.{_≡_, refl, sym, _∙_}
-use mathlib.Core.List.{List, [], _∷_, _++_}
+use mathlib.Core.Path.{_≡_, sym, _∙_}
+use mathlib.Core.List.{List, _++_}
 use Prim.Native.Nat.{ℕ, _≤_, _<_}
 use lib.ListN.{length, drop}
 use borrow.Author.Tests.{lt-ltb, le-ltb}
-use Rattle.laws.specs.Placed.{placed}
 use Rattle.laws.proofs.Placing.{placed-fits, placed-short}
-use Rattle.numbers.specs.Refusals.{Told, gives, refuses, longestInput, overLong, tooShort, tellWrote}
+use Rattle.numbers.specs.Refusals.{Told, refuses, longestInput, overLong, tooShort}
 use Rattle.numbers.specs.Calls.{single, written, Writes}
-use Rattle.numbers.specs.declared.refusal.Wrote.{Wrote}
 use Rattle.numbers.specs.declared.refusal.Wrote.the-variants.{Done, Refused}
 
 -- ---- reading

@@ -1,6 +1,6 @@
 -- The compact forms, each law over the form k: how long it is, which values it has, and what the code writes for it.
 -- Assumes nothing.
-use mathlib.Core.Path.{_≡_, refl, sym, ap, _∙_}
+use mathlib.Core.Path.{_≡_, refl, ap, _∙_}
 use mathlib.Core.List.{List, [], _∷_, _++_}
 use Prim.Native.Nat.{ℕ, zero, suc, _+_, _-_, _*_, _/_, _%_, _^_, _≤_, _<_, suc-le-suc}
 use native.Mathlib.Nat.{pow-suc, pow-le-pow-right, one-le-pow, zero-lt-suc, mul-suc, mul-mul-mul-comm}

@@ -1,39 +1,34 @@
 -- Reading an item depends only on the item's own bytes: a part that has the same ones in front gives the same item.
 -- Assumes nothing.
-use mathlib.Core.Path.{_≡_, refl, sym, ap, subst, _∙_}
-use mathlib.Core.Bool.{Bool, true, false}
+use mathlib.Core.Path.{_≡_, sym, ap}
+use mathlib.Core.Bool.{Bool, false}
 use mathlib.Core.Logic.{_≢_}
-use mathlib.Core.List.{List, [], _∷_}
-use Prim.Native.Nat.{ℕ, suc, _+_, _-_, _/_, _^_, _≤_, _<_}
+use mathlib.Core.List.{List}
+use Prim.Native.Nat.{ℕ, _+_, _-_, _/_, _^_, _≤_, _<_}
 use native.Mathlib.Omega.{arith}
 use lib.ListN.{length, getD, take, drop}
-use lib.Seq.{take-take, drop-drop}
+use lib.Seq.{drop-drop}
 use lib.Count.{trailingZeros}
-use lib.Dec.{ltb, eqb}
+use lib.Dec.{ltb}
 use borrow.Author.Tests.{lt-ltb, le-ltb, eq-eqb, ne-eqb}
 use Rattle.laws.specs.Bytes.{le}
 use Rattle.laws.proofs.Cases.{by-lt, by-eq, impossible}
 use Rattle.laws.proofs.Parts.{same-first, same-part}
 use Rattle.laws.proofs.Agreement.{Agree, agree-less}
 use Rattle.numbers.specs.Refusals.{fault}
-use Rattle.numbers.specs.Compact.{sizeOf, valueOf, readForm, formAt, strict, readCompact}
+use Rattle.numbers.specs.Compact.{sizeOf, valueOf, readForm, formAt, readCompact}
 use Rattle.numbers.specs.Guid.{guidAt}
 use Rattle.numbers.specs.ExtendedGuid.{namedOf, shortForm, longForm, formOfId, readExtendedGuid}
 use Rattle.numbers.specs.Serial.{numbered, readSerial}
-use Rattle.numbers.specs.declared.compact.Form.{Form}
 use Rattle.numbers.specs.declared.compact.Form.the-variants.{Holds}
 use Rattle.numbers.specs.declared.compact.Form.the-variants as form
-use Rattle.numbers.specs.declared.compact.Compact.{Compact}
 use Rattle.numbers.specs.declared.compact.Compact.the-variants as compact
 use Rattle.numbers.specs.declared.extended_guid.ExtendedGuid.{ExtendedGuid}
 use Rattle.numbers.specs.declared.extended_guid.ExtendedGuid.the-variants.{Named}
-use Rattle.numbers.specs.declared.extended_guid.ReadExtendedGuid.{ReadExtendedGuid}
 use Rattle.numbers.specs.declared.extended_guid.ReadExtendedGuid.the-variants as extended
 use Rattle.numbers.specs.declared.serial.Serial.{Serial}
 use Rattle.numbers.specs.declared.serial.Serial.the-variants.{Numbered}
-use Rattle.numbers.specs.declared.serial.ReadSerial.{ReadSerial}
 use Rattle.numbers.specs.declared.serial.ReadSerial.the-variants as serial
-use Rattle.numbers.proofs.Forms.{size-pos}
 use Rattle.numbers.proofs.RoundTrip.{strict-value}
 
 -- the first byte

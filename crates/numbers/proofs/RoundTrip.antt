@@ -5,7 +5,7 @@ use mathlib.Core.Path.{_≡_, refl, sym, ap, _∙_}
 use mathlib.Core.Logic.{_≢_}
 use mathlib.Core.Bool.{Bool, true, false}
 use mathlib.Core.List.{List, [], _∷_, _++_}
-use Prim.Native.Nat.{ℕ, zero, suc, _+_, _-_, _*_, _/_, _%_, _^_, _≤_, _<_}
+use Prim.Native.Nat.{ℕ, suc, _+_, _-_, _*_, _/_, _%_, _^_, _≤_, _<_}
 use native.Mathlib.Nat.{one-le-pow, pow-le-pow-right, div-lt-iff-lt-mul}
 use native.Mathlib.Numerals.{add-one}
 use native.Mathlib.Omega.{arith}
@@ -15,7 +15,6 @@ use lib.Count.{trailingZeros, trailing-of-zero}
 use lib.Dec.{lit<, ltb}
 use lib.Pow.{pow-pos}
 use borrow.Author.Tests.{eq-eqb, ne-eqb, lt-ltb, le-ltb, ltb-false}
-use Rattle.laws.specs.Pick.{pick}
 use Rattle.laws.specs.Bytes.{AllBytes, le, bytes}
 use Rattle.laws.proofs.Cases.{by-lt, by-eq, impossible}
 use Rattle.laws.proofs.Numbers.{take-bytes, drop-bytes, le-lt, length-bytes, le-bytes, bytes-le, first-byte, low-byte}
@@ -24,10 +23,9 @@ use Rattle.numbers.specs.Compact.{sizeOf, valueOf, readForm, formAt, str
 use Rattle.numbers.specs.declared.compact.Form.{Form}
 use Rattle.numbers.specs.declared.compact.Form.the-variants.{Holds}
 use Rattle.numbers.specs.declared.compact.Form.the-variants as form
-use Rattle.numbers.specs.declared.compact.Compact.{Compact}
 use Rattle.numbers.specs.declared.compact.Compact.the-variants.{Value, Refused}
 use Rattle.numbers.proofs.LowestBit.{zeros-lt, zeros-mod, zeros-marked, zeros-low, marked-value}
-use Rattle.numbers.proofs.Forms.{size-short, size-long, size-pos, form-is, form-of-le, form-of-least, marked-lt, compact-is, length-compact, pow-bytes, value-long}
+use Rattle.numbers.proofs.Forms.{size-short, size-pos, form-is, form-of-le, form-of-least, marked-lt, compact-is, length-compact, pow-bytes, value-long}
 
 -- ---- reading what was written
 

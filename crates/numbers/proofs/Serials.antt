@@ -1,23 +1,20 @@
 -- Serial numbers: what was written reads back, followed by anything, and what is read is what is written for it.
 -- Assumes nothing.
-use mathlib.Core.Path.{_≡_, refl, sym, ap, _∙_}
+use mathlib.Core.Path.{_≡_, refl, _∙_}
 use mathlib.Core.Logic.{_≢_}
-use mathlib.Core.List.{List, [], _∷_, _++_, append-assoc}
+use mathlib.Core.List.{List, [], _∷_, _++_}
 use Prim.Native.Nat.{ℕ, suc, _+_, _-_, _^_, _≤_, _<_}
 use native.Mathlib.Omega.{arith}
-use lib.ListN.{length, getD, take, drop, length-append, length-drop, length-take}
-use lib.Seq.{drop-drop, take-at, drop-at, take-add, length-take-le}
+use lib.ListN.{length, getD, take, drop, length-append}
 use borrow.Author.Tests.{lt-ltb, le-ltb, eq-eqb, ne-eqb}
 use Rattle.laws.specs.Bytes.{AllBytes, le, bytes}
 use Rattle.laws.proofs.Cases.{by-lt, by-eq, impossible}
-use Rattle.laws.proofs.Numbers.{length-bytes, le-lt, take-bytes, drop-bytes, le-bytes, bytes-le}
 use Rattle.numbers.specs.Refusals.{fault}
 use Rattle.numbers.specs.Guid.{guidAt, guidBytes, taggedBytes, GuidFits}
 use Rattle.numbers.specs.Serial.{numbered, readSerial, serialBytes, SerialFits}
 use Rattle.numbers.specs.declared.guid.Guid.{Guid}
 use Rattle.numbers.specs.declared.serial.Serial.{Serial}
 use Rattle.numbers.specs.declared.serial.Serial.the-variants.{Null, Numbered}
-use Rattle.numbers.specs.declared.serial.ReadSerial.{ReadSerial}
 use Rattle.numbers.specs.declared.serial.ReadSerial.the-variants.{Value, Refused}
 use Rattle.numbers.proofs.Guids.{tagged-parts, tagged-same, length-tagged}
 

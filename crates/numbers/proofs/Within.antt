@@ -1,18 +1,18 @@
 -- An item that is read is not empty and lies within its part; a fault of an item is 2 or 3 at its place, the part's front.
 -- Assumes nothing.
-use mathlib.Core.Path.{_≡_, refl, sym, ap, subst, _∙_}
-use mathlib.Core.Bool.{Bool, true, false}
+use mathlib.Core.Path.{_≡_, refl}
+use mathlib.Core.Bool.{true, false}
 use mathlib.Core.Logic.{_⊎_, inl, inr}
-use mathlib.Core.List.{List, [], _∷_}
-use Prim.Native.Nat.{ℕ, suc, _+_, _/_, _^_, _≤_, _<_}
+use mathlib.Core.List.{List}
+use Prim.Native.Nat.{ℕ, _≤_, _<_}
 use native.Mathlib.Omega.{arith}
-use lib.ListN.{length, getD, take, drop}
+use lib.ListN.{length, getD}
 use lib.Count.{trailingZeros}
 use lib.Dec.{ltb, eqb}
 use borrow.Author.Tests.{ltb-false, eqb-false}
 use Rattle.laws.proofs.Cases.{pick-all}
 use Rattle.numbers.specs.Refusals.{fault}
-use Rattle.numbers.specs.Compact.{sizeOf, valueOf, readForm, formAt, strict, readCompact}
+use Rattle.numbers.specs.Compact.{sizeOf, readForm, formAt, strict, readCompact}
 use Rattle.numbers.specs.ExtendedGuid.{namedOf, shortForm, longForm, formOfId, readExtendedGuid}
 use Rattle.numbers.specs.Serial.{numbered, readSerial}
 use Rattle.numbers.specs.declared.refusal.Refusal.{Refusal}

@@ -1,21 +1,24 @@
--- For each call for a single item, two wrong answers that its promise rules out, each tried on a named input.
+-- For each call for a single item, and for two calls beneath, two wrong answers that its promise rules out, each tried on a
+-- named input.
 -- Assumes nothing.
-use mathlib.Core.Path.{_≡_, refl, ap}
+use mathlib.Core.Path.{_≡_, ap}
 use Prim.Native.Nat.{ℕ}
+use mathlib.Core.Bool.{true, false}
 use mathlib.Core.List.{List, [], _∷_}
 use native.Mathlib.Omega.{arith}
-use lib.ListN.{length}
 use lib.Count.{trailingZeros}
-use Rattle.laws.specs.Bytes.{le, bytes}
+use Rattle.laws.specs.Bytes.{le, bytes, before}
+use Rattle.laws.proofs.Cases.{impossible}
 use Rattle.laws.specs.Placed.{placed}
 use Rattle.numbers.specs.Refusals.{Told, fault, tooShort}
-use Rattle.numbers.specs.Compact.{sizeOf, valueOf, readForm, formAt, strict, readCompact, formFrom, formOf, marked, compactBytes}
-use Rattle.numbers.specs.Guid.{guidAt, guidBytes, taggedBytes}
-use Rattle.numbers.specs.ExtendedGuid.{namedOf, shortForm, longForm, formOfId, readExtendedGuid, shortBytes, namedBytes, extendedGuidBytes}
+use Rattle.numbers.specs.Compact.{sizeOf, valueOf, readForm, formAt, readCompact, formFrom, formOf, marked, compactBytes}
+use Rattle.numbers.specs.Guid.{guidAt, guidBytes, taggedBytes, guidBefore}
+use Rattle.numbers.specs.ExtendedGuid.{namedOf, shortForm, formOfId, readExtendedGuid, shortBytes, namedBytes, extendedGuidBytes}
 use Rattle.numbers.specs.Serial.{numbered, readSerial, serialBytes}
 use Rattle.numbers.specs.Calls.{single, written, ReadsCompact, ReadsExtendedGuid, ReadsSerial, WritesCompact, WritesExtendedGuid, WritesSerial}
 use Rattle.numbers.specs.declared.guid.Guid.{Guid}
 use Rattle.numbers.specs.declared.refusal.Wrote.the-variants as wrote
+use Rattle.numbers.specs.declared.compact.Form.the-variants as form
 use Rattle.numbers.specs.declared.compact.Compact.the-variants as compact
 use Rattle.numbers.specs.declared.extended_guid.ExtendedGuid.the-variants as id
 use Rattle.numbers.specs.declared.extended_guid.ReadExtendedGuid.the-variants as extended
@@ -103,3 +106,27 @@ needs-less h = let z : _≡_ {A = ℕ} 24 25 = ap (λ (t : Told). t .needed) (h 
 null-of-two : WritesSerial number.Null (9 ∷ 9 ∷ []) (wrote.Done 2) (0 ∷ 0 ∷ []) → ⊥
 unfolding placed serialBytes
 null-of-two h = let z = h .1 in let y : _≡_ {A = ℕ} 0 9 = cc in omega arith
+
+-- ---- form_at
+
+-- the two bytes `02 00` are longer than needed
+not-longer : formAt (0x02 ∷ 0x00 ∷ []) ≡ form.Holds 0 2 false → ⊥
+unfolding formAt readForm valueOf sizeOf le trailingZeros
+not-longer h = impossible (cc)
+
+-- `80` alone is cut
+cut-holds : formAt (0x80 ∷ []) ≡ form.Holds 0 1 true → ⊥
+unfolding formAt readForm valueOf sizeOf le trailingZeros
+cut-holds h = impossible (cc)
+
+-- ---- comes_before
+
+-- `01 00..` does not come before `00 01 00..`, though its little-endian number is the lower
+by-numbers : guidBefore (record { low = 1; high = 0 }) (record { low = 256; high = 0 }) ≡ true → ⊥
+unfolding guidBefore guidBytes before bytes
+by-numbers h = impossible (cc)
+
+-- a GUID does not come before itself
+before-itself : guidBefore nothing nothing ≡ true → ⊥
+unfolding guidBefore guidBytes before bytes
+before-itself h = impossible (cc)

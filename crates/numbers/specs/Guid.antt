@@ -1,4 +1,5 @@
--- A GUID: sixteen bytes, held as two little-endian numbers, and in order by its sixteen bytes.
+-- A GUID: sixteen bytes, held as two little-endian numbers, and in order by its sixteen bytes; and the form that puts byte
+-- 128 before one and a number behind it.
 -- Assumes nothing.
 use Prim.Native.Nat.{ℕ, _+_, _^_, _<_}
 use mathlib.Core.Bool.{Bool}

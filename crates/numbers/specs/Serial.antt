@@ -8,7 +8,6 @@ use Rattle.laws.specs.Pick.{pick}
 use Rattle.laws.specs.Bytes.{le}
 use Rattle.numbers.specs.Refusals.{fault}
 use Rattle.numbers.specs.Guid.{guidAt, taggedBytes, GuidFits}
-use Rattle.numbers.specs.declared.guid.Guid.{Guid}
 use Rattle.numbers.specs.declared.serial.Serial.{Serial}
 use Rattle.numbers.specs.declared.serial.Serial.the-variants.{Null, Numbered}
 use Rattle.numbers.specs.declared.serial.ReadSerial.{ReadSerial}

@@ -58,7 +58,8 @@ fn read_form(s: &[u8], k: usize) -> Form
     Form::Holds(v, n, v < least)
 }
 
-// The form at the front of s.
+// The form at the front of s. Ruled out (proofs/WrongAnswers): telling that `02 00` is no longer than needed; a value from
+// `80` alone.
 pub fn form_at(s: &[u8]) -> Form
     ensures { λ r. ⌜ r ≡ formAt (now (s .entry)) ⌝ }
 {

@@ -1,4 +1,4 @@
-// GUIDs: sixteen bytes as two little-endian numbers, and their order.
+// GUIDs: sixteen bytes as two little-endian numbers, their order, and the form that puts byte 128 before one.
 ghost use mathlib.Core.Path.{_≡_};
 ghost use mathlib.Core.List.{_++_};
 ghost use Prim.Native.Nat.{_+_, _≤_};
@@ -45,6 +45,7 @@ fn put_tagged(out: &mut [u8], n: usize, g: Guid, x: u64)
     put_le(&mut out[17..], n, x);
 }
 
+// The longest form of an extended GUID or of a serial number, as a single item.
 pub fn write_tagged(out: &mut [u8], n: usize, g: Guid, x: u64) -> Wrote
     requires { ⌜ n ≤ 8 ⌝ }
     ensures { λ r. ⌜ Writes (taggedBytes n g x) (now (out .entry)) r (now (out .exit)) ⌝ }
@@ -71,7 +72,8 @@ pub fn swap(x: u64) -> u64
         + x / 72057594037927936 % 256
 }
 
-// Whether a's sixteen bytes come before b's.
+// Whether a's sixteen bytes come before b's. Ruled out (proofs/WrongAnswers): the order of the little-endian numbers; a GUID
+// before itself.
 pub fn comes_before(a: Guid, b: Guid) -> bool
     ensures { λ r. ⌜ r ≡ guidBefore a b ⌝ }
 {

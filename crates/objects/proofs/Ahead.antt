@@ -2,17 +2,17 @@
 -- the input's end, and it is 2, 3, 4 or 6. And the equations of both at a header that is known.
 -- Assumes nothing.
 use mathlib.Core.Path.{_≡_, refl, sym, subst, ap, _∙_}
-use mathlib.Core.Bool.{Bool, true, false}
-use mathlib.Core.Logic.{_⊎_, inl, inr}
+use mathlib.Core.Bool.{Bool}
+use mathlib.Core.Logic.{inl, inr}
 use mathlib.Core.List.{List}
 use Prim.Native.Nat.{ℕ, zero, suc, _+_, _-_, _<_, _≤_}
 use native.Mathlib.Omega.{arith}
 use native.Mathlib.Numerals.{sub-one}
 use lib.ListN.{length}
 use lib.Dec.{ltb, eqb, eqb·suc-zero}
-use borrow.Author.Tests.{ltb-true, ltb-false}
+use borrow.Author.Tests.{ltb-false}
 use Rattle.laws.specs.Pick.{pick}
-use Rattle.laws.specs.Loop.{Turn, after, iterate}
+use Rattle.laws.specs.Loop.{Turn, after}
 use Rattle.laws.specs.Loop.Turn.{more, done}
 use Rattle.laws.proofs.Cases.{pick-all}
 use Rattle.laws.proofs.Loops.{Falls, iterate-at, iterate-ind}

@@ -1,16 +1,15 @@
 -- What every header has: it is not empty and lies within the input, and what is behind the input; the true length too.
 -- Assumes nothing.
-use mathlib.Core.Path.{_≡_, refl, sym, subst, ap, _∙_}
-use mathlib.Core.Bool.{Bool, true, false}
+use mathlib.Core.Path.{_≡_, refl, subst}
 use mathlib.Core.Logic.{_⊎_, inl, inr}
 use mathlib.Core.List.{List, []}
-use Prim.Native.Nat.{ℕ, _+_, _-_, _/_, _%_, _<_, _≤_}
+use Prim.Native.Nat.{ℕ, _+_, _-_, _%_, _<_, _≤_}
 use native.Mathlib.Omega.{arith}
 use lib.ListN.{length, getD, take, drop, length-drop, drop-of-length-le}
 use lib.Dec.{ltb, eqb}
-use borrow.Author.Tests.{ltb-false, eqb-false, eq-eqb, ne-eqb}
+use borrow.Author.Tests.{ltb-false}
 use Rattle.laws.specs.Bytes.{le}
-use Rattle.laws.proofs.Cases.{pick-all, by-eq}
+use Rattle.laws.proofs.Cases.{pick-all}
 use Rattle.numbers.specs.Refusals.{fault, faultAt}
 use Rattle.numbers.specs.Compact.{formAt, readCompact}
 use Rattle.numbers.specs.declared.refusal.Refusal.{Refusal}

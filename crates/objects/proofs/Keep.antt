@@ -1,12 +1,12 @@
 -- Every step stays within the part that it reads, with a fault's place too.
 -- Assumes nothing.
-use mathlib.Core.Path.{_≡_, refl, sym, subst}
-use mathlib.Core.Bool.{Bool, true, false}
-use mathlib.Core.Logic.{_⊎_, inl, inr}
-use mathlib.Core.List.{List, []}
+use mathlib.Core.Path.{_≡_}
+use mathlib.Core.Bool.{Bool, false}
+use mathlib.Core.Logic.{inl, inr}
+use mathlib.Core.List.{List}
 use Prim.Native.Nat.{ℕ, _-_, _+_, _<_, _≤_}
 use native.Mathlib.Omega.{arith}
-use lib.ListN.{length, take, drop, length-drop, length-take}
+use lib.ListN.{length, take, drop, length-drop}
 use lib.Dec.{ltb, eqb}
 use borrow.Author.Tests.{ltb-false}
 use Rattle.laws.specs.Bytes.{le}
@@ -24,7 +24,7 @@ use Rattle.numbers.specs.declared.serial.ReadSerial.the-variants as serial
 use Rattle.numbers.proofs.Within.{CompactWithin, compact-within, ExtendedGuidWithin, extended-guid-within, SerialWithin, serial-within}
 use Rattle.objects.specs.Header.{headerAt, lengthAt}
 use Rattle.objects.specs.Nesting.{runAt}
-use Rattle.objects.specs.Steps.{no, placeOf, valued, need, fixedIn, numberOn, number, numberIsOn, numberIs, nullIdOn, nullId, skip, guidHere, onGuid, idOn, idHere, onId, serialOn, serialHere, onSerial, sameBit, lengthTo, startOn, startHere, lengthIs, startOfLength, endOn, endHere, insideOn, inside, finish, runHere, closedAt, closed, GoodIn, Good}
+use Rattle.objects.specs.Steps.{no, placeOf, valued, need, fixedIn, numberOn, number, numberIsOn, numberIs, nullIdOn, nullId, skip, guidHere, onGuid, idOn, idHere, onId, serialOn, serialHere, onSerial, sameBit, lengthTo, startOn, startHere, lengthIs, startOfLength, endOn, endHere, insideOn, inside, finish, runHere, closedAt, closed, Good}
 use Rattle.objects.specs.declared.header.Header.{Header}
 use Rattle.objects.specs.declared.header.Header.the-variants as header
 use Rattle.objects.specs.declared.header.Length.{Length}

@@ -1,4 +1,5 @@
 pub mod HeaderLaws
+pub mod HeaderForms
 pub mod Ahead
 pub mod Shift
 pub mod Rules
@@ -8,6 +9,15 @@ pub mod Carry
 pub mod ItemsAt
 pub mod NullId
 pub mod Keep
-pub mod Written
 pub mod Forward
+pub mod WholeHeaders
+pub mod Calls
+pub mod HeadersBack
+pub mod HeadersRead
 pub mod Types
+pub mod Written
+pub mod ObjectsWritten
+pub mod Telling
+pub mod OneAnswers
+pub mod WrongAnswers
+pub mod CasesHold

@@ -6,14 +6,13 @@ use mathlib.Core.Logic.{_≢_}
 use mathlib.Core.List.{List, _++_}
 use Prim.Native.Nat.{ℕ, _+_, _-_, _%_, _≤_, _<_}
 use native.Mathlib.Omega.{arith}
-use lib.ListN.{length, getD, take, drop, length-drop, length-append}
-use lib.Seq.{take-append-le}
+use lib.ListN.{length, getD, take, drop}
 use lib.Dec.{eqb}
 use borrow.Author.Tests.{lt-ltb, le-ltb, eq-eqb, ne-eqb}
 use Rattle.laws.specs.Pick.{pick}
 use Rattle.laws.specs.Bytes.{le}
 use Rattle.laws.proofs.Cases.{by-lt, by-eq, impossible}
-use Rattle.laws.proofs.Parts.{same-first, same-part}
+use Rattle.laws.proofs.Parts.{same-first}
 use Rattle.numbers.specs.Refusals.{faultAt}
 use Rattle.numbers.specs.Compact.{readCompact}
 use Rattle.numbers.specs.declared.compact.Compact.{Compact}

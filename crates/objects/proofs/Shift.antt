@@ -15,7 +15,6 @@ use Rattle.laws.specs.Loop.Turn.{done}
 use Rattle.laws.proofs.Loops.{iterate-map}
 use Rattle.numbers.specs.Refusals.{faultAt}
 use Rattle.numbers.specs.Compact.{readCompact}
-use Rattle.numbers.specs.declared.refusal.Refusal.{Refusal}
 use Rattle.numbers.specs.declared.compact.Compact.{Compact}
 use Rattle.numbers.specs.declared.compact.Compact.the-variants as compact
 use Rattle.objects.specs.Header.{startOf, endOf, sized, headerOf, headerAt, escape, lengthOn, lengthAt}

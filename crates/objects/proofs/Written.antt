@@ -2,13 +2,13 @@
 -- stands at `at`.
 -- Assumes nothing.
 use mathlib.Core.Path.{_≡_, refl, sym, ap, _∙_}
-use mathlib.Core.Bool.{Bool, true, false}
-use mathlib.Core.List.{List, [], _∷_, _++_, append-assoc, append-nil}
+use mathlib.Core.Bool.{true}
+use mathlib.Core.List.{List, [], _++_, append-assoc, append-nil}
 use Prim.Native.Nat.{ℕ, _+_, _-_, _^_, _<_, _≤_}
 use native.Mathlib.Omega.{arith}
 use lib.ListN.{length, take, drop, length-drop, length-append}
 use lib.Seq.{take-at, drop-append-seam, take-append-seam, drop-drop}
-use borrow.Author.Tests.{lt-ltb, le-ltb, eq-eqb}
+use borrow.Author.Tests.{le-ltb, eq-eqb}
 use Rattle.laws.specs.Bytes.{le, bytes}
 use Rattle.laws.proofs.Numbers.{length-bytes, le-bytes}
 use Rattle.numbers.specs.Compact.{compactBytes}
@@ -25,7 +25,7 @@ use Rattle.numbers.proofs.ExtendedGuids.{extended-guid-read-written}
 use Rattle.numbers.proofs.Serials.{serial-read-written}
 use Rattle.objects.specs.Steps.{fixedIn, number, numberIs, nullId, skip, guidHere, idHere, serialHere, valued, need, finish, runHere, closedAt, inRun}
 use Rattle.objects.specs.declared.reading.Reading.{Reading}
-use Rattle.objects.specs.declared.reading.Reading.the-variants.{At, Refused}
+use Rattle.objects.specs.declared.reading.Reading.the-variants.{At}
 use Rattle.objects.specs.declared.reading.ReadingGuid.the-variants as guid′
 use Rattle.objects.specs.declared.reading.ReadingId.the-variants as id′
 use Rattle.objects.specs.declared.reading.ReadingSerial.the-variants as serial′

@@ -1,4 +1,6 @@
 pub mod Header
 pub mod Nesting
 pub mod Steps
+pub mod Tellings
 pub mod Calls
+pub mod Cases

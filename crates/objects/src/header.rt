@@ -1,21 +1,14 @@
-// Stream object headers: 16- and 32-bit starts, 8- and 16-bit ends, read and written.
+// Stream object headers: 16- and 32-bit starts, 8- and 16-bit ends, read.
 ghost use mathlib.Core.Path.{_≡_};
-ghost use Prim.Native.Nat.{_≤_, _<_, _^_};
-ghost use lib.ListN.{length};
-ghost use Rattle.numbers.specs.Calls.{Writes};
-ghost use Rattle.objects.specs.Header.{startOf, endOf, sized, headerOf, headerAt, lengthAt, wholeHeader, startNumber, longStart, startBytes, endBytes};
-ghost use Rattle.objects.specs.Calls.{ReadsHeader, WritesStart, WritesEnd};
-ghost use Rattle.laws.specs.Bytes.{bytes};
-use numbers::bytes::put_le;
+ghost use Prim.Native.Nat.{_≤_, _<_};
+ghost use Rattle.objects.specs.Header.{startOf, endOf, sized, headerOf, headerAt, lengthAt, wholeHeader};
+ghost use Rattle.objects.specs.Calls.{ReadsHeader};
 use numbers::bytes::read_le;
 use numbers::compact::Compact;
 use numbers::refusal::LONGEST_INPUT;
 use numbers::refusal::Refusal;
-use numbers::refusal::Wrote;
-use numbers::refusal::at_front;
 use numbers::refusal::at_place;
 use numbers::refusal::over_long;
-use numbers::refusal::too_short;
 
 // A header: the type, the compound bit, the length as the header has it, and the header's bytes.
 pub enum Header {

@@ -42,7 +42,8 @@ pub fn data_past(s: &[u8], at: usize, n: u64) -> Passed
     }
 }
 
-// The object at a place of the input, with so many compound objects still to be opened.
+// The object at a place of the input, with so many compound objects still to be opened. Ruled out (proofs/WrongAnswers): `0C
+// 00 05` ended at 2, behind its own data; the same taken with no level left.
 pub fn read_object(s: &[u8], at: usize, depth: usize) -> Passed
     ensures { λ r. ⌜ r ≡ objectAt (now (s .entry)) at depth ⌝ }
 {
@@ -65,7 +66,8 @@ pub fn read_object(s: &[u8], at: usize, depth: usize) -> Passed
     }
 }
 
-// Objects up to the end of the open object of type `kind`.
+// Objects up to the end of the open object of type `kind`. Ruled out (proofs/WrongAnswers): `09`, an end of type 2, taken
+// for one of type 1; a run without an end.
 pub fn read_run(s: &[u8], at: usize, depth: usize, kind: u64) -> Passed
     ensures { λ r. ⌜ r ≡ runAt (now (s .entry)) at depth kind ⌝ }
 {

@@ -1,3 +1,5 @@
+-- `every_line` meets its contract.
+-- Assumes nothing.
 -- The start of the next line stays within the input, and the lent space keeps its length; the measure is what is left.
 use Prim.Native.Nat.{_-_, _≤_}
 use lib.ListN.{length}

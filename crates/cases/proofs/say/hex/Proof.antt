@@ -1,3 +1,5 @@
+-- `say::hex` meets its contract.
+-- Assumes nothing.
 -- The place stays within and the local space keeps its length; the measure is what is left.
 use Prim.Native.Nat.{_-_, _≤_}
 use lib.ListN.{length}

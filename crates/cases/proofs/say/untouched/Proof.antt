@@ -1,3 +1,5 @@
+-- `say::untouched` meets its contract.
+-- Assumes nothing.
 -- No byte before the index was changed; the measure is what is left.
 use Prim.Native.Nat.{ℕ, _-_, _≤_, _<_}
 use lib.ListN.{length, getD}

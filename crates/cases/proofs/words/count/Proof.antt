@@ -1,3 +1,5 @@
+-- `words::count` meets its contract.
+-- Assumes nothing.
 -- There are at most as many blanks as bytes passed.
 use Prim.Native.Nat.{_+_, _-_, _≤_, _<_}
 use lib.ListN.{length}

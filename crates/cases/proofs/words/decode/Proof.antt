@@ -1,3 +1,5 @@
+-- `words::decode` meets its contract.
+-- Assumes nothing.
 -- The index stays within and the lent space keeps its length; the measure is what is left.
 use Prim.Native.Nat.{_-_, _≤_}
 use lib.ListN.{length}

@@ -1,3 +1,5 @@
+-- `words::find` meets its contract.
+-- Assumes nothing.
 -- No byte from `from` to the index is b; the measure is what is left.
 use Prim.Native.Nat.{ℕ, _-_, _≤_, _<_}
 use lib.ListN.{length, getD}

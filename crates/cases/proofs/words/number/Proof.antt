@@ -1,3 +1,5 @@
+-- `words::number` meets its contract.
+-- Assumes nothing.
 -- The index stays within; the tests before each step keep the value within 64 bits.
 use Prim.Native.Nat.{_-_, _≤_}
 use lib.ListN.{length}

@@ -1,3 +1,5 @@
+-- `words::word` meets its contract.
+-- Assumes nothing.
 -- The start of the next word stays within the line; the measure is how many words are left to pass.
 use Prim.Native.Nat.{_≤_}
 use lib.ListN.{length}
