@@ -1,5 +1,5 @@
 -- An object or a run that is read lies ahead of its start and within the input; a fault's place lies between the start and
--- the input's end, and it is 2, 3, 4 or 6. And the equations of both at a header that is known.
+-- the input's end, if the start is within the input, and it is 2, 3, 4 or 6. And the equations of both at a header that is known.
 -- Assumes nothing.
 use mathlib.Core.Path.{_≡_, refl, sym, subst, ap, _∙_}
 use mathlib.Core.Bool.{Bool}

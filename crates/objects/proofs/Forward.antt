@@ -1,4 +1,4 @@
--- The steps for objects go forward: from at or behind a place to at or behind it.
+-- A start, a data run and nested contents go forward: what begins at or behind a place ends at or behind it.
 -- Assumes nothing.
 use mathlib.Core.Bool.{Bool}
 use mathlib.Core.List.{List}

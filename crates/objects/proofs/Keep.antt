@@ -1,4 +1,4 @@
--- Every step stays within the part that it reads, with a fault's place too.
+-- Every step stays within the part that it reads, with a fault's place too; a place that is given to a step must lie within.
 -- Assumes nothing.
 use mathlib.Core.Path.{_≡_}
 use mathlib.Core.Bool.{Bool, false}

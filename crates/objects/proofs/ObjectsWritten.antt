@@ -1,4 +1,5 @@
--- What was written of objects reads back by the steps: starts, ends, contents that are nested, and the end of the input.
+-- What was written of objects reads back by the steps: starts, ends, contents that are nested, and whether a start of a type
+-- stands next.
 -- Assumes nothing.
 use mathlib.Core.Path.{_≡_, refl, sym, ap, _∙_}
 use mathlib.Core.Bool.{Bool, true, false}

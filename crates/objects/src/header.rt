@@ -10,7 +10,8 @@ use numbers::refusal::Refusal;
 use numbers::refusal::at_place;
 use numbers::refusal::over_long;
 
-// A header: the type, the compound bit, the length as the header has it, and the header's bytes.
+// A header: the type, the compound bit, the length and the bytes used. `header_at` gives the length as the header has it,
+// `item` and `read_header` the true one, whose bytes then count among those used.
 pub enum Header {
     Start(u64, bool, u64, usize),
     End(u64, usize),

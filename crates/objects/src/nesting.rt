@@ -1,5 +1,5 @@
-// One object and a run of objects, which call each other: the depth falls from call to call, the bytes left from turn to
-// turn. The run is a loop, so that the stack grows with the depth alone.
+// One object and a run of objects, which call each other: the depth falls with each compound object that is opened, the
+// bytes left from turn to turn. The run is a loop, so that the stack grows with the depth alone.
 ghost use mathlib.Core.Path.{_≡_};
 ghost use Prim.Native.Nat.{_-_};
 ghost use Rattle.objects.specs.Nesting.{dataPast, objectAt, runAt};

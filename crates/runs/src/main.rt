@@ -1,7 +1,6 @@
-// Runs what no single item shows: two million objects in one run, which must not touch the stack, and objects nested as
+// Runs what no single item shows: two million objects in one run, which must not grow the stack, and objects nested as
 // deep as is allowed and one deeper, in a store or request (16) and in an answer (17).
 ghost use Prim.Native.Nat.{_+_, _*_, _≤_};
-ghost use mathlib.Core.Path.{_≡_};
 ghost use lib.ListN.{length};
 use objects::nesting::Passed;
 
