@@ -1,0 +1,88 @@
+-- An element found by its position is the one whose row stands there.
+-- Assumes nothing.
+use mathlib.Core.Path.{_≡_, refl}
+use mathlib.Core.List.{List, [], _∷_, _++_, map, append-assoc}
+use Prim.Native.Nat.{ℕ, zero, suc, _+_, _*_, _≤_, _<_}
+use native.Mathlib.Omega.{arith}
+use lib.ListN.{length, getD, length-append}
+use lib.Seq.{getD-append-add}
+use lib.Dec.{ltb}
+use Rattle.laws.proofs.Cases.{pick-all, impossible}
+use Rattle.numbers.specs.Refusals.{faultAt, longestInput}
+use Rattle.objects.specs.Steps.{nextIs}
+use Rattle.objects.specs.declared.reading.Reading.{Reading}
+use Rattle.objects.specs.declared.reading.Reading.the-variants as reading
+use Rattle.store.specs.Element.{elementAt}
+use Rattle.store.specs.Tables.{rowOf, flat, rowsOf}
+use Rattle.store.specs.Store.{Walk, onElement, walkFrom, storeWalk, packageStart, storedOf, storeAnswer}
+use Rattle.store.specs.Accessor.{elementIn, foundOn, foundIn}
+use Rattle.store.specs.declared.element.Element.{Element}
+use Rattle.store.specs.declared.element.ReadElement.{ReadElement}
+use Rattle.store.specs.declared.element.ReadElement.the-variants as element
+use Rattle.numbers.specs.declared.refusal.Refusal.{Refusal}
+use Rattle.store.specs.declared.package.Stored.the-variants as stored
+use Rattle.store.specs.declared.accessor.Found.the-variants.{At, Refused}
+
+pub found-row : (done : List Element) (t : List ℕ) (i : ℕ) → i < length done
+    → elementIn done i ≡ At (getD (rowsOf done ++ t) (i * 6) 0) (getD (rowsOf done ++ t) (i * 6 + 1) 0)
+unfolding elementIn flat
+found-row [] t i h = absurd (omega arith)
+found-row (x ∷ done) t zero h = refl
+found-row (x ∷ done) t (suc i) h =
+    let e : (rowOf x ++ rowsOf done) ++ t ≡ rowOf x ++ (rowsOf done ++ t) = append-assoc (rowOf x) (rowsOf done) t in
+    let a : suc i * 6 ≡ 6 + i * 6 = omega arith in
+    let b : 6 + i * 6 + 1 ≡ 6 + (i * 6 + 1) = omega arith in
+    rw (e, a, b, getD-append-add (rowOf x) (rowsOf done ++ t) (i * 6) 0, getD-append-add (rowOf x) (rowsOf done ++ t) (i * 6 + 1) 0)
+    (found-row done t i (omega arith))
+
+pub found-none : (done : List Element) (i : ℕ) → length done ≤ i → elementIn done i ≡ Refused (faultAt 9 0)
+unfolding elementIn
+found-none [] i h = refl
+found-none (x ∷ done) zero h = absurd (omega arith)
+found-none (x ∷ done) (suc i) h = found-none done i (omega arith)
+
+-- ---- at most 256 elements
+
+on-most : (go : List Element → Reading → Walk) (done : List Element) (r : ReadElement) (most : ℕ) → length done ≤ most
+    → ((x : Element) (c : Reading) → length (go (done ++ (x ∷ [])) c .elements) ≤ most) → length (onElement go done r .elements) ≤ most
+on-most go done (element.Is x) most h f = f x (reading.At (x .place + x .length) 0)
+on-most go done (element.Refused r) most h f = h
+
+walk-most : (left : ℕ) (s : List ℕ) (done : List Element) (c : Reading) → length (walkFrom left s done c .elements) ≤ length done + left
+unfolding walkFrom
+walk-most zero s done c =
+    pick-all (λ (w : Walk). length (w .elements) ≤ length done + 0) (nextIs s 0x01 c) _ _ (λ e. omega arith) (λ e. omega arith)
+walk-most (suc left) s done c =
+    pick-all (λ (w : Walk). length (w .elements) ≤ length done + suc left) (nextIs s 0x01 c) _ _
+    (λ e.
+    on-most (λ more e. walkFrom left s more e) done
+    (elementAt 14 (map (λ (x : Element). x .id) done) (map (λ (x : Element). x .serial) done) s c) (length done + suc left) (omega arith)
+    (λ x d. let l = length-append done (x ∷ []) in let m = walk-most left s (done ++ (x ∷ [])) d in omega arith))
+    (λ e. omega arith)
+
+pub store-most : (s : List ℕ) → length (storeWalk s .elements) ≤ 256
+unfolding storeWalk
+store-most s =
+    pick-all (λ (w : Walk). length (w .elements) ≤ 256) (ltb longestInput (length s)) _ _ (λ e. omega arith)
+    (λ e. let m = walk-most 256 s [] (packageStart s) in omega arith)
+
+-- ---- what the answer says of the walk
+
+holds-on : (m n : ℕ) (done : List Element) (last : Reading) → storedOf m last ≡ stored.Holds n → (m ≡ n) × ((i : ℕ) → foundOn done i last ≡ elementIn done i)
+unfolding storedOf
+holds-on m n done (reading.At e v) q = (cc, λ i. refl)
+holds-on m n done (reading.Refused r) q = impossible (cc)
+
+refused-on : (m : ℕ) (r : Refusal) (done : List Element) (last : Reading) → storedOf m last ≡ stored.Refused r → (i : ℕ) → foundOn done i last ≡ Refused r
+unfolding storedOf
+refused-on m r done (reading.At e v) q i = impossible (cc)
+refused-on m r done (reading.Refused r′) q i = cc
+
+pub store-holds : (s : List ℕ) (n : ℕ) → storeAnswer (storeWalk s) ≡ stored.Holds n
+    → (length (storeWalk s .elements) ≡ n) × ((i : ℕ) → foundIn s i ≡ elementIn (storeWalk s .elements) i)
+unfolding foundIn
+store-holds s n q = holds-on (length (storeWalk s .elements)) n (storeWalk s .elements) (storeWalk s .last) q
+
+pub store-refused : (s : List ℕ) (r : Refusal) → storeAnswer (storeWalk s) ≡ stored.Refused r → (i : ℕ) → foundIn s i ≡ Refused r
+unfolding foundIn
+store-refused s r q i = refused-on (length (storeWalk s .elements)) r (storeWalk s .elements) (storeWalk s .last) q i

@@ -1,0 +1,5 @@
+pub mod Stores
+pub mod Rows
+pub mod Fields
+pub mod Walks
+pub mod Found

@@ -1,0 +1,94 @@
+-- The numbers of elements in a table, one behind the other: how many there are, one element more, and the keys among them.
+-- Each law is over the width of a row.
+-- Assumes nothing.
+use mathlib.Core.Path.{_≡_, refl, sym, ap, _∙_}
+use mathlib.Core.Bool.{true, false}
+use mathlib.Core.List.{List, [], _∷_, _++_, map, append-assoc, append-nil}
+use Prim.Native.Nat.{ℕ, suc, _+_, _-_, _*_, _≤_, _<_}
+use native.Mathlib.Nat.{suc-mul, zero-mul, mul-le-mul-right}
+use native.Mathlib.Numerals.{add-one}
+use native.Mathlib.Omega.{arith}
+use lib.ListN.{length, take, drop, length-append}
+use lib.Seq.{take-at, drop-at, drop-drop}
+use Rattle.laws.specs.Once.{seen}
+use Rattle.store.specs.Element.{sameKey}
+use Rattle.store.specs.Tables.{keyAt, keysAt, flat}
+use Rattle.store.specs.declared.element.Key.{Key}
+use Rattle.store.specs.declared.element.Element.{Element}
+
+module _ (row : Element → List ℕ) (width : ℕ) (wide : (x : Element) → length (row x) ≡ width) where
+  pub length-flat : (done : List Element) → length (flat row done) ≡ length done * width
+  unfolding flat
+  length-flat [] = sym (zero-mul width)
+  length-flat (x ∷ done) = length-append (row x) (flat row done) ∙ (let a = wide x in let b = length-flat done in omega (arith, suc-mul (length done) width))
+
+  -- one element more
+  pub flat-more : (done : List Element) (x : Element) → flat row (done ++ (x ∷ [])) ≡ flat row done ++ row x
+  unfolding flat
+  flat-more [] x = append-nil (row x)
+  flat-more (y ∷ done) x = ap (λ (l : List ℕ). row y ++ l) (flat-more done x) ∙ sym (append-assoc (row y) (flat row done) (row x))
+
+  -- as it is put into a table that holds the others
+  pub put-more : (done : List Element) (x : Element) (t u : List ℕ) (n : ℕ) → length done ≡ n → t ≡ flat row done ++ drop (n * width) u
+      → take (n * width) t ++ (row x ++ drop (n * width + width) t) ≡ flat row (done ++ (x ∷ [])) ++ drop (suc n * width) u
+  put-more done x t u n e h =
+      let l : length (flat row done) ≡ n * width = length-flat done ∙ ap (λ (m : ℕ). m * width) e in
+      let a : take (n * width) t ≡ flat row done = ap (take (n * width)) h ∙ take-at (flat row done) (drop (n * width) u) (n * width) l in
+      let b : drop (n * width) t ≡ drop (n * width) u = ap (drop (n * width)) h ∙ drop-at (flat row done) (drop (n * width) u) (n * width) l in
+      let c : drop (n * width + width) t ≡ drop (suc n * width) u =
+      sym (drop-drop width (n * width) t) ∙ ap (drop width) b ∙ drop-drop width (n * width) u ∙ ap (λ (m : ℕ). drop m u) (sym (suc-mul n width)) in
+      rw (a, c, flat-more done x) (sym (append-assoc (flat row done) (row x) (drop (suc n * width) u)))
+
+  -- the keys that stand at an offset of each row
+  module _ (key : Element → Key) (offset : ℕ) (stands : (x : Element) (pre t : List ℕ) → keyAt (pre ++ (row x ++ t)) (length pre + offset) ≡ key x) where
+    keys-behind : (pre : List ℕ) (done : List Element) (t : List ℕ)
+        → keysAt (pre ++ (flat row done ++ t)) (length pre + offset) width (length done) ≡ map key done
+    unfolding keysAt flat
+    keys-behind pre [] t = refl
+    keys-behind pre (x ∷ done) t =
+        let e : pre ++ ((row x ++ flat row done) ++ t) ≡ pre ++ (row x ++ (flat row done ++ t)) = ap (λ (l : List ℕ). pre ++ l) (append-assoc (row x) (flat row done) t) in
+        let f : pre ++ (row x ++ (flat row done ++ t)) ≡ (pre ++ row x) ++ (flat row done ++ t) = sym (append-assoc pre (row x) (flat row done ++ t)) in
+        let n : length pre + offset + width ≡ length (pre ++ row x) + offset = let a = length-append pre (row x) in let b = wide x in omega arith in
+        let k : keyAt (pre ++ (row x ++ (flat row done ++ t))) (length pre + offset) ≡ key x = stands x pre (flat row done ++ t) in
+        let r : keysAt ((pre ++ row x) ++ (flat row done ++ t)) (length (pre ++ row x) + offset) width (length done) ≡ map key done =
+        keys-behind (pre ++ row x) done t in
+        rw (e, k, n, f, r)
+
+    pub keys-flat : (done : List Element) (t : List ℕ) → keysAt (flat row done ++ t) offset width (length done) ≡ map key done
+    keys-flat done t = rw (let z : 0 + offset ≡ offset = omega arith in z) at (keys-behind [] done t)
+
+-- ---- the search among keys
+
+pub keys-turn : (t : List ℕ) (width offset i n : ℕ) → i < n
+    → keysAt t (i * width + offset) width (n - i) ≡ keyAt t (i * width + offset) ∷ keysAt t ((i + 1) * width + offset) width (n - (i + 1))
+unfolding keysAt
+keys-turn t width offset i n h =
+    let e : n - i ≡ suc (n - (i + 1)) = omega arith in
+    let f : i * width + offset + width ≡ (i + 1) * width + offset = rw add-one (omega (arith, suc-mul i width)) in
+    rw e (ap (λ (m : ℕ). keyAt t (i * width + offset) ∷ keysAt t m width (n - (i + 1))) f)
+
+pub keys-end : (t : List ℕ) (width offset i n : ℕ) → n ≤ i → keysAt t (i * width + offset) width (n - i) ≡ []
+unfolding keysAt
+keys-end t width offset i n h = let e : n - i ≡ 0 = omega arith in rw e
+
+pub keys-front : (t : List ℕ) (width offset n : ℕ) → keysAt t offset width n ≡ keysAt t (0 * width + offset) width (n - 0)
+keys-front t width offset n =
+    let e : 0 * width + offset ≡ offset = omega (arith, zero-mul width) in
+    let f : n - 0 ≡ n = omega arith in
+    rw (e, f)
+
+-- a key within its row, and its row within the table
+pub key-room : (i n width offset size : ℕ) → i < n → offset + 3 ≤ width → n * width ≤ size → i * width + offset + 3 ≤ size
+key-room i n width offset size h o s = omega (arith, mul-le-mul-right width h, suc-mul i width)
+
+pub seen-first : (k x : Key) (l : List Key) → sameKey k x ≡ true → seen sameKey k (x ∷ l) ≡ true
+unfolding seen
+seen-first k x l e = rw e
+
+pub seen-later : (k x : Key) (l : List Key) → sameKey k x ≡ false → seen sameKey k (x ∷ l) ≡ seen sameKey k l
+unfolding seen
+seen-later k x l e = rw e
+
+pub seen-none : (k : Key) → seen sameKey k [] ≡ false
+unfolding seen
+seen-none k = refl

@@ -1,0 +1,146 @@
+-- The walk along a package's elements, turn by turn: what the tables hold, and how many elements may still come.
+-- Assumes nothing.
+use mathlib.Core.Path.{_≡_, refl, sym, ap, _∙_}
+use mathlib.Core.Bool.{true, false}
+use mathlib.Core.List.{List, [], _∷_, _++_, map}
+use Prim.Native.Nat.{ℕ, zero, suc, _-_, _+_, _*_, _≤_}
+use native.Mathlib.Numerals.{add-one}
+use native.Mathlib.Omega.{arith}
+use lib.ListN.{length, getD, take, drop, length-append}
+use lib.Seq.{getD-append-add}
+use Rattle.numbers.specs.declared.refusal.Refusal.{Refusal}
+use Rattle.objects.specs.Steps.{_▹_, nothingOpen, startOfLength, startHere, endHere, nextIs, finish, Good}
+use Rattle.objects.specs.declared.reading.Reading.{Reading}
+use Rattle.objects.specs.declared.reading.Reading.the-variants.{At, Refused}
+use Rattle.objects.proofs.Keep.{good-front, good-start-of-length, good-skip}
+use Rattle.store.specs.Element.{elementAt}
+use Rattle.store.specs.Tables.{keyAt, idKeys, serialKeys, rowOf, idOf, flat, rowsOf, idsOf}
+use Rattle.store.specs.Store.{packageStart, Walk, walked, onElement, walkFrom, storedOf, WalkedTo}
+use Rattle.store.specs.declared.element.Key.{Key}
+use Rattle.store.specs.declared.element.Element.{Element}
+use Rattle.store.specs.declared.element.ReadElement.{ReadElement}
+use Rattle.store.specs.declared.element.ReadElement.the-variants as element
+use Rattle.store.specs.declared.package.Stored.{Stored}
+use Rattle.store.specs.declared.package.Stored.the-variants as stored
+use Rattle.store.proofs.Rows.{put-more, keys-flat}
+use Rattle.store.proofs.Fields.{element-within}
+
+-- ---- rows and ids
+
+abbrev pub idRow : Element → List ℕ
+idRow x = idOf (x .id)
+
+row-wide : (x : Element) → length (rowOf x) ≡ 6
+row-wide x = refl
+
+id-wide : (x : Element) → length (idRow x) ≡ 3
+id-wide x = refl
+
+key-stands : (k : Key) (pre t : List ℕ) (l : List ℕ) (offset : ℕ) → getD l offset 0 ≡ k .low → getD l (offset + 1) 0 ≡ k .high → getD l (offset + 2) 0 ≡ k .number
+    → keyAt (pre ++ l) (length pre + offset) ≡ k
+unfolding keyAt
+key-stands k pre t l offset a b c =
+    let e : length pre + offset + 1 ≡ length pre + (offset + 1) = omega arith in
+    let f : length pre + offset + 2 ≡ length pre + (offset + 2) = omega arith in
+    rw (e, f, getD-append-add pre l offset 0, getD-append-add pre l (offset + 1) 0, getD-append-add pre l (offset + 2) 0, a, b, c)
+
+pub serials-held : (done : List Element) (t : List ℕ) → serialKeys (rowsOf done ++ t) (length done) ≡ map (λ (x : Element). x .serial) done
+serials-held done t =
+    keys-flat rowOf 6 row-wide (λ x. x .serial) 3 (λ x pre u. key-stands (x .serial) pre u (rowOf x ++ u) 3 refl refl refl) done t
+
+pub ids-held : (done : List Element) (t : List ℕ) → idKeys (idsOf done ++ t) (length done) ≡ map (λ (x : Element). x .id) done
+ids-held done t =
+    keys-flat idRow 3 id-wide (λ x. x .id) 0 (λ x pre u. key-stands (x .id) pre u (idRow x ++ u) 0 refl refl refl) done t
+
+-- ---- what holds whenever the loop's test is reached
+
+pub record Held (s rows₀ ids₀ rows ids : List ℕ) (at : Reading) (n : ℕ) : Type 0 where
+  pub done : List Element
+  pub many : length done ≡ n
+  pub most : n ≤ 256
+  pub good : Good s at
+  pub rows-hold : rows ≡ rowsOf done ++ drop (n * 6) rows₀
+  pub ids-hold : ids ≡ idsOf done ++ drop (n * 3) ids₀
+  pub walk : walkFrom 256 s [] (packageStart s) ≡ walkFrom (256 - n) s done at
+
+good-package : (s : List ℕ) → Good s (packageStart s)
+unfolding packageStart
+good-package s =
+    good-skip s 1 (startOfLength s nothingOpen 0x15 true true 1 (At 0 0)) (good-start-of-length s nothingOpen 0x15 true true 1 (At 0 0) (good-front s 0))
+
+pub held-start : (s rows ids : List ℕ) → Held s rows ids rows ids (packageStart s) 0
+unfolding flat
+held-start s rows ids =
+    record { done = []; many = refl; most = omega arith; good = good-package s; rows-hold = refl; ids-hold = refl; walk = refl }
+
+-- ---- the walk at a place
+
+walk-ends : (left : ℕ) (s : List ℕ) (done : List Element) (c : Reading) → nextIs s 0x01 c ≡ false
+    → walkFrom left s done c ≡ walked done (c ▹ endHere s 0x15 ▹ finish s)
+unfolding walkFrom
+walk-ends zero s done c e = rw e
+walk-ends (suc left) s done c e = rw e
+
+walk-over : (s : List ℕ) (done : List Element) (c : Reading) → nextIs s 0x01 c ≡ true
+    → walkFrom 0 s done c ≡ walked done (startHere s 0x15 0x01 true false c)
+unfolding walkFrom
+walk-over s done c e = rw e
+
+walk-element : (left : ℕ) (s : List ℕ) (done : List Element) (c : Reading) → nextIs s 0x01 c ≡ true → (r : ReadElement)
+    → elementAt 14 (map (λ (x : Element). x .id) done) (map (λ (x : Element). x .serial) done) s c ≡ r
+    → walkFrom (suc left) s done c ≡ onElement (λ more e. walkFrom left s more e) done r
+unfolding walkFrom
+walk-element left s done c e r q = rw (e, q)
+
+module _ {s rows₀ ids₀ rows ids : List ℕ} {at : Reading} {n : ℕ} (h : Held s rows₀ ids₀ rows ids at n) where
+  abbrev told : Walk
+  told = walkFrom 256 s [] (packageStart s)
+
+  -- the keys that the tables hold are those of the elements
+  held-serials : serialKeys rows n ≡ map (λ (x : Element). x .serial) (h .done)
+  held-serials = rw (h .rows-hold, ← h .many) (serials-held (h .done) (drop (length (h .done) * 6) rows₀))
+
+  held-ids : idKeys ids n ≡ map (λ (x : Element). x .id) (h .done)
+  held-ids = rw (h .ids-hold, ← h .many) (ids-held (h .done) (drop (length (h .done) * 3) ids₀))
+
+  -- the answer, where the walk ends with these elements
+  pub held-answer : (c : Reading) (r : Stored) → told ≡ walked (h .done) c → r ≡ storedOf n c → WalkedTo told r rows₀ rows ids₀ ids
+  held-answer c r e q = rw e (q ∙ ap (λ (m : ℕ). storedOf m c) (sym (h .many)), rw (h .many) (h .rows-hold), rw (h .many) (h .ids-hold))
+
+  -- no more elements
+  pub held-end : nextIs s 0x01 at ≡ false → told ≡ walked (h .done) (at ▹ endHere s 0x15 ▹ finish s)
+  held-end e = h .walk ∙ walk-ends (256 - n) s (h .done) at e
+
+  -- one too many
+  pub held-over : nextIs s 0x01 at ≡ true → n ≡ 256 → told ≡ walked (h .done) (startHere s 0x15 0x01 true false at)
+  held-over e q = let z : 256 - n ≡ 0 = omega arith in h .walk ∙ rw z (walk-over s (h .done) at e)
+
+  -- an element at fault
+  pub held-refused : nextIs s 0x01 at ≡ true → (n ≡ 256 → ⊥) → (r : Refusal) → elementAt 14 (idKeys ids n) (serialKeys rows n) s at ≡ element.Refused r
+      → told ≡ walked (h .done) (Refused r)
+  held-refused e d r q =
+      let z : 256 - n ≡ suc (256 - (n + 1)) = let m = h .most in omega arith in
+      let f = rw (held-ids, held-serials) at q in
+      h .walk ∙ rw z (walk-element (256 - (n + 1)) s (h .done) at e (element.Refused r) f)
+
+  -- an element more
+  pub held-more : nextIs s 0x01 at ≡ true → (n ≡ 256 → ⊥) → (x : Element) → elementAt 14 (idKeys ids n) (serialKeys rows n) s at ≡ element.Is x
+      → Held s rows₀ ids₀ (take (n * 6) rows ++ (rowOf x ++ drop (n * 6 + 6) rows)) (take (n * 3) ids ++ (idOf (x .id) ++ drop (n * 3 + 3) ids))
+      (At (x .place + x .length) 0) (n + 1)
+  held-more e d x q =
+      let z : 256 - n ≡ suc (256 - (n + 1)) = let m = h .most in omega arith in
+      let f = rw (held-ids, held-serials) at q in
+      let w = element-within 14 (idKeys ids n) (serialKeys rows n) s at x q (h .good) in
+      record {
+        done = h .done ++ (x ∷ []);
+        many = length-append (h .done) (x ∷ []) ∙ (let m = h .many in omega arith);
+        most = (let m = h .most in omega arith);
+        good = w .1;
+        rows-hold = rw add-one (put-more rowOf 6 row-wide (h .done) x rows rows₀ n (h .many) (h .rows-hold));
+        ids-hold = rw add-one (put-more idRow 3 id-wide (h .done) x ids ids₀ n (h .many) (h .ids-hold));
+        walk = h .walk ∙ rw z (walk-element (256 - (n + 1)) s (h .done) at e (element.Is x) f);
+      }
+
+pub stored-refused : (n : ℕ) (r : Refusal) → stored.Refused r ≡ storedOf n (Refused r)
+unfolding storedOf
+stored-refused n r = refl

@@ -1,0 +1,110 @@
+-- `accessor::find_element` meets its contract: the row that reading the store left at the position.
+-- Assumes nothing.
+use mathlib.Core.Path.{sym, _∙_}
+use native.Mathlib.Omega.{arith}
+use Rattle.store.specs.Store.{storeWalk}
+use Rattle.store.proofs.Found.{found-row, found-none, store-most, store-holds, store-refused}
+use borrow.Author.Needs.{needs}
+use Rattle.store.proofs.accessor.find_element.Statement.{statement}
+use Rattle.store.proofs.accessor.find_element.Tie as tie
+
+slice-aggregate-read-store : tie.Need-slice-aggregate-read-store
+slice-aggregate-read-store c = search needs
+
+slice-aggregate-read-store-2 : tie.Need-slice-aggregate-read-store-2
+slice-aggregate-read-store-2 c = search needs
+
+read-store-requires : tie.Need-read-store-requires
+read-store-requires c κs = search needs
+
+enum-known-r : tie.Need-enum-known-r
+enum-known-r c = search needs
+
+enum-known-n : tie.Need-enum-known-n
+enum-known-n c = search needs
+
+at-place-requires : tie.Need-at-place-requires
+at-place-requires c κs = search needs
+
+returns : tie.Need-returns
+returns c =
+    let k = c .before .before .before in
+    let s = k .before .before .before .before .before .before .before .before .args .s .now in
+    let q = store-holds s (k .n .given .0 .0) (sym (k .before .before .before .before .read-store .ensures .0) ∙ k .n .given .1) in
+    rw (c .at-place .ensures, q .1 (k .before .before .before .before .before .before .before .before .args .position)) (sym (found-none (storeWalk s .elements) (k .before .before .before .before .before .before .before .before .args .position) (omega arith)))
+
+mul-at : tie.Need-mul-at
+mul-at c =
+    let k = c .before .before in
+    let s = k .before .before .before .before .before .before .before .before .args .s .now in
+    let q = store-holds s (k .n .given .0 .0) (sym (k .before .before .before .before .read-store .ensures .0) ∙ k .n .given .1) in
+    omega (arith, store-most s)
+
+mul-t16 : tie.Need-mul-t16
+mul-t16 c =
+    let k = c .before .before in
+    let s = k .before .before .before .before .before .before .before .before .args .s .now in
+    let q = store-holds s (k .n .given .0 .0) (sym (k .before .before .before .before .read-store .ensures .0) ∙ k .n .given .1) in
+    omega (arith, store-most s)
+
+array-read-t19 : tie.Need-array-read-t19
+array-read-t19 c =
+    let k = c .before .before in
+    let s = k .before .before .before .before .before .before .before .before .args .s .now in
+    let q = store-holds s (k .n .given .0 .0) (sym (k .before .before .before .before .read-store .ensures .0) ∙ k .n .given .1) in
+    omega (arith, store-most s)
+
+add-t21 : tie.Need-add-t21
+add-t21 c =
+    let k = c .before .before in
+    let s = k .before .before .before .before .before .before .before .before .args .s .now in
+    let q = store-holds s (k .n .given .0 .0) (sym (k .before .before .before .before .read-store .ensures .0) ∙ k .n .given .1) in
+    omega (arith, store-most s)
+
+mul-t22 : tie.Need-mul-t22
+mul-t22 c =
+    let k = c .before .before in
+    let s = k .before .before .before .before .before .before .before .before .args .s .now in
+    let q = store-holds s (k .n .given .0 .0) (sym (k .before .before .before .before .read-store .ensures .0) ∙ k .n .given .1) in
+    omega (arith, store-most s)
+
+array-read-t25 : tie.Need-array-read-t25
+array-read-t25 c =
+    let k = c .before .before in
+    let s = k .before .before .before .before .before .before .before .before .args .s .now in
+    let q = store-holds s (k .n .given .0 .0) (sym (k .before .before .before .before .read-store .ensures .0) ∙ k .n .given .1) in
+    omega (arith, store-most s)
+
+returns-2 : tie.Need-returns-2
+returns-2 c =
+    let k = c .before in
+    let s = k .before .before .before .before .before .before .before .before .args .s .now in
+    sym (store-refused s (k .r .given .0 .0) (sym (k .before .before .before .before .read-store .ensures .0) ∙ k .r .given .1) (k .before .before .before .before .before .before .before .before .args .position))
+
+returns-3 : tie.Need-returns-3
+returns-3 c =
+    let k = c .before .before in
+    let s = k .before .before .before .before .before .before .before .before .args .s .now in
+    let q = store-holds s (k .n .given .0 .0) (sym (k .before .before .before .before .read-store .ensures .0) ∙ k .n .given .1) in
+    let i = k .before .before .before .before .before .before .before .before .args .position in
+    rw (q .1 i, k .before .before .before .before .read-store .ensures .1) (sym (found-row (storeWalk s .elements) _ i (omega arith)))
+
+pub find-element-spec : {M : Type 1} → statement M
+find-element-spec =
+    tie.close
+    (tie.spec
+    slice-aggregate-read-store
+    slice-aggregate-read-store-2
+    read-store-requires
+    enum-known-r
+    enum-known-n
+    at-place-requires
+    returns
+    mul-at
+    mul-t16
+    array-read-t19
+    add-t21
+    mul-t22
+    array-read-t25
+    returns-2
+    returns-3)

@@ -1,0 +1,105 @@
+-- "Element: compound; data = extended GUID, serial number, element type; inside, any well-nested objects. No null id or
+-- serial, no id twice, no serial twice in a store." From left to right: the id (2, 3, then 10, then 11), the serial number
+-- (2, 3, 10, 11), the type, bytes left over, the inside.
+-- Assumes nothing.
+use Prim.Native.Nat.{ℕ, _-_}
+use mathlib.Core.Bool.{Bool, true, false}
+use mathlib.Core.List.{List}
+use lib.ListN.{length}
+use lib.Dec.{eqb}
+use Rattle.laws.specs.Pick.{pick}
+use Rattle.laws.specs.Once.{seen}
+use Rattle.numbers.specs.Refusals.{faultAt}
+use Rattle.numbers.specs.declared.guid.Guid.{Guid}
+use Rattle.numbers.specs.declared.extended_guid.ExtendedGuid.the-variants as id
+use Rattle.numbers.specs.declared.serial.Serial.the-variants as number
+use Rattle.objects.specs.Steps.{placeOf, valueOf, idHere, serialHere, startHere, runHere, closed, inside}
+use Rattle.objects.specs.Steps as steps
+use Rattle.objects.specs.declared.reading.Reading.{Reading}
+use Rattle.objects.specs.declared.reading.Reading.the-variants as reading
+use Rattle.objects.specs.declared.reading.ReadingId.{ReadingId}
+use Rattle.objects.specs.declared.reading.ReadingId.the-variants as id′
+use Rattle.objects.specs.declared.reading.ReadingSerial.{ReadingSerial}
+use Rattle.objects.specs.declared.reading.ReadingSerial.the-variants as serial′
+use Rattle.store.specs.declared.element.Key.{Key}
+use Rattle.store.specs.declared.element.Fields.{Fields}
+use Rattle.store.specs.declared.element.ReadingKey.{ReadingKey}
+use Rattle.store.specs.declared.element.ReadingKey.the-variants.{At, Refused}
+use Rattle.store.specs.declared.element.ReadElement.{ReadElement}
+use Rattle.store.specs.declared.element.ReadElement.the-variants as element
+
+-- ---- ids and serial numbers that are not null
+
+abbrev pub keyOf : Guid → ℕ → Key
+keyOf g x = record { low = g .low; high = g .high; number = x }
+
+-- "11 compares values"
+unfoldable pub sameKey : Key → Key → Bool
+sameKey a b = pick (eqb (a .low) (b .low)) (pick (eqb (a .high) (b .high)) (eqb (a .number) (b .number)) false) false
+
+-- an id that stands at p: 10 where it is null
+unfoldable pub namedKey : ℕ → ReadingId → ReadingKey
+namedKey p (id′.At q id.Null) = Refused (faultAt 10 p)
+namedKey p (id′.At q (id.Named g x)) = At q (keyOf g x)
+namedKey p (id′.Refused r) = Refused r
+
+-- the same of a serial number
+unfoldable pub numberedKey : ℕ → ReadingSerial → ReadingKey
+numberedKey p (serial′.At q number.Null) = Refused (faultAt 10 p)
+numberedKey p (serial′.At q (number.Numbered g x)) = At q (keyOf g x)
+numberedKey p (serial′.Refused r) = Refused r
+
+-- 11 at p, if it was seen before
+unfoldable pub freshKey : ℕ → Bool → ReadingKey → ReadingKey
+freshKey p was (At q k) = pick was (Refused (faultAt 11 p)) (At q k)
+freshKey p was (Refused r) = Refused r
+
+unfoldable pub keyHere : ReadingKey → Key
+keyHere (At q k) = k
+keyHere (Refused r) = record { low = 0; high = 0; number = 0 }
+
+unfoldable pub onKey : ReadingKey → Reading
+onKey (At q k) = reading.At q 0
+onKey (Refused r) = reading.Refused r
+
+-- judged against the keys before it
+abbrev pub judged : List Key → ℕ → ReadingKey → ReadingKey
+judged before p c = freshKey p (seen sameKey (keyHere c) before) c
+
+-- ---- the fields, in the element's data run d
+
+-- the id stands at its front
+unfoldable pub idField : List Key → List ℕ → ReadingKey
+idField ids d = judged ids 0 (namedKey 0 (idHere d (reading.At 0 0)))
+
+-- the serial number stands at c
+unfoldable pub serialField : List Key → List ℕ → Reading → ReadingKey
+serialField serials d c = judged serials (placeOf c) (numberedKey (placeOf c) (serialHere d c))
+
+-- the type is the number at the last
+unfoldable pub fieldsOf : List Key → List Key → List ℕ → Fields
+fieldsOf ids serials d =
+    record {
+      id = keyHere (idField ids d);
+      serial = keyHere (serialField serials d (onKey (idField ids d)));
+      last = steps.number d (onKey (serialField serials d (onKey (idField ids d))));
+    }
+
+-- ---- the element at c, in a package, with so many levels left for what is inside it
+
+abbrev pub opened : List ℕ → Reading → Reading
+opened s c = startHere s 0x15 0x01 true true c
+
+-- behind its data, with its type as the number
+unfoldable pub dataOf : List Key → List Key → List ℕ → Reading → Reading
+dataOf ids serials s c = closed s (opened s c) (fieldsOf ids serials (runHere s (opened s c)) .last)
+
+unfoldable pub elementOn : ℕ → Fields → ℕ → Reading → ReadElement
+elementOn at f kind (reading.At e v) =
+    element.Is (record { place = at; length = e - at; kind = kind; id = f .id; serial = f .serial })
+elementOn at f kind (reading.Refused r) = element.Refused r
+
+unfoldable pub elementAt : ℕ → List Key → List Key → List ℕ → Reading → ReadElement
+elementAt depth ids serials s c =
+    elementOn (placeOf c) (fieldsOf ids serials (runHere s (opened s c))) (valueOf (dataOf ids serials s c))
+    (inside s depth 0x01 (dataOf ids serials s c))

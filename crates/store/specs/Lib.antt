@@ -1,0 +1,4 @@
+pub mod Element
+pub mod Tables
+pub mod Store
+pub mod Accessor

@@ -1,0 +1,76 @@
+-- "A store: one data element package, and nothing after it." Its elements are read from left to right; a fault ends the walk
+-- with the elements before it.
+-- Assumes nothing.
+use mathlib.Core.Path.{_≡_}
+use Prim.Native.Nat.{ℕ, zero, suc, _+_, _*_}
+use mathlib.Core.Bool.{true, false}
+use mathlib.Core.List.{List, [], _∷_, _++_, map}
+use lib.ListN.{length, drop}
+use lib.Dec.{ltb}
+use Rattle.laws.specs.Pick.{pick}
+use Rattle.numbers.specs.Refusals.{longestInput, overLong}
+use Rattle.objects.specs.Steps.{_▹_, nothingOpen, startOfLength, startHere, skip, endHere, nextIs, finish}
+use Rattle.objects.specs.declared.reading.Reading.{Reading}
+use Rattle.objects.specs.declared.reading.Reading.the-variants.{At, Refused}
+use Rattle.store.specs.Element.{elementAt}
+use Rattle.store.specs.Tables.{rowsOf, idsOf}
+use Rattle.store.specs.declared.element.Element.{Element}
+use Rattle.store.specs.declared.element.ReadElement.{ReadElement}
+use Rattle.store.specs.declared.element.ReadElement.the-variants as element
+use Rattle.store.specs.declared.package.Stored.{Stored}
+use Rattle.store.specs.declared.package.Stored.the-variants as stored
+
+-- "package 1": one data byte, "reserved: ignored when read"
+unfoldable pub packageStart : List ℕ → Reading
+packageStart s = At 0 0 ▹ startOfLength s nothingOpen 0x15 true true 1 ▹ skip s 1
+
+-- the elements that were read, and where the walk ended
+pub record Walk : Type 0 where
+  pub elements : List Element
+  pub last : Reading
+
+abbrev pub walked : List Element → Reading → Walk
+walked done c = record { elements = done; last = c }
+
+-- the package's end, and "after the last end any byte is 5"
+abbrev pub closing : List ℕ → List Element → Reading → Walk
+closing s done c = walked done (c ▹ endHere s 0x15 ▹ finish s)
+
+-- an element more, and on from behind it
+abbrev pub onElement : (List Element → Reading → Walk) → List Element → ReadElement → Walk
+onElement go done (element.Is x) = go (done ++ (x ∷ [])) (At (x .place + x .length) 0)
+onElement go done (element.Refused r) = walked done (Refused r)
+
+-- so many more elements are allowed: 9 at the first header too many
+unfoldable pub walkFrom : ℕ → List ℕ → List Element → Reading → Walk
+walkFrom zero s done c =
+    pick (nextIs s 0x01 c) (walked done (startHere s 0x15 0x01 true false c)) (closing s done c)
+walkFrom (suc left) s done c =
+    pick (nextIs s 0x01 c)
+    (onElement (λ more e. walkFrom left s more e) done
+    (elementAt 14 (map (λ (x : Element). x .id) done) (map (λ (x : Element). x .serial) done) s c))
+    (closing s done c)
+
+-- "9: over 256 elements"; an over-long store is 1 first
+unfoldable pub storeWalk : List ℕ → Walk
+storeWalk s = pick (ltb longestInput (length s)) (walked [] (Refused overLong)) (walkFrom 256 s [] (packageStart s))
+
+-- ---- what reading a store answers, and what the tables then hold
+
+unfoldable pub storedOf : ℕ → Reading → Stored
+storedOf n (At e v) = stored.Holds n
+storedOf n (Refused r) = stored.Refused r
+
+abbrev pub storeAnswer : Walk → Stored
+storeAnswer w = storedOf (length (w .elements)) (w .last)
+
+-- the rows of the elements that were read, and behind them the table's own numbers
+abbrev pub laidRows : Walk → List ℕ → List ℕ
+laidRows w t = rowsOf (w .elements) ++ drop (length (w .elements) * 6) t
+
+abbrev pub laidIds : Walk → List ℕ → List ℕ
+laidIds w t = idsOf (w .elements) ++ drop (length (w .elements) * 3) t
+
+-- what reading promises: the answer, and both tables at exit
+abbrev pub WalkedTo : Walk → Stored → List ℕ → List ℕ → List ℕ → List ℕ → Type 0
+WalkedTo w r rows rowsExit ids idsExit = (r ≡ storeAnswer w) × (rowsExit ≡ laidRows w rows) × (idsExit ≡ laidIds w ids)

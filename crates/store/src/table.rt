@@ -1,0 +1,78 @@
+// The working tables of a store: rows of six numbers (place, length, type, the serial's GUID as two little-endian numbers,
+// the serial's number) and ids of three (the GUID as two numbers, the number).
+ghost use mathlib.Core.Path.{_≡_};
+ghost use mathlib.Core.List.{_++_, _∷_};
+ghost use Prim.Native.Nat.{_+_, _*_, _≤_};
+ghost use lib.ListN.{length, take, drop};
+ghost use Rattle.laws.specs.Once.{seen};
+ghost use Rattle.store.specs.Element.{sameKey};
+ghost use Rattle.store.specs.Tables.{keyAt, keysAt, rowOf, idOf};
+use crate::element::Element;
+use crate::element::Key;
+
+// The key of three numbers at a place of a table.
+fn key_at(t: &[u64], at: usize) -> Key
+    requires { ⌜ at + 3 ≤ length (now t) ⌝ }
+    ensures { λ r. ⌜ r ≡ keyAt (now (t .entry)) at ⌝ }
+{
+    Key {
+        low: t[at],
+        high: t[at + 1],
+        number: t[at + 2],
+    }
+}
+
+fn same_key(a: Key, b: Key) -> bool
+    ensures { λ r. ⌜ r ≡ sameKey a b ⌝ }
+{
+    if a.low != b.low {
+        return false;
+    }
+    if a.high != b.high {
+        return false;
+    }
+    a.number == b.number
+}
+
+// Whether a key is among those of n rows, each with a key at this offset.
+pub fn seen_key(t: &[u64], offset: usize, width: usize, n: usize, k: Key) -> bool
+    requires { ⌜ (offset + 3 ≤ width) × (n * width ≤ length (now t)) ⌝ }
+    ensures { λ r. ⌜ r ≡ seen sameKey k (keysAt (now (t .entry)) offset width n) ⌝ }
+{
+    let mut i = 0;
+    while i < n {
+        let at = i * width + offset;
+        let x = key_at(t, at);
+        if same_key(k, x) {
+            return true;
+        }
+        i += 1;
+    }
+    false
+}
+
+// The row of an element behind n rows.
+pub fn put_row(t: &mut [u64], n: usize, x: Element)
+    requires { ⌜ n * 6 + 6 ≤ length (now t) ⌝ }
+    ensures { λ _. ⌜ now (t .exit) ≡ take (n * 6) (now (t .entry)) ++ (rowOf x ++ drop (n * 6 + 6) (now (t .entry))) ⌝ }
+{
+    let at = n * 6;
+    let serial = x.serial;
+    t[at] = x.place as u64;
+    t[at + 1] = x.length as u64;
+    t[at + 2] = x.kind;
+    t[at + 3] = serial.low;
+    t[at + 4] = serial.high;
+    t[at + 5] = serial.number;
+}
+
+// An id behind n ids.
+pub fn put_id(t: &mut [u64], n: usize, k: Key)
+    requires { ⌜ n * 3 + 3 ≤ length (now t) ⌝ }
+    ensures { λ _. ⌜ now (t .exit) ≡ take (n * 3) (now (t .entry)) ++ (idOf k ++ drop (n * 3 + 3) (now (t .entry))) ⌝ }
+{
+    let at = n * 3;
+    t[at] = k.low;
+    t[at + 1] = k.high;
+    t[at + 2] = k.number;
+}
