@@ -74,13 +74,16 @@ good-data ids serials s c g =
     good-closed s (opened s c) (fieldsOf ids serials (runHere s (opened s c)) .last) (good-start s 0x15 0x01 true true c g)
     (good-fields ids serials (runHere s (opened s c)))
 
+pub data-at-least : (ids serials : List Key) (s : List ℕ) (c : Reading) → Behind (placeOf c) (dataOf ids serials s c)
+unfolding dataOf
+data-at-least ids serials s c =
+    behind-closed s (placeOf c) (opened s c) (fieldsOf ids serials (runHere s (opened s c)) .last)
+    (behind-start s 0x15 0x01 true true (placeOf c) c (behind-place c))
+
 pub behind-element : (depth : ℕ) (ids serials : List Key) (s : List ℕ) (c : Reading)
     → Behind (placeOf c) (inside s depth 0x01 (dataOf ids serials s c))
 unfolding dataOf
-behind-element depth ids serials s c =
-    behind-inside s depth 0x01 (placeOf c) (dataOf ids serials s c)
-    (behind-closed s (placeOf c) (opened s c) (fieldsOf ids serials (runHere s (opened s c)) .last)
-    (behind-start s 0x15 0x01 true true (placeOf c) c (behind-place c)))
+behind-element depth ids serials s c = behind-inside s depth 0x01 (placeOf c) (dataOf ids serials s c) (data-at-least ids serials s c)
 
 -- the same, with what the element's data is made of written out
 pub data-behind : (depth : ℕ) (ids serials : List Key) (s : List ℕ) (c : Reading)

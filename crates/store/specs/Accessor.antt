@@ -2,6 +2,7 @@
 -- a refusal, which a call beside it tells, the empty part at its front); this call uses no table, gives the store's faults
 -- first, and refuses a position at or past the count with 9." That refusal "names the store, place 0".
 -- Assumes nothing.
+use mathlib.Core.Path.{_≡_}
 use Prim.Native.Nat.{ℕ, zero, suc}
 use mathlib.Core.List.{List, [], _∷_}
 use lib.ListN.{take, drop}
@@ -31,6 +32,10 @@ foundIn s i = foundOn (storeWalk s .elements) i (storeWalk s .last)
 abbrev pub tellFound : Found → Told
 tellFound (At at n) = gives (at ∷ n ∷ [])
 tellFound (Refused r) = refuses r
+
+-- what asking where an element stands promises
+abbrev pub FindsElement : List ℕ → ℕ → Found → Type 0
+FindsElement s i r = tellFound r ≡ tellFound (foundIn s i)
 
 abbrev pub bytesAt : List ℕ → Found → List ℕ
 bytesAt s (At at n) = take n (drop at s)

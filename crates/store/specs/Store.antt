@@ -8,7 +8,7 @@ use mathlib.Core.List.{List, [], _∷_, _++_, map}
 use lib.ListN.{length, drop}
 use lib.Dec.{ltb}
 use Rattle.laws.specs.Pick.{pick}
-use Rattle.numbers.specs.Refusals.{longestInput, overLong}
+use Rattle.numbers.specs.Refusals.{Told, gives, refuses, longestInput, overLong}
 use Rattle.objects.specs.Steps.{_▹_, nothingOpen, startOfLength, startHere, skip, endHere, nextIs, finish}
 use Rattle.objects.specs.declared.reading.Reading.{Reading}
 use Rattle.objects.specs.declared.reading.Reading.the-variants.{At, Refused}
@@ -74,3 +74,8 @@ laidIds w t = idsOf (w .elements) ++ drop (length (w .elements) * 3) t
 -- what reading promises: the answer, and both tables at exit
 abbrev pub WalkedTo : Walk → Stored → List ℕ → List ℕ → List ℕ → List ℕ → Type 0
 WalkedTo w r rows rowsExit ids idsExit = (r ≡ storeAnswer w) × (rowsExit ≡ laidRows w rows) × (idsExit ≡ laidIds w ids)
+
+-- how many elements a store holds
+abbrev pub tellStored : Stored → Told
+tellStored (stored.Holds n) = gives (n ∷ [])
+tellStored (stored.Refused r) = refuses r

@@ -1,7 +1,7 @@
 // One element of a lent store by its position: where it stands, and its own bytes as a part of the store.
 ghost use mathlib.Core.Path.{_≡_};
 ghost use lib.ListN.{length};
-ghost use Rattle.store.specs.Accessor.{foundIn, elementBytes};
+ghost use Rattle.store.specs.Accessor.{FindsElement, elementBytes};
 use crate::package::Stored;
 use crate::package::read_store;
 use numbers::refusal::Refusal;
@@ -17,7 +17,7 @@ pub enum Found {
 // Where the element at a position stands: the store's faults first, then 9 for a position at or past the count. Ruled out
 // (proofs/WrongAnswers): an element of the store without any; 9 for a store that is at fault.
 pub fn find_element(s: &[u8], position: usize) -> Found
-    ensures { λ r. ⌜ r ≡ foundIn (now (s .entry)) position ⌝ }
+    ensures { λ r. ⌜ FindsElement (now (s .entry)) position r ⌝ }
 {
     let mut rows = [0u64; 1536];
     let mut ids = [0u64; 768];
@@ -34,8 +34,7 @@ pub fn find_element(s: &[u8], position: usize) -> Found
 }
 
 // The element's own bytes, from its start to its end; on a refusal, which `find_element` tells, the empty part at the
-// store's front. Ruled out (proofs/WrongAnswers): the whole store for its first element; bytes where the position is past the
-// last.
+// store's front. Ruled out (proofs/WrongAnswers): the whole store where it has no element; one byte of it there.
 pub fn element_bytes(s: &[u8], position: usize) -> &[u8]
     ensures { λ r. ⌜ now r ≡ elementBytes (now (s .entry)) position ⌝ }
 {

@@ -1,7 +1,9 @@
 -- `accessor::element_bytes` meets its contract.
 -- Assumes nothing.
-use mathlib.Core.Path.{sym, _∙_}
-use Rattle.store.specs.Accessor.{elementBytes}
+use mathlib.Core.Path.{_≡_, sym, _∙_}
+use Rattle.store.proofs.OneAnswers.{found-telling}
+use Rattle.store.specs.Accessor.{foundIn, elementBytes}
+use Rattle.store.specs.declared.accessor.Found.the-variants.{At, Refused}
 use borrow.Author.Needs.{needs}
 use Rattle.store.proofs.accessor.element_bytes.Statement.{statement}
 use Rattle.store.proofs.accessor.element_bytes.Tie as tie
@@ -23,11 +25,19 @@ part-requires-2 c κs = search needs
 
 returns : tie.Need-returns
 unfolding elementBytes
-returns c = rw (sym (c .before .before .before .before .find-element .ensures) ∙ c .before .before .at .given .1) (c .part .ensures)
+returns c =
+    let k = c .before .before .before .before in
+    let a = k .before .before .args in
+    let e : foundIn (a .s .now) (a .position) ≡ At _ _ = sym (found-telling (k .find-element .result) (foundIn (a .s .now) (a .position)) (k .find-element .ensures)) ∙ c .before .before .at .given .1 in
+    rw e (c .part .ensures)
 
 returns-2 : tie.Need-returns-2
 unfolding elementBytes
-returns-2 c = rw (sym (c .before .before .before .find-element .ensures) ∙ c .before .enum-told .given .1) (c .part2 .ensures)
+returns-2 c =
+    let k = c .before .before .before in
+    let a = k .before .before .args in
+    let e : foundIn (a .s .now) (a .position) ≡ Refused _ = sym (found-telling (k .find-element .result) (foundIn (a .s .now) (a .position)) (k .find-element .ensures)) ∙ c .before .enum-told .given .1 in
+    rw e (c .part2 .ensures)
 
 pub element-bytes-spec : {M : Type 1} → statement M
 element-bytes-spec =

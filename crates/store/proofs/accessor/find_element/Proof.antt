@@ -1,8 +1,10 @@
 -- `accessor::find_element` meets its contract: the row that reading the store left at the position.
 -- Assumes nothing.
-use mathlib.Core.Path.{sym, _∙_}
+use mathlib.Core.Path.{sym, ap, _∙_}
+use Prim.Native.Nat.{_+_, _*_, _<_}
 use native.Mathlib.Omega.{arith}
 use Rattle.store.specs.Store.{storeWalk}
+use Rattle.store.specs.Accessor.{tellFound}
 use Rattle.store.proofs.Found.{found-row, found-none, store-most, store-holds, store-refused}
 use borrow.Author.Needs.{needs}
 use Rattle.store.proofs.accessor.find_element.Statement.{statement}
@@ -31,55 +33,40 @@ returns c =
     let k = c .before .before .before in
     let s = k .before .before .before .before .before .before .before .before .args .s .now in
     let q = store-holds s (k .n .given .0 .0) (sym (k .before .before .before .before .read-store .ensures .0) ∙ k .n .given .1) in
-    rw (c .at-place .ensures, q .1 (k .before .before .before .before .before .before .before .before .args .position)) (sym (found-none (storeWalk s .elements) (k .before .before .before .before .before .before .before .before .args .position) (omega arith)))
+    let i = k .before .before .before .before .before .before .before .before .args .position in
+    rw (c .at-place .ensures, q .1 i, found-none (storeWalk s .elements) i (omega arith))
+
+-- the position's row stands within the table
+room : (c : tie.Else1) → c .before .before .before .before .before .before .before .before .before .before .args .position * 6 + 1 < 1536
+room c =
+    let k = c .before .before in
+    let s = k .before .before .before .before .before .before .before .before .args .s .now in
+    let q = store-holds s (k .n .given .0 .0) (sym (k .before .before .before .before .read-store .ensures .0) ∙ k .n .given .1) in
+    omega (arith, store-most s)
 
 mul-at : tie.Need-mul-at
-mul-at c =
-    let k = c .before .before in
-    let s = k .before .before .before .before .before .before .before .before .args .s .now in
-    let q = store-holds s (k .n .given .0 .0) (sym (k .before .before .before .before .read-store .ensures .0) ∙ k .n .given .1) in
-    omega (arith, store-most s)
+mul-at c = omega (arith, room c)
 
 mul-t16 : tie.Need-mul-t16
-mul-t16 c =
-    let k = c .before .before in
-    let s = k .before .before .before .before .before .before .before .before .args .s .now in
-    let q = store-holds s (k .n .given .0 .0) (sym (k .before .before .before .before .read-store .ensures .0) ∙ k .n .given .1) in
-    omega (arith, store-most s)
+mul-t16 c = omega (arith, room c)
 
 array-read-t19 : tie.Need-array-read-t19
-array-read-t19 c =
-    let k = c .before .before in
-    let s = k .before .before .before .before .before .before .before .before .args .s .now in
-    let q = store-holds s (k .n .given .0 .0) (sym (k .before .before .before .before .read-store .ensures .0) ∙ k .n .given .1) in
-    omega (arith, store-most s)
+array-read-t19 c = omega (arith, room c)
 
 add-t21 : tie.Need-add-t21
-add-t21 c =
-    let k = c .before .before in
-    let s = k .before .before .before .before .before .before .before .before .args .s .now in
-    let q = store-holds s (k .n .given .0 .0) (sym (k .before .before .before .before .read-store .ensures .0) ∙ k .n .given .1) in
-    omega (arith, store-most s)
+add-t21 c = omega (arith, room c)
 
 mul-t22 : tie.Need-mul-t22
-mul-t22 c =
-    let k = c .before .before in
-    let s = k .before .before .before .before .before .before .before .before .args .s .now in
-    let q = store-holds s (k .n .given .0 .0) (sym (k .before .before .before .before .read-store .ensures .0) ∙ k .n .given .1) in
-    omega (arith, store-most s)
+mul-t22 c = omega (arith, room c)
 
 array-read-t25 : tie.Need-array-read-t25
-array-read-t25 c =
-    let k = c .before .before in
-    let s = k .before .before .before .before .before .before .before .before .args .s .now in
-    let q = store-holds s (k .n .given .0 .0) (sym (k .before .before .before .before .read-store .ensures .0) ∙ k .n .given .1) in
-    omega (arith, store-most s)
+array-read-t25 c = omega (arith, room c)
 
 returns-2 : tie.Need-returns-2
 returns-2 c =
     let k = c .before in
     let s = k .before .before .before .before .before .before .before .before .args .s .now in
-    sym (store-refused s (k .r .given .0 .0) (sym (k .before .before .before .before .read-store .ensures .0) ∙ k .r .given .1) (k .before .before .before .before .before .before .before .before .args .position))
+    rw (store-refused s (k .r .given .0 .0) (sym (k .before .before .before .before .read-store .ensures .0) ∙ k .r .given .1) (k .before .before .before .before .before .before .before .before .args .position))
 
 returns-3 : tie.Need-returns-3
 returns-3 c =
@@ -87,7 +74,7 @@ returns-3 c =
     let s = k .before .before .before .before .before .before .before .before .args .s .now in
     let q = store-holds s (k .n .given .0 .0) (sym (k .before .before .before .before .read-store .ensures .0) ∙ k .n .given .1) in
     let i = k .before .before .before .before .before .before .before .before .args .position in
-    rw (q .1 i, k .before .before .before .before .read-store .ensures .1) (sym (found-row (storeWalk s .elements) _ i (omega arith)))
+    rw (q .1 i, k .before .before .before .before .read-store .ensures .1) (ap tellFound (sym (found-row (storeWalk s .elements) _ i (omega arith))))
 
 pub find-element-spec : {M : Type 1} → statement M
 find-element-spec =

@@ -1,0 +1,98 @@
+-- An element that was read had no fault on the way: its id and serial number were not seen before.
+-- Assumes nothing.
+use mathlib.Core.Path.{_≡_, refl, sym, subst, ap, _∙_}
+use mathlib.Core.Bool.{Bool, true, false}
+use mathlib.Core.List.{List}
+use Prim.Native.Nat.{ℕ}
+use Rattle.laws.specs.Once.{seen}
+use Rattle.laws.proofs.Cases.{impossible}
+use Rattle.objects.specs.Steps.{placeOf, serialHere, idHere, runHere, closedAt, closed, inside, number}
+use Rattle.objects.specs.declared.reading.Reading.{Reading}
+use Rattle.objects.specs.declared.reading.Reading.the-variants as reading
+use Rattle.store.specs.Element.{sameKey, namedKey, numberedKey, freshKey, keyHere, onKey, judged, idField, serialField, fieldsOf, opened, dataOf, elementAt}
+use Rattle.store.specs.declared.element.Key.{Key}
+use Rattle.store.specs.declared.element.Element.{Element}
+use Rattle.store.specs.declared.element.ReadingKey.{ReadingKey}
+use Rattle.store.specs.declared.element.ReadingKey.the-variants.{At, Refused}
+use Rattle.store.specs.declared.element.ReadElement.the-variants as element
+use Rattle.store.proofs.Fields.{element-parts}
+
+-- no fault stands
+abbrev pub Stands : Reading → Type 0
+Stands (reading.At p v) = Unit {0}
+Stands (reading.Refused r) = ⊥
+
+abbrev StandsKey : ReadingKey → Type 0
+StandsKey (At q k) = Unit {0}
+StandsKey (Refused r) = ⊥
+
+-- ---- no step takes a fault away
+
+pub stands-inside : (s : List ℕ) (depth kind : ℕ) (c : Reading) → Stands (inside s depth kind c) → Stands c
+unfolding inside
+stands-inside s depth kind (reading.At p v) h = tt
+stands-inside s depth kind (reading.Refused r) h = h
+
+pub stands-closed : (s : List ℕ) (c f : Reading) → Stands (closed s c f) → Stands c × Stands f
+unfolding closedAt
+stands-closed s (reading.Refused r) f h = absurd h
+stands-closed s (reading.At from n) (reading.Refused r) h = absurd h
+stands-closed s (reading.At from n) (reading.At p v) h = (tt, tt)
+
+stands-number : (d : List ℕ) (c : Reading) → Stands (number d c) → Stands c
+unfolding number
+stands-number d (reading.At p v) h = tt
+stands-number d (reading.Refused r) h = h
+
+stands-on : (k : ReadingKey) → Stands (onKey k) → StandsKey k
+unfolding onKey
+stands-on (At q k) h = tt
+stands-on (Refused r) h = h
+
+-- a key that was judged and stands was not seen before, and is the one that was read
+pub fresh-stands : (p : ℕ) (was : Bool) (c : ReadingKey) → StandsKey (freshKey p was c) → (was ≡ false) × (freshKey p was c ≡ c) × StandsKey c
+unfolding freshKey
+fresh-stands p true (At q k) h = absurd h
+fresh-stands p false (At q k) h = (refl, refl, tt)
+fresh-stands p was (Refused r) h = absurd h
+
+unseen : (p : ℕ) (before : List Key) (c : ReadingKey) → StandsKey (judged before p c) → seen sameKey (keyHere (judged before p c)) before ≡ false
+unseen p before c h =
+    let f = fresh-stands p (seen sameKey (keyHere c) before) c h in
+    rw (f .1) (f .0)
+
+stands-serial-field : (serials : List Key) (d : List ℕ) (c : Reading) → StandsKey (serialField serials d c) → Stands c
+unfolding serialField numberedKey serialHere
+stands-serial-field serials d (reading.At p v) h = tt
+stands-serial-field serials d (reading.Refused r) h =
+    fresh-stands (placeOf (reading.Refused r)) (seen sameKey (keyHere (Refused r)) serials) (Refused r) h .2
+
+-- ---- the fields
+
+pub fields-unseen : (ids serials : List Key) (d : List ℕ) → Stands (fieldsOf ids serials d .last)
+    → (seen sameKey (fieldsOf ids serials d .id) ids ≡ false) × (seen sameKey (fieldsOf ids serials d .serial) serials ≡ false)
+unfolding fieldsOf idField serialField
+fields-unseen ids serials d h =
+    let c = onKey (idField ids d) in
+    let k : StandsKey (serialField serials d c) = stands-on (serialField serials d c) (stands-number d (onKey (serialField serials d c)) h) in
+    let i : StandsKey (idField ids d) = stands-on (idField ids d) (stands-serial-field serials d c k) in
+    (unseen 0 ids (namedKey 0 (idHere d (reading.At 0 0))) i, unseen (placeOf c) serials (numberedKey (placeOf c) (serialHere d c)) k)
+
+-- ---- the element
+
+pub data-stands : (depth : ℕ) (ids serials : List Key) (s : List ℕ) (c : Reading) (x : Element) → elementAt depth ids serials s c ≡ element.Is x
+    → Stands (dataOf ids serials s c)
+data-stands depth ids serials s c x h =
+    let p = element-parts depth ids serials s c x h in
+    stands-inside s depth 0x01 (dataOf ids serials s c) (subst Stands (sym (p .reached)) tt)
+
+pub element-unseen : (depth : ℕ) (ids serials : List Key) (s : List ℕ) (c : Reading) (x : Element) → elementAt depth ids serials s c ≡ element.Is x
+    → (seen sameKey (x .id) ids ≡ false) × (seen sameKey (x .serial) serials ≡ false)
+unfolding dataOf
+element-unseen depth ids serials s c x h =
+    let p = element-parts depth ids serials s c x h in
+    let o = opened s c in
+    let f = fieldsOf ids serials (runHere s o) in
+    let w = stands-closed s o (f .last) (data-stands depth ids serials s c x h) in
+    let u = fields-unseen ids serials (runHere s o) (w .1) in
+    (rw (p .id) (u .0), rw (p .serial) (u .1))
