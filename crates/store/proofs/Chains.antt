@@ -160,7 +160,7 @@ once-fresh : (key : Element → Key) (done xs : List Element) → once sameKey (
 once-fresh key done [] h f = rw (append-nil done) h
 once-fresh key done (x ∷ xs) h f =
     let e : once sameKey (map key (done ++ (x ∷ []))) ≡ true =
-      ap (once sameKey) (map-append key done (x ∷ [])) ∙ once-more sameKey same-turn (key x) (map key done) ∙ rw (h, f .0) in
+    ap (once sameKey) (map-append key done (x ∷ [])) ∙ once-more sameKey same-turn (key x) (map key done) ∙ rw (h, f .0) in
     rw (← append-assoc done (x ∷ []) xs) (once-fresh key (done ++ (x ∷ [])) xs e (f .1))
 
 -- ---- a store that is read

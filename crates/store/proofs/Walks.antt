@@ -2,19 +2,25 @@
 -- Assumes nothing.
 use mathlib.Core.Path.{_≡_, refl, sym, ap, _∙_}
 use mathlib.Core.Bool.{true, false}
-use mathlib.Core.List.{List, [], _∷_, _++_, map}
-use Prim.Native.Nat.{ℕ, zero, suc, _-_, _+_, _*_, _≤_}
+use mathlib.Core.List.{List, [], _∷_, _++_, map, map-append}
+use Prim.Native.Nat.{ℕ, zero, suc, _-_, _+_, _*_, _%_, _<_, _≤_}
 use native.Mathlib.Numerals.{add-one}
 use native.Mathlib.Omega.{arith}
-use lib.ListN.{length, getD, take, drop, length-append}
-use lib.Seq.{getD-append-add}
+use lib.ListN.{length, getD, take, drop, length-append, set}
+use lib.Seq.{getD-append-add, getD-set-same, getD-set-other}
+use lib.Dec.{eqb}
+use borrow.Author.Tests.{eq-eqb, ne-eqb, eqb-true}
 use Rattle.numbers.specs.declared.refusal.Refusal.{Refusal}
 use Rattle.objects.specs.Steps.{_▹_, nothingOpen, startOfLength, startHere, endHere, nextIs, finish, Good}
 use Rattle.objects.specs.declared.reading.Reading.{Reading}
 use Rattle.objects.specs.declared.reading.Reading.the-variants.{At, Refused}
 use Rattle.objects.proofs.Keep.{good-front, good-start-of-length, good-skip}
-use Rattle.store.specs.Element.{elementAt}
-use Rattle.store.specs.Tables.{keyAt, idKeys, serialKeys, rowOf, idOf, flat, rowsOf, idsOf}
+use Rattle.laws.specs.Once.{seen}
+use Rattle.laws.proofs.Cases.{by-bool, by-eq, impossible}
+use Rattle.laws.proofs.Twice.{seen-append}
+use Rattle.store.specs.Element.{sameKey, elementAt}
+use Rattle.store.specs.Chain.{idsIn, serialsIn}
+use Rattle.store.specs.Tables.{markOf, Marked, Lent, keyAt, idKeys, serialKeys, rowOf, idOf, flat, rowsOf, idsOf}
 use Rattle.store.specs.Store.{packageStart, Walk, walked, onElement, walkFrom, storedOf, WalkedTo}
 use Rattle.store.specs.declared.element.Key.{Key}
 use Rattle.store.specs.declared.element.Element.{Element}
@@ -54,13 +60,15 @@ ids-held done t =
 
 -- ---- what holds whenever the loop's test is reached
 
-pub record Held (s rows₀ ids₀ rows ids : List ℕ) (at : Reading) (n : ℕ) : Type 0 where
+pub record Held (s rows₀ ids₀ rows rowmarks ids idmarks : List ℕ) (at : Reading) (n : ℕ) : Type 0 where
   pub done : List Element
   pub many : length done ≡ n
   pub most : n ≤ 256
   pub good : Good s at
   pub rows-hold : rows ≡ rowsOf done ++ drop (n * 6) rows₀
   pub ids-hold : ids ≡ idsOf done ++ drop (n * 3) ids₀
+  pub serials-marked : Marked rowmarks (serialsIn done)
+  pub ids-marked : Marked idmarks (idsIn done)
   pub walk : walkFrom 256 s [] (packageStart s) ≡ walkFrom (256 - n) s done at
 
 good-package : (s : List ℕ) → Good s (packageStart s)
@@ -68,14 +76,57 @@ unfolding packageStart
 good-package s =
     good-skip s 1 (startOfLength s nothingOpen 0x15 true true 1 (At 0 0)) (good-start-of-length s nothingOpen 0x15 true true 1 (At 0 0) (good-front s 0))
 
-pub held-start : (s rows ids : List ℕ) → Held s rows ids rows ids (packageStart s) 0
+none-marked : (marks : List ℕ) → Marked marks []
+unfolding seen
+none-marked marks k e = refl
+
+pub held-start : (s rows rowmarks ids idmarks : List ℕ) → Held s rows ids rows rowmarks ids idmarks (packageStart s) 0
 unfolding flat
-held-start s rows ids =
-    record { done = []; many = refl; most = omega arith; good = good-package s; rows-hold = refl; ids-hold = refl; walk = refl }
+held-start s rows rowmarks ids idmarks =
+    record {
+      done = [];
+      many = refl;
+      most = omega arith;
+      good = good-package s;
+      rows-hold = refl;
+      ids-hold = refl;
+      serials-marked = none-marked rowmarks;
+      ids-marked = none-marked idmarks;
+      walk = refl;
+    }
+
+-- one key more, with its mark set
+same-mark : (a b : Key) → sameKey a b ≡ true → markOf a ≡ markOf b
+unfolding sameKey
+same-mark a b e =
+    by-eq (a .low) (b .low)
+    (λ l.
+    by-eq (a .high) (b .high)
+    (λ h.
+    let z : eqb (a .number) (b .number) ≡ true = rw (eq-eqb _ _ l, eq-eqb _ _ h) at e in
+    let n : a .number ≡ b .number = eqb-true (a .number) (b .number) z in
+    rw (l, n))
+    (λ h. let z : false ≡ true = rw (eq-eqb _ _ l, ne-eqb _ _ h) at e in impossible (cc)))
+    (λ l. let z : false ≡ true = rw (ne-eqb _ _ l) at e in impossible (cc))
+
+mark-lt : (k : Key) → markOf k < 4096
+mark-lt k = omega arith
+
+marked-more : (marks : List ℕ) (keys : List Key) (x : Key) → 4096 ≤ length marks → Marked marks keys → Marked (set marks (markOf x) 1) (keys ++ (x ∷ []))
+unfolding seen
+marked-more marks keys x l h k e =
+    by-eq (markOf k) (markOf x)
+    (λ q.
+    let z : 1 ≡ 0 = sym (getD-set-same marks (markOf x) 1 0 (omega (arith, mark-lt x))) ∙ rw q at e in
+    impossible (sym z))
+    (λ q.
+    let f : getD marks (markOf k) 0 ≡ 0 = sym (getD-set-other marks (markOf x) (markOf k) 1 0 q) ∙ e in
+    let g : sameKey k x ≡ false = by-bool (sameKey k x) (λ t. absurd (q (same-mark k x t))) (λ t. t) in
+    rw (seen-append sameKey k keys (x ∷ []), h k f, g))
 
 -- ---- the walk at a place
 
-walk-ends : (left : ℕ) (s : List ℕ) (done : List Element) (c : Reading) → nextIs s 0x01 c ≡ false
+pub walk-ends : (left : ℕ) (s : List ℕ) (done : List Element) (c : Reading) → nextIs s 0x01 c ≡ false
     → walkFrom left s done c ≡ walked done (c ▹ endHere s 0x15 ▹ finish s)
 unfolding walkFrom
 walk-ends zero s done c e = rw e
@@ -86,13 +137,13 @@ walk-over : (s : List ℕ) (done : List Element) (c : Reading) → nextIs s 0x01
 unfolding walkFrom
 walk-over s done c e = rw e
 
-walk-element : (left : ℕ) (s : List ℕ) (done : List Element) (c : Reading) → nextIs s 0x01 c ≡ true → (r : ReadElement)
+pub walk-element : (left : ℕ) (s : List ℕ) (done : List Element) (c : Reading) → nextIs s 0x01 c ≡ true → (r : ReadElement)
     → elementAt 14 (map (λ (x : Element). x .id) done) (map (λ (x : Element). x .serial) done) s c ≡ r
     → walkFrom (suc left) s done c ≡ onElement (λ more e. walkFrom left s more e) done r
 unfolding walkFrom
 walk-element left s done c e r q = rw (e, q)
 
-module _ {s rows₀ ids₀ rows ids : List ℕ} {at : Reading} {n : ℕ} (h : Held s rows₀ ids₀ rows ids at n) where
+module _ {s rows₀ ids₀ rows rowmarks ids idmarks : List ℕ} {at : Reading} {n : ℕ} (h : Held s rows₀ ids₀ rows rowmarks ids idmarks at n) where
   abbrev told : Walk
   told = walkFrom 256 s [] (packageStart s)
 
@@ -102,6 +153,18 @@ module _ {s rows₀ ids₀ rows ids : List ℕ} {at : Reading} {n : ℕ} (h : He
 
   held-ids : idKeys ids n ≡ map (λ (x : Element). x .id) (h .done)
   held-ids = rw (h .ids-hold, ← h .many) (ids-held (h .done) (drop (length (h .done) * 3) ids₀))
+
+  -- what is lent to the reading of the next element
+  pub held-lent : n * 6 ≤ length rows → n * 3 ≤ length ids → 4096 ≤ length rowmarks → 4096 ≤ length idmarks → Lent rows rowmarks ids idmarks n
+  held-lent a b c d =
+      record {
+        row-room = a;
+        id-room = b;
+        serial-mark-room = c;
+        id-mark-room = d;
+        serials-marked = rw held-serials (h .serials-marked);
+        ids-marked = rw held-ids (h .ids-marked);
+      }
 
   -- the answer, where the walk ends with these elements
   pub held-answer : (c : Reading) (r : Stored) → told ≡ walked (h .done) c → r ≡ storedOf n c → WalkedTo told r rows₀ rows ids₀ ids
@@ -124,10 +187,11 @@ module _ {s rows₀ ids₀ rows ids : List ℕ} {at : Reading} {n : ℕ} (h : He
       h .walk ∙ rw z (walk-element (256 - (n + 1)) s (h .done) at e (element.Refused r) f)
 
   -- an element more
-  pub held-more : nextIs s 0x01 at ≡ true → (n ≡ 256 → ⊥) → (x : Element) → elementAt 14 (idKeys ids n) (serialKeys rows n) s at ≡ element.Is x
-      → Held s rows₀ ids₀ (take (n * 6) rows ++ (rowOf x ++ drop (n * 6 + 6) rows)) (take (n * 3) ids ++ (idOf (x .id) ++ drop (n * 3 + 3) ids))
+  pub held-more : nextIs s 0x01 at ≡ true → (n ≡ 256 → ⊥) → 4096 ≤ length rowmarks → 4096 ≤ length idmarks → (x : Element) → elementAt 14 (idKeys ids n) (serialKeys rows n) s at ≡ element.Is x
+      → Held s rows₀ ids₀ (take (n * 6) rows ++ (rowOf x ++ drop (n * 6 + 6) rows)) (set rowmarks (markOf (x .serial)) 1)
+      (take (n * 3) ids ++ (idOf (x .id) ++ drop (n * 3 + 3) ids)) (set idmarks (markOf (x .id)) 1)
       (At (x .place + x .length) 0) (n + 1)
-  held-more e d x q =
+  held-more e d lr li x q =
       let z : 256 - n ≡ suc (256 - (n + 1)) = let m = h .most in omega arith in
       let f = rw (held-ids, held-serials) at q in
       let w = element-within 14 (idKeys ids n) (serialKeys rows n) s at x q (h .good) in
@@ -138,6 +202,8 @@ module _ {s rows₀ ids₀ rows ids : List ℕ} {at : Reading} {n : ℕ} (h : He
         good = w .1;
         rows-hold = rw add-one (put-more rowOf 6 row-wide (h .done) x rows rows₀ n (h .many) (h .rows-hold));
         ids-hold = rw add-one (put-more idRow 3 id-wide (h .done) x ids ids₀ n (h .many) (h .ids-hold));
+        serials-marked = rw (map-append (λ (y : Element). y .serial) (h .done) (x ∷ [])) (marked-more rowmarks (serialsIn (h .done)) (x .serial) lr (h .serials-marked));
+        ids-marked = rw (map-append (λ (y : Element). y .id) (h .done) (x ∷ [])) (marked-more idmarks (idsIn (h .done)) (x .id) li (h .ids-marked));
         walk = h .walk ∙ rw z (walk-element (256 - (n + 1)) s (h .done) at e (element.Is x) f);
       }
 

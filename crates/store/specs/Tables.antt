@@ -1,8 +1,12 @@
 -- The working tables: what a row and an id are as numbers, and the keys that stand in a table.
 -- Assumes nothing.
-use Prim.Native.Nat.{ℕ, zero, suc, _+_}
+use mathlib.Core.Path.{_≡_}
+use mathlib.Core.Bool.{false}
+use Prim.Native.Nat.{ℕ, zero, suc, _+_, _*_, _%_, _≤_}
 use mathlib.Core.List.{List, [], _∷_, _++_}
-use lib.ListN.{getD}
+use lib.ListN.{length, getD}
+use Rattle.laws.specs.Once.{seen}
+use Rattle.store.specs.Element.{sameKey}
 use Rattle.store.specs.declared.element.Key.{Key}
 use Rattle.store.specs.declared.element.Element.{Element}
 
@@ -20,6 +24,25 @@ idKeys t n = keysAt t 0 3 n
 
 abbrev pub serialKeys : List ℕ → ℕ → List Key
 serialKeys t n = keysAt t 3 6 n
+
+-- ---- marks, so that most keys need no search: a key whose mark is not set was not seen
+
+abbrev pub markOf : Key → ℕ
+markOf k = (k .number % 4096 + k .low % 4096) % 4096
+
+abbrev pub Marked : List ℕ → List Key → Type 0
+Marked marks keys = (k : Key) → getD marks (markOf k) 0 ≡ 0 → seen sameKey k keys ≡ false
+
+-- both tables and both runs of marks, with n rows in them
+pub record Lent (rows serialMarks ids idMarks : List ℕ) (n : ℕ) : Type 0 where
+  pub row-room : n * 6 ≤ length rows
+  pub id-room : n * 3 ≤ length ids
+  pub serial-mark-room : 4096 ≤ length serialMarks
+  pub id-mark-room : 4096 ≤ length idMarks
+  pub serials-marked : Marked serialMarks (serialKeys rows n)
+  pub ids-marked : Marked idMarks (idKeys ids n)
+
+-- ---- what stands in the tables
 
 -- "a row per element (place, length, type, serial's GUID as two little-endian numbers, serial's number)"
 abbrev pub rowOf : Element → List ℕ

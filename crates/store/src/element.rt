@@ -4,7 +4,7 @@ ghost use Prim.Native.Nat.{_+_, _*_, _≤_};
 ghost use lib.ListN.{length};
 ghost use Rattle.store.specs.Element.{keyOf, namedKey, numberedKey, freshKey, keyHere, onKey, idField, serialField, fieldsOf, opened, dataOf, elementOn, elementAt};
 ghost use Rattle.objects.specs.Steps.{Behind};
-ghost use Rattle.store.specs.Tables.{idKeys, serialKeys};
+ghost use Rattle.store.specs.Tables.{idKeys, serialKeys, Marked, Lent};
 use crate::table::seen_key;
 use numbers::extended_guid::ExtendedGuid;
 use numbers::guid::Guid;
@@ -132,33 +132,40 @@ impl ReadingKey {
 }
 
 // The id at the front of an element's data, with n ids seen before.
-pub fn id_field(d: &[u8], ids: &[u64], n: usize) -> ReadingKey
-    requires { ⌜ n * 3 ≤ length (now ids) ⌝ }
+pub fn id_field(d: &[u8], ids: &[u64], marks: &[u8], n: usize) -> ReadingKey
+    requires { ⌜ (n * 3 ≤ length (now ids)) × (4096 ≤ length (now marks)) × Marked (now marks) (idKeys (now ids) n) ⌝ }
     ensures { λ r. ⌜ r ≡ idField (idKeys (now (ids .entry)) n) (now (d .entry)) ⌝ }
 {
     let c = named_key(Reading::At(0, 0).extended_guid(d), 0);
-    let was = seen_key(ids, 0, 3, n, c.key());
+    let was = seen_key(ids, marks, 0, 3, n, c.key());
     c.fresh(0, was)
 }
 
 // The serial number behind it, with n rows before.
-pub fn serial_field(d: &[u8], c: Reading, rows: &[u64], n: usize) -> ReadingKey
-    requires { ⌜ n * 6 ≤ length (now rows) ⌝ }
+pub fn serial_field(d: &[u8], c: Reading, rows: &[u64], marks: &[u8], n: usize) -> ReadingKey
+    requires { ⌜ (n * 6 ≤ length (now rows)) × (4096 ≤ length (now marks)) × Marked (now marks) (serialKeys (now rows) n) ⌝ }
     ensures { λ r. ⌜ r ≡ serialField (serialKeys (now (rows .entry)) n) (now (d .entry)) c ⌝ }
 {
     let p = c.place();
     let k = numbered_key(c.serial(d), p);
-    let was = seen_key(rows, 3, 6, n, k.key());
+    let was = seen_key(rows, marks, 3, 6, n, k.key());
     k.fresh(p, was)
 }
 
 // The fields of an element, in the part that its data run is.
-pub fn read_fields(d: &[u8], rows: &[u64], ids: &[u64], n: usize) -> Fields
-    requires { ⌜ (n * 6 ≤ length (now rows)) × (n * 3 ≤ length (now ids)) ⌝ }
+pub fn read_fields(
+    d: &[u8],
+    rows: &[u64],
+    rowmarks: &[u8],
+    ids: &[u64],
+    idmarks: &[u8],
+    n: usize,
+) -> Fields
+    requires { ⌜ Lent (now rows) (now rowmarks) (now ids) (now idmarks) n ⌝ }
     ensures { λ r. ⌜ r ≡ fieldsOf (idKeys (now (ids .entry)) n) (serialKeys (now (rows .entry)) n) (now (d .entry)) ⌝ }
 {
-    let i = id_field(d, ids, n);
-    let k = serial_field(d, i.on(), rows, n);
+    let i = id_field(d, ids, idmarks, n);
+    let k = serial_field(d, i.on(), rows, rowmarks, n);
     Fields {
         id: i.key(),
         serial: k.key(),
@@ -172,14 +179,16 @@ pub fn read_element(
     c: Reading,
     depth: usize,
     rows: &[u64],
+    rowmarks: &[u8],
     ids: &[u64],
+    idmarks: &[u8],
     n: usize,
 ) -> ReadElement
-    requires { ⌜ (n * 6 ≤ length (now rows)) × (n * 3 ≤ length (now ids)) ⌝ }
+    requires { ⌜ Lent (now rows) (now rowmarks) (now ids) (now idmarks) n ⌝ }
     ensures { λ r. ⌜ r ≡ elementAt depth (idKeys (now (ids .entry)) n) (serialKeys (now (rows .entry)) n) (now (s .entry)) c ⌝ }
 {
     let o = c.start(s, PACKAGE, ELEMENT, true, true);
-    let f = read_fields(o.run(s), rows, ids, n);
+    let f = read_fields(o.run(s), rows, rowmarks, ids, idmarks, n);
     let last = f.last;
     let k = o.closed(s, last);
     let e = k.inside(s, depth, ELEMENT);

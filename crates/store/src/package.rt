@@ -9,6 +9,7 @@ use crate::element::PACKAGE;
 use crate::element::ReadElement;
 use crate::element::read_element;
 use crate::table::put_id;
+use crate::table::put_mark;
 use crate::table::put_row;
 use numbers::refusal::LONGEST_INPUT;
 use numbers::refusal::Refusal;
@@ -47,8 +48,14 @@ fn count_if_fine(n: usize, c: Reading) -> Stored
 }
 
 // The package's elements, into the tables, and its end.
-fn walk(s: &[u8], rows: &mut [u64], ids: &mut [u64]) -> Stored
-    requires { ⌜ (1536 ≤ length (now rows)) × (768 ≤ length (now ids)) ⌝ }
+fn walk(
+    s: &[u8],
+    rows: &mut [u64],
+    rowmarks: &mut [u8],
+    ids: &mut [u64],
+    idmarks: &mut [u8],
+) -> Stored
+    requires { ⌜ (1536 ≤ length (now rows)) × (768 ≤ length (now ids)) × (4096 ≤ length (now rowmarks)) × (4096 ≤ length (now idmarks)) ⌝ }
     ensures { λ r. ⌜ WalkedTo (walkFrom 256 (now (s .entry)) [] (packageStart (now (s .entry)))) r (now (rows .entry)) (now (rows .exit)) (now (ids .entry)) (now (ids .exit)) ⌝ }
 {
     let mut at = package_start(s);
@@ -57,12 +64,15 @@ fn walk(s: &[u8], rows: &mut [u64], ids: &mut [u64]) -> Stored
         if n == MOST_ELEMENTS {
             return count_if_fine(n, at.start(s, PACKAGE, ELEMENT, true, false));
         }
-        match read_element(s, at, LEVELS_INSIDE, rows, ids, n) {
+        match read_element(s, at, LEVELS_INSIDE, rows, rowmarks, ids, idmarks, n) {
             ReadElement::Refused(r) => return Stored::Refused(r),
             ReadElement::Is(x) => {
                 let id = x.id;
+                let serial = x.serial;
                 put_row(rows, n, x);
                 put_id(ids, n, id);
+                put_mark(rowmarks, serial);
+                put_mark(idmarks, id);
                 n += 1;
                 at = Reading::At(x.place + x.length, 0);
             }
@@ -79,5 +89,7 @@ pub fn read_store(s: &[u8], rows: &mut [u64], ids: &mut [u64]) -> Stored
     if LONGEST_INPUT < s.len() {
         return Stored::Refused(over_long());
     }
-    walk(s, rows, ids)
+    let mut rowmarks = [0u8; 4096];
+    let mut idmarks = [0u8; 4096];
+    walk(s, rows, &mut rowmarks, ids, &mut idmarks)
 }

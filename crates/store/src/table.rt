@@ -2,11 +2,11 @@
 // the serial's number) and ids of three (the GUID as two numbers, the number).
 ghost use mathlib.Core.Path.{_≡_};
 ghost use mathlib.Core.List.{_++_, _∷_};
-ghost use Prim.Native.Nat.{_+_, _*_, _≤_};
-ghost use lib.ListN.{length, take, drop};
+ghost use Prim.Native.Nat.{_+_, _*_, _≤_, _<_};
+ghost use lib.ListN.{length, take, drop, set};
 ghost use Rattle.laws.specs.Once.{seen};
 ghost use Rattle.store.specs.Element.{sameKey};
-ghost use Rattle.store.specs.Tables.{keyAt, keysAt, rowOf, idOf};
+ghost use Rattle.store.specs.Tables.{keyAt, keysAt, rowOf, idOf, markOf, Marked};
 use crate::element::Element;
 use crate::element::Key;
 
@@ -34,8 +34,35 @@ fn same_key(a: Key, b: Key) -> bool
     a.number == b.number
 }
 
-// Whether a key is among those of n rows, each with a key at this offset.
-pub fn seen_key(t: &[u64], offset: usize, width: usize, n: usize, k: Key) -> bool
+// Where a key's mark stands among 4,096.
+fn mark_of(k: Key) -> usize
+    ensures { λ r. ⌜ (r ≡ markOf k) × (r < 4096) ⌝ }
+{
+    ((k.number % 4096 + k.low % 4096) % 4096) as usize
+}
+
+// The key's mark is set.
+pub fn put_mark(marks: &mut [u8], k: Key)
+    requires { ⌜ 4096 ≤ length (now marks) ⌝ }
+    ensures { λ _. ⌜ now (marks .exit) ≡ set (now (marks .entry)) (markOf k) 1 ⌝ }
+{
+    let at = mark_of(k);
+    marks[at] = 1;
+}
+
+// Whether a key is among those of n rows, each with a key at this offset. Only a key whose mark is set is searched for.
+pub fn seen_key(t: &[u64], marks: &[u8], offset: usize, width: usize, n: usize, k: Key) -> bool
+    requires { ⌜ (offset + 3 ≤ width) × (n * width ≤ length (now t)) × (4096 ≤ length (now marks)) × Marked (now marks) (keysAt (now t) offset width n) ⌝ }
+    ensures { λ r. ⌜ r ≡ seen sameKey k (keysAt (now (t .entry)) offset width n) ⌝ }
+{
+    let at = mark_of(k);
+    if marks[at] == 0 {
+        return false;
+    }
+    search_key(t, offset, width, n, k)
+}
+
+fn search_key(t: &[u64], offset: usize, width: usize, n: usize, k: Key) -> bool
     requires { ⌜ (offset + 3 ≤ width) × (n * width ≤ length (now t)) ⌝ }
     ensures { λ r. ⌜ r ≡ seen sameKey k (keysAt (now (t .entry)) offset width n) ⌝ }
 {

@@ -19,7 +19,7 @@ read-fields-requires c κs = search needs
 closed-requires : tie.Need-closed-requires
 closed-requires c κs =
     rw (c .read-fields .ensures, c .before .run .ensures)
-    (good-fields _ _ (runHere (c .before .before .before .before .before .before .args .s .now) (c .before .before .start .result)))
+    (good-fields _ _ (runHere (c .before .before .before .before .before .before .before .before .args .s .now) (c .before .before .start .result)))
 
 inside-requires : tie.Need-inside-requires
 inside-requires c κs = search needs

@@ -15,6 +15,12 @@ returns : tie.Need-returns
 unfolding storeWalk flat storedOf
 returns c = rw (lt-ltb _ _ (c .before .if1 .taken), c .over-long .ensures) (refl, refl, refl)
 
+slice-aggregate-walk : tie.Need-slice-aggregate-walk
+slice-aggregate-walk c = search needs
+
+slice-aggregate-walk-2 : tie.Need-slice-aggregate-walk-2
+slice-aggregate-walk-2 c = search needs
+
 walk-requires : tie.Need-walk-requires
 walk-requires c κs = search needs
 
@@ -26,9 +32,17 @@ same-length-2 c = search needs
 
 returns-2 : tie.Need-returns-2
 unfolding storeWalk
-returns-2 c = rw (le-ltb _ _ (c .before .before .before .before .before .before .before .if1 .left)) (c .before .before .before .before .walk .ensures)
+returns-2 c = rw (le-ltb _ _ (c .before .before .before .before .before .before .before .before .before .before .before .if1 .left)) (c .before .before .before .before .before .before .walk .ensures)
 
 pub read-store-spec : {M : Type 1} → statement M
 read-store-spec =
     tie.close
-    (tie.spec over-long-requires returns walk-requires same-length same-length-2 returns-2)
+    (tie.spec
+    over-long-requires
+    returns
+    slice-aggregate-walk
+    slice-aggregate-walk-2
+    walk-requires
+    same-length
+    same-length-2
+    returns-2)

@@ -1,93 +1,29 @@
--- `table::seen_key` meets its contract. The invariant: the key is among all keys as it is among those still to come.
+-- `table::seen_key` meets its contract: a key whose mark is not set was not seen.
 -- Assumes nothing.
-use mathlib.Core.Path.{_≡_, sym, ap, _∙_}
-use native.Mathlib.Omega.{arith}
-use Prim.Native.Nat.{_+_, _-_, _*_, _≤_, _<_}
-use mathlib.Core.Bool.{true, false}
+use mathlib.Core.Path.{sym}
 use borrow.Author.Needs.{needs}
-use lib.ListN.{length}
-use Rattle.laws.specs.Once.{seen}
-use Rattle.store.specs.Element.{sameKey}
-use Rattle.store.specs.Tables.{keyAt, keysAt}
-use Rattle.store.proofs.Rows.{keys-turn, keys-end, keys-front, key-room, seen-first, seen-later, seen-none}
 use Rattle.store.proofs.table.seen_key.Statement.{statement}
 use Rattle.store.proofs.table.seen_key.Tie as tie
 
-abbrev Inv-loop : tie.InvT-loop
-Inv-loop t offset width n k i₀ i = (i ≤ n) × (seen sameKey k (keysAt t offset width n) ≡ seen sameKey k (keysAt t (i * width + offset) width (n - i)))
+mark-of-requires : tie.Need-mark-of-requires
+mark-of-requires c κs = search needs
 
-abbrev μ-loop : tie.MeasureT-loop
-μ-loop t offset width n k i₀ i = n - i
+shared-slice-read-if1 : tie.Need-shared-slice-read-if1
+shared-slice-read-if1 c = search needs
 
-loop-holds : tie.Need-loop-holds Inv-loop μ-loop
-loop-holds c = let a = c .before .args in (omega arith, ap (seen sameKey (a .k)) (keys-front (a .t .now) (a .width) (a .offset) (a .n)))
-
-mul-at : tie.Need-mul-at Inv-loop μ-loop
-mul-at c =
-    let l = c .before in
-    let a = l .before .before .args in
-    omega (arith, key-room (l .loop .i) (a .n) (a .width) (a .offset) (length (a .t .now)) (omega arith) (omega arith) (omega arith))
-
-add-at : tie.Need-add-at Inv-loop μ-loop
-add-at c =
-    let l = c .before in
-    let a = l .before .before .args in
-    omega (arith, key-room (l .loop .i) (a .n) (a .width) (a .offset) (length (a .t .now)) (omega arith) (omega arith) (omega arith))
-
-key-at-requires : tie.Need-key-at-requires Inv-loop μ-loop
-key-at-requires c κs =
-    let l = c .before in
-    let a = l .before .before .args in
-    key-room (l .loop .i) (a .n) (a .width) (a .offset) (length (a .t .now)) (omega arith) (omega arith) (omega arith)
-
-same-key-requires : tie.Need-same-key-requires Inv-loop μ-loop
-same-key-requires c κs = search needs
-
-returns : tie.Need-returns Inv-loop μ-loop
+returns : tie.Need-returns
 returns c =
-    let l = c .before .before .before .before in
-    let a = l .before .before .args in
-    let h : l .loop .i < a .n = omega arith in
-    let x = keyAt (a .t .now) (l .loop .i * a .width + a .offset) in
-    let e : sameKey (a .k) x ≡ true = cc in
-    let t = keys-turn (a .t .now) (a .width) (a .offset) (l .loop .i) (a .n) h in
-    sym (l .loop .inv .1 ∙ ap (seen sameKey (a .k)) t ∙ seen-first (a .k) x _ e)
+    let k = c .before .before .before .before .before in
+    let e = rw (c .before .before .mark-of .ensures .0) at (c .if1 .taken) in
+    sym (k .pre .3 (k .args .k) e)
 
-add-i : tie.Need-add-i Inv-loop μ-loop
-add-i c = omega arith
+search-key-requires : tie.Need-search-key-requires
+search-key-requires c κs = search needs
 
-loop-less : tie.Need-loop-less Inv-loop μ-loop
-loop-less c = omega arith
-
-loop-again : tie.Need-loop-again Inv-loop μ-loop
-loop-again c =
-    let l = c .before .before .before .before in
-    let a = l .before .before .args in
-    let h : l .loop .i < a .n = omega arith in
-    let x = keyAt (a .t .now) (l .loop .i * a .width + a .offset) in
-    let e : sameKey (a .k) x ≡ false = cc in
-    let t = keys-turn (a .t .now) (a .width) (a .offset) (l .loop .i) (a .n) h in
-    (omega arith, l .loop .inv .1 ∙ ap (seen sameKey (a .k)) t ∙ seen-later (a .k) x _ e)
-
-returns-2 : tie.Need-returns-2 Inv-loop μ-loop
-returns-2 c =
-    let l = c .before in
-    let a = l .before .before .args in
-    sym (l .loop .inv .1 ∙ ap (seen sameKey (a .k)) (keys-end (a .t .now) (a .width) (a .offset) (l .loop .i) (a .n) (omega arith)) ∙ seen-none (a .k))
+returns-2 : tie.Need-returns-2
+returns-2 c = search needs
 
 pub seen-key-spec : {M : Type 1} → statement M
 seen-key-spec =
     tie.close
-    (tie.spec
-    Inv-loop
-    μ-loop
-    loop-holds
-    mul-at
-    add-at
-    key-at-requires
-    same-key-requires
-    returns
-    add-i
-    loop-less
-    loop-again
-    returns-2)
+    (tie.spec mark-of-requires shared-slice-read-if1 returns search-key-requires returns-2)
