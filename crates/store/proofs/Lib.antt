@@ -3,7 +3,4 @@ pub mod Rows
 pub mod Fields
 pub mod Walks
 pub mod Found
-pub mod Taken
-pub mod Chains
-pub mod OneAnswers
-pub mod WrongAnswers
+pub mod ElementWritten

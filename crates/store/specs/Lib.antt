@@ -2,4 +2,4 @@ pub mod Element
 pub mod Tables
 pub mod Store
 pub mod Accessor
-pub mod Chain
+pub mod Written

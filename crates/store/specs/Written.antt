@@ -1,0 +1,75 @@
+-- An element and a store as they are written. "writing uses the shortest"; the package's one data byte is "reserved: .. zero
+-- when written".
+-- Assumes nothing.
+use mathlib.Core.Path.{_≡_}
+use Prim.Native.Nat.{ℕ, _+_, _^_, _<_}
+use mathlib.Core.Bool.{true}
+use mathlib.Core.List.{List, [], _∷_, _++_}
+use lib.ListN.{length}
+use Rattle.numbers.specs.Compact.{compactBytes}
+use Rattle.numbers.specs.ExtendedGuid.{extendedGuidBytes}
+use Rattle.numbers.specs.Serial.{serialBytes}
+use Rattle.numbers.specs.declared.guid.Guid.{Guid}
+use Rattle.numbers.specs.declared.extended_guid.ExtendedGuid.the-variants.{Named}
+use Rattle.numbers.specs.declared.serial.Serial.the-variants.{Numbered}
+use Rattle.objects.specs.Header.{startBytes, endBytes}
+use Rattle.objects.specs.Nesting.{runAt}
+use Rattle.objects.specs.declared.nesting.Passed.the-variants.{To}
+use Rattle.store.specs.declared.element.Key.{Key}
+use Rattle.store.specs.declared.element.Element.{Element}
+
+-- what an element is made of
+pub record Content : Type 0 where
+  pub id : Key
+  pub serial : Key
+  pub kind : ℕ
+  pub inner : List ℕ  -- what is inside, and the element's end
+
+abbrev pub guidOf : Key → Guid
+guidOf k = record { low = k .low; high = k .high }
+
+-- "data = extended GUID, serial number, element type"
+unfoldable pub fieldBytes : Content → List ℕ
+fieldBytes c =
+    extendedGuidBytes (Named (guidOf (c .id)) (c .id .number))
+    ++ (serialBytes (Numbered (guidOf (c .serial)) (c .serial .number)) ++ compactBytes (c .kind))
+
+unfoldable pub writtenElement : Content → List ℕ
+writtenElement c = startBytes 0x01 true (length (fieldBytes c)) ++ (fieldBytes c ++ c .inner)
+
+unfoldable pub writtenElements : List Content → List ℕ
+writtenElements [] = []
+writtenElements (c ∷ cs) = writtenElement c ++ writtenElements cs
+
+-- the package's start and its one data byte
+unfoldable pub packageFront : List ℕ
+packageFront = startBytes 0x15 true 1 ++ (0 ∷ [])
+
+unfoldable pub packageBytes : List Content → List ℕ
+packageBytes cs = packageFront ++ (writtenElements cs ++ endBytes 0x15)
+
+-- what can be written, with so many levels left for what is inside
+pub record ContentFits (depth : ℕ) (c : Content) : Type 0 where
+  pub id-low : c .id .low < 2 ^ 64
+  pub id-high : c .id .high < 2 ^ 64
+  pub id-number : c .id .number < 2 ^ 32
+  pub serial-low : c .serial .low < 2 ^ 64
+  pub serial-high : c .serial .high < 2 ^ 64
+  pub serial-number : c .serial .number < 2 ^ 64
+  pub kind : c .kind < 2 ^ 64
+  pub nested : runAt (c .inner) 0 depth 0x01 ≡ To (length (c .inner))
+
+abbrev pub AllFit : ℕ → List Content → Type 0
+AllFit depth [] = Unit {0}
+AllFit depth (c ∷ cs) = ContentFits depth c × AllFit depth cs
+
+-- ---- what a reader finds
+
+-- the element that stands at a place
+abbrev pub elementOf : ℕ → Content → Element
+elementOf at c = record { place = at; length = length (writtenElement c); kind = c .kind; id = c .id; serial = c .serial }
+
+-- elements one behind the other
+unfoldable pub elementsFrom : ℕ → List Content → List Element
+elementsFrom at [] = []
+elementsFrom at (c ∷ cs) = elementOf at c ∷ elementsFrom (at + length (writtenElement c)) cs
