@@ -4,3 +4,4 @@ pub mod Fields
 pub mod Walks
 pub mod Found
 pub mod ElementWritten
+pub mod PackageWritten
