@@ -5,3 +5,4 @@ pub mod Walks
 pub mod Found
 pub mod ElementWritten
 pub mod PackageWritten
+pub mod ElementCarry
