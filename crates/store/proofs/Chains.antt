@@ -2,18 +2,17 @@
 -- and no serial number stands twice among them.
 -- Assumes nothing.
 use mathlib.Core.Path.{_≡_, refl, sym, subst, ap, _∙_}
-use mathlib.Core.Bool.{Bool, true, false}
+use mathlib.Core.Bool.{true, false}
 use mathlib.Core.List.{List, [], _∷_, _++_, map, append-assoc, append-nil, map-append}
 use Prim.Native.Nat.{ℕ, zero, suc, _+_, _-_, _<_, _≤_}
 use native.Mathlib.Omega.{arith}
 use lib.ListN.{length}
-use lib.Dec.{ltb, eqb}
-use borrow.Author.Tests.{lt-ltb, le-ltb, ne-eqb}
-use Rattle.laws.specs.Pick.{pick}
-use Rattle.laws.specs.Once.{seen, once}
-use Rattle.laws.proofs.Cases.{by-bool, by-lt, by-eq, pick-all, impossible}
+use lib.Dec.{eqb}
+use borrow.Author.Tests.{lt-ltb, le-ltb}
+use Rattle.laws.specs.Once.{once}
+use Rattle.laws.proofs.Cases.{by-bool, by-lt, pick-all, impossible}
 use Rattle.laws.proofs.Twice.{once-more}
-use Rattle.numbers.specs.Refusals.{longestInput, overLong}
+use Rattle.numbers.specs.Refusals.{longestInput}
 use Rattle.objects.specs.Steps.{_▹_, no, sameBit, placeOf, startOn, startHere, endHere, nextIs, finish, Behind, insideOn, inside}
 use Rattle.objects.specs.Header.{headerAt}
 use Rattle.objects.specs.declared.header.Header.{Header}
@@ -21,7 +20,7 @@ use Rattle.objects.specs.declared.header.Header.the-variants as header
 use Rattle.objects.specs.declared.reading.Reading.{Reading}
 use Rattle.objects.specs.declared.reading.Reading.the-variants as reading
 use Rattle.store.specs.Element.{sameKey, elementAt, dataOf}
-use Rattle.store.specs.Store.{packageStart, Walk, walked, closing, onElement, walkFrom, storeWalk}
+use Rattle.store.specs.Store.{packageStart, Walk, closing, onElement, walkFrom, storeWalk}
 use Rattle.store.specs.Chain.{idsIn, serialsIn, Chain, Fresh, Tiles}
 use Rattle.store.specs.declared.element.Key.{Key}
 use Rattle.store.specs.declared.element.Element.{Element}
@@ -32,6 +31,7 @@ use Rattle.objects.specs.declared.nesting.Passed.{Passed}
 use Rattle.objects.specs.declared.nesting.Passed.the-variants as passed
 use Rattle.objects.proofs.Ahead.{run-next}
 use Rattle.store.proofs.Fields.{element-parts, data-at-least}
+use Rattle.store.proofs.PackageWritten.{same-turn}
 use Rattle.store.proofs.Taken.{Stands, element-unseen}
 
 -- ---- the walk
@@ -109,9 +109,6 @@ walk-read (suc left) s done at v =
 
 -- ---- what a chain is
 
-eqb-turn : (a b : ℕ) → eqb a b ≡ eqb b a
-eqb-turn a b = by-eq a b (λ e. rw e) (λ n. rw (ne-eqb a b n, ne-eqb b a (λ z. n (sym z))))
-
 passed-past : (s : List ℕ) (p q depth e v : ℕ) (r : Passed) → p ≤ q → runAt s q depth 0x01 ≡ r → insideOn r ≡ reading.At e v → p < e
 passed-past s p q depth e v (passed.To x) h a i = let w = run-next s q depth 0x01 x a in let z : x ≡ e = cc in omega arith
 passed-past s p q depth e v (passed.Refused r) h a i = impossible (cc)
@@ -148,11 +145,6 @@ pub chain-serials : (s : List ℕ) (done xs : List Element) (at e : ℕ) → Cha
 chain-serials s done [] at e c = tt
 chain-serials s done (x ∷ xs) at e c =
     (element-unseen 14 (idsIn done) (serialsIn done) s (reading.At at 0) x (c .0) .1, chain-serials s (done ++ (x ∷ [])) xs (x .place + x .length) e (c .1))
-
-same-turn : (a b : Key) → sameKey a b ≡ sameKey b a
-unfolding sameKey
-same-turn a b =
-    rw (eqb-turn (a .low) (b .low), eqb-turn (a .high) (b .high), eqb-turn (a .number) (b .number))
 
 -- so none stands twice
 once-fresh : (key : Element → Key) (done xs : List Element) → once sameKey (map key done) ≡ true → Fresh key done xs

@@ -3,6 +3,10 @@ pub mod Rows
 pub mod Fields
 pub mod Walks
 pub mod Found
+pub mod Taken
 pub mod ElementWritten
 pub mod PackageWritten
 pub mod ElementCarry
+pub mod Chains
+pub mod OneAnswers
+pub mod WrongAnswers

@@ -1,11 +1,10 @@
 -- An element that was read had no fault on the way: its id and serial number were not seen before.
 -- Assumes nothing.
-use mathlib.Core.Path.{_≡_, refl, sym, subst, ap, _∙_}
+use mathlib.Core.Path.{_≡_, refl, sym, subst}
 use mathlib.Core.Bool.{Bool, true, false}
 use mathlib.Core.List.{List}
 use Prim.Native.Nat.{ℕ}
 use Rattle.laws.specs.Once.{seen}
-use Rattle.laws.proofs.Cases.{impossible}
 use Rattle.objects.specs.Steps.{placeOf, serialHere, idHere, runHere, closedAt, closed, inside, number}
 use Rattle.objects.specs.declared.reading.Reading.{Reading}
 use Rattle.objects.specs.declared.reading.Reading.the-variants as reading

@@ -1,5 +1,6 @@
 pub mod Element
 pub mod Tables
 pub mod Store
+pub mod Chain
 pub mod Accessor
 pub mod Written
