@@ -3,6 +3,7 @@
 mod headers;
 mod items;
 mod say;
+mod stores;
 mod words;
 
 use libc::STDIN_FILENO;
@@ -45,17 +46,23 @@ fn two_words(line: &[u8], space: &mut [u8]) {
     if check::same(mode, b"header") {
         return headers::header(s);
     }
+    if check::same(mode, b"store") {
+        return stores::rows(s);
+    }
     say::bad()
 }
 
-// `MODE NUMBER OUTLEN`
-fn three_words(line: &[u8], out: &mut [u8]) {
+// `MODE NUMBER OUTLEN`, or `element STOREHEX POSITION`.
+fn three_words(line: &[u8], space: &mut [u8], out: &mut [u8]) {
     let mode = words::word(line, 0);
     if check::same(mode, b"wcompact") {
         return items::wcompact(line, out);
     }
     if check::same(mode, b"wend") {
         return headers::wend(line, out);
+    }
+    if check::same(mode, b"element") {
+        return stores::element(line, space);
     }
     say::bad()
 }
@@ -85,7 +92,7 @@ fn five_words(line: &[u8], out: &mut [u8]) {
 fn one_case(line: &[u8], space: &mut [u8], out: &mut [u8]) {
     match words::count(line) {
         2 => two_words(line, space),
-        3 => three_words(line, out),
+        3 => three_words(line, space, out),
         4 => four_words(line, out),
         5 => five_words(line, out),
         _ => say::bad(),

@@ -21,9 +21,14 @@ pub(crate) fn bad() {
     text(b"bad");
 }
 
-pub(crate) fn number(n: u64) {
-    text(b" ");
+// A number behind a mark.
+pub(crate) fn marked(mark: &[u8], n: u64) {
+    text(mark);
     io::print_decimal(STDOUT_FILENO, n);
+}
+
+pub(crate) fn number(n: u64) {
+    marked(b" ", n);
 }
 
 pub(crate) fn refusal(r: Refusal) {

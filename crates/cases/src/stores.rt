@@ -1,0 +1,145 @@
+// The modes for a store: its rows, and one element by its position.
+ghost use mathlib.Core.Bool.{true};
+ghost use mathlib.Core.Path.{_≡_};
+ghost use Prim.Native.Nat.{ℕ, _+_, _*_, _≤_, _<_};
+ghost use lib.ListN.{length, getD};
+use crate::say;
+use crate::words;
+use numbers::refusal::Refusal;
+use store::accessor::Found;
+use store::accessor::element_bytes;
+use store::accessor::find_element;
+use store::package::MOST_ELEMENTS;
+use store::package::Stored;
+use store::package::read_store;
+
+// What every number of both tables holds before a store is read.
+const UNTOUCHED: u64 = 0xA5A5A5A5A5A5A5A5;
+
+// Whether no number was changed.
+fn untouched(t: &[u64]) -> bool
+    ensures { λ r. ⌜ (r ≡ true → (k : ℕ) → k < length (now (t .entry)) → getD (now (t .entry)) k 0 ≡ 0xA5A5A5A5A5A5A5A5) ⌝ }
+{
+    let mut i = 0;
+    while i < t.len() {
+        if t[i] != UNTOUCHED {
+            return false;
+        }
+        i += 1;
+    }
+    true
+}
+
+// The row at a place of the table, behind a mark.
+fn row(mark: &[u8], t: &[u64], at: usize)
+    requires { ⌜ at + 6 ≤ length (now t) ⌝ }
+{
+    say::marked(mark, t[at]);
+    say::marked(b",", t[at + 1]);
+    say::marked(b",", t[at + 2]);
+    say::marked(b",", t[at + 3]);
+    say::marked(b",", t[at + 4]);
+    say::marked(b",", t[at + 5])
+}
+
+// The first n rows of the table.
+fn every_row(t: &[u64], n: usize)
+    requires { ⌜ n * 6 ≤ length (now t) ⌝ }
+{
+    if n == 0 {
+        return say::text(b" -");
+    }
+    row(b" ", t, 0);
+    let mut i = 1;
+    while i < n {
+        row(b";", t, i * 6);
+        i += 1;
+    }
+}
+
+// How many elements, and their rows; or that numbers behind the rows or the ids were changed. More elements than a store may
+// hold count as that.
+fn held(n: usize, rows: &[u64], ids: &[u64])
+    requires { ⌜ (1536 ≤ length (now rows)) × (768 ≤ length (now ids)) ⌝ }
+{
+    if MOST_ELEMENTS < n {
+        return say::text(b"touched");
+    }
+    let rows_end = n * 6;
+    let ids_end = n * 3;
+    if !untouched(&rows[rows_end..]) {
+        return say::text(b"touched");
+    }
+    if !untouched(&ids[ids_end..]) {
+        return say::text(b"touched");
+    }
+    say::text(b"ok");
+    say::number(n as u64);
+    every_row(rows, n)
+}
+
+// What a refusal is; the tables then hold the rows before the fault, and behind the most that they may hold nothing changed.
+fn refused(r: Refusal, rows: &[u64], ids: &[u64])
+    requires { ⌜ (1536 ≤ length (now rows)) × (768 ≤ length (now ids)) ⌝ }
+{
+    if !untouched(&rows[1536..]) {
+        return say::text(b"touched");
+    }
+    if !untouched(&ids[768..]) {
+        return say::text(b"touched");
+    }
+    say::refusal(r)
+}
+
+// `store STOREHEX`. The tables are longer than a store needs.
+pub(crate) fn rows(s: &[u8]) {
+    let mut rows = [UNTOUCHED; 1600];
+    let mut ids = [UNTOUCHED; 800];
+    match read_store(s, &mut rows, &mut ids) {
+        Stored::Holds(n) => held(n, &rows, &ids),
+        Stored::Refused(r) => refused(r, &rows, &ids),
+    }
+}
+
+// Whether a part of s is the one of n bytes at this place.
+fn stands_at(s: &[u8], at: usize, n: usize, part: &[u8]) -> bool {
+    if s.len() < at {
+        return false;
+    }
+    if s.len() - at < n {
+        return false;
+    }
+    let end = at + n;
+    check::same(&s[at..end], part)
+}
+
+// The element at a position; or that its bytes are not those that stand where the call beside it says (on a refusal, none).
+fn at_position(s: &[u8], position: usize) {
+    let part = element_bytes(s, position);
+    match find_element(s, position) {
+        Found::At(at, n) => {
+            if !stands_at(s, at, n, part) {
+                return say::text(b"apart");
+            }
+            say::text(b"ok");
+            say::bytes(part)
+        }
+        Found::Refused(r) => {
+            if part.len() != 0 {
+                return say::text(b"apart");
+            }
+            say::refusal(r)
+        }
+    }
+}
+
+// `element STOREHEX POSITION`
+pub(crate) fn element(line: &[u8], space: &mut [u8]) {
+    let given = words::bytes(words::word(line, 1), space);
+    let position = words::number(words::word(line, 2));
+    if !given.good || !position.good {
+        return say::bad();
+    }
+    let n = given.count;
+    at_position(&space[0..n], position.value as usize)
+}
