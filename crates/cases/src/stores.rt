@@ -78,7 +78,8 @@ fn held(n: usize, rows: &[u64], ids: &[u64])
     every_row(rows, n)
 }
 
-// What a refusal is; the tables then hold the rows before the fault, and behind the most that they may hold nothing changed.
+// A refusal; or that numbers were changed behind the rows and the ids of 256 elements. Before that the tables may hold those of
+// the elements before the fault.
 fn refused(r: Refusal, rows: &[u64], ids: &[u64])
     requires { ⌜ (1536 ≤ length (now rows)) × (768 ≤ length (now ids)) ⌝ }
 {
