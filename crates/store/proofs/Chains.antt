@@ -19,9 +19,9 @@ use Rattle.objects.specs.declared.header.Header.{Header}
 use Rattle.objects.specs.declared.header.Header.the-variants as header
 use Rattle.objects.specs.declared.reading.Reading.{Reading}
 use Rattle.objects.specs.declared.reading.Reading.the-variants as reading
-use Rattle.store.specs.Element.{sameKey, elementAt, dataOf}
+use Rattle.store.specs.Element.{sameKey, elementAt, dataOf, idsIn, serialsIn}
 use Rattle.store.specs.Store.{packageStart, Walk, closing, onElement, walkFrom, storeWalk}
-use Rattle.store.specs.Chain.{idsIn, serialsIn, Chain, Fresh, Tiles}
+use Rattle.store.specs.Chain.{Chain, Fresh, Tiles}
 use Rattle.store.specs.declared.element.Key.{Key}
 use Rattle.store.specs.declared.element.Element.{Element}
 use Rattle.store.specs.declared.element.ReadElement.{ReadElement}
@@ -162,12 +162,12 @@ pub record StoreRead (s : List ℕ) : Type 0 where
   pub first : ℕ
   pub end : ℕ
   pub value : ℕ
-  pub start : Reading
+  pub start : placeOf (packageStart s) ≡ first
   pub chain : Chain s [] first (storeWalk s .elements) end
   pub ends : storeWalk s .last ≡ (reading.At end value ▹ endHere s 0x15 ▹ finish s)
 
 package-read : (s : List ℕ) (c : Reading) → packageStart s ≡ c → Stands (walkFrom 256 s [] c .last) → length s ≤ longestInput → StoreRead s
-unfolding storeWalk walkFrom endHere finish nextIs
+unfolding storeWalk walkFrom endHere finish nextIs placeOf
 package-read s (reading.At at v) e h l =
     let r = walk-read 256 s [] at v h in
     let w : storeWalk s ≡ walkFrom 256 s [] (reading.At at v) = rw (le-ltb longestInput (length s) l, e) in
@@ -175,7 +175,7 @@ package-read s (reading.At at v) e h l =
       first = at;
       end = r .end;
       value = r .value;
-      start = reading.At at v;
+      start = ap placeOf e;
       chain = subst (λ (xs : List Element). Chain s [] at xs (r .end)) (sym (ap (λ (x : Walk). x .elements) w ∙ r .split)) (r .chain);
       ends = ap (λ (x : Walk). x .last) w ∙ r .ends;
     }

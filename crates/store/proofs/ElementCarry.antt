@@ -97,7 +97,7 @@ pub record Ordered (h : Shape) : Type 0 where
   pub data-first : h .from + h .size ≤ h .end
   pub whole : length (h .run) ≡ h .size
 
-pub record Stands (depth : ℕ) (s : List ℕ) (p : ℕ) (h : Shape) : Type 0 where
+pub record StandsAs (depth : ℕ) (s : List ℕ) (p : ℕ) (h : Shape) : Type 0 where
   pub start : headerAt s p ≡ header.Start 0x01 true (h .field) (h .used)
   pub true-length : lengthAt s (p + h .used) (h .field) ≡ length′.Is (h .size) (p + h .from)
   pub part : take (h .size) (drop (p + h .from) s) ≡ h .run
@@ -119,7 +119,7 @@ run-back p (passed.Refused r) e q = impossible (cc)
 
 -- the same bytes at another place of another input
 module _ (depth : ℕ) (s xs : List ℕ) (p : ℕ) (here : drop p s ≡ xs) (t ys : List ℕ) (q : ℕ) (there : drop q t ≡ ys) (h : Shape) (o : Ordered h)
-    (a : Agree xs ys (h .end)) (w : Stands depth s p h) where
+    (a : Agree xs ys (h .end)) (w : StandsAs depth s p h) where
   start-there : headerAt t q ≡ header.Start 0x01 true (h .field) (h .used)
   start-there =
       let f : headerAt s p ≡ movedHeader p (headerAt xs 0) = rw add-zero at (header-moved s xs p here 0) in
@@ -146,10 +146,10 @@ module _ (depth : ℕ) (s xs : List ℕ) (p : ℕ) (here : drop p s ≡ xs) (t y
       let b = run-back p (runAt xs m depth 0x01) (h .end) (sym (run-moved s xs p here m depth 0x01) ∙ w .within) in
       run-moved t ys q there m depth 0x01 ∙ ap (moved q) (run-local xs ys m depth 0x01 (h .end) a b)
 
-  pub stands-there : Stands depth t q h
+  pub stands-there : StandsAs depth t q h
   stands-there = record { start = start-there; true-length = length-there; part = part-there; within = run-there }
 
-pub stands-deeper : (d d′ : ℕ) (s : List ℕ) (p : ℕ) (h : Shape) → d ≤ d′ → Stands d s p h → Stands d′ s p h
+pub stands-deeper : (d d′ : ℕ) (s : List ℕ) (p : ℕ) (h : Shape) → d ≤ d′ → StandsAs d s p h → StandsAs d′ s p h
 stands-deeper d d′ s p h l w =
     record {
       start = w .start;
@@ -234,7 +234,7 @@ inside-from s depth (reading.Refused r) e v q = impossible (cc)
 pub record Made (depth : ℕ) (ids serials : List Key) (s : List ℕ) (p : ℕ) (x : Element) : Type 0 where
   pub shape : Shape
   pub ordered : Ordered shape
-  pub stands : Stands depth s p shape
+  pub stands : StandsAs depth s p shape
   pub read : ℕ
   pub last : fieldsOf ids serials (shape .run) .last ≡ reading.At read (x .kind)
   pub all : length (shape .run) ≤ read
@@ -283,7 +283,7 @@ element-made depth ids serials s p u x h =
 
 -- ---- and what has such a shape is an element
 
-module _ (depth : ℕ) (ids serials : List Key) (s : List ℕ) (p u kind : ℕ) (h : Shape) (o : Ordered h) (w : Stands depth s p h) (read : ℕ)
+module _ (depth : ℕ) (ids serials : List Key) (s : List ℕ) (p u kind : ℕ) (h : Shape) (o : Ordered h) (w : StandsAs depth s p h) (read : ℕ)
     (last : fieldsOf ids serials (h .run) .last ≡ reading.At read kind) (all : length (h .run) ≤ read) where
   opens : opened s (reading.At p u) ≡ reading.At (p + h .from) (h .size)
   unfolding startHere
@@ -318,7 +318,7 @@ module _ (depth : ℕ) (ids serials : List Key) (s : List ℕ) (p u kind : ℕ) 
 
 -- ---- set down anywhere
 
-carry-made : (s : List ℕ) (p v d d′ : ℕ) (ids serials ids′ serials′ : List Key) (x : Element) (h : Shape) → Ordered h → Stands d s p h → (read : ℕ)
+carry-made : (s : List ℕ) (p v d d′ : ℕ) (ids serials ids′ serials′ : List Key) (x : Element) (h : Shape) → Ordered h → StandsAs d s p h → (read : ℕ)
     → fieldsOf ids serials (h .run) .last ≡ reading.At read (x .kind) → length (h .run) ≤ read → x .length ≡ h .end
     → x .id ≡ fieldsOf ids serials (h .run) .id → x .serial ≡ fieldsOf ids serials (h .run) .serial
     → (pre post : List ℕ) → d ≤ d′ → seen sameKey (x .id) ids′ ≡ false → seen sameKey (x .serial) serials′ ≡ false
@@ -332,7 +332,7 @@ carry-made s p v d d′ ids serials ids′ serials′ x h o w read last all len 
     let n : length (take (h .end) xs) ≡ h .end = length-take-le (h .end) xs (omega (arith, length-drop p s)) in
     let a : Agree xs ys (h .end) =
     record { long = omega (arith, length-append (take (h .end) xs) post); same = sym (take-at (take (h .end) xs) post (h .end) n) } in
-    let w′ : Stands d t (length pre) h = stands-there d s xs p refl t ys (length pre) (drop-append-seam pre ys) h o a w in
+    let w′ : StandsAs d t (length pre) h = stands-there d s xs p refl t ys (length pre) (drop-append-seam pre ys) h o a w in
     let f : fieldsOf ids′ serials′ (h .run) ≡ fieldsOf ids serials (h .run) =
     fields-beside ids serials ids′ serials′ (h .run) read (x .kind) last (rw id at hi) (rw serial at hs) in
     let r = shape-element d′ ids′ serials′ t (length pre) v (x .kind) h o (stands-deeper d d′ t (length pre) h l w′) read (rw f last) all in

@@ -8,5 +8,6 @@ pub mod ElementWritten
 pub mod PackageWritten
 pub mod ElementCarry
 pub mod Chains
+pub mod Places
 pub mod OneAnswers
 pub mod WrongAnswers

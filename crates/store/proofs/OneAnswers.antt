@@ -7,6 +7,11 @@ use Rattle.laws.proofs.Cases.{impossible}
 use Rattle.laws.proofs.OneAnswer.{Telling, one-answer}
 use Rattle.numbers.specs.Refusals.{Told}
 use Rattle.numbers.proofs.OneAnswers.{refuses-telling}
+use Rattle.store.specs.Element.{tellReadingKey, tellReadElement}
+use Rattle.store.specs.declared.element.Key.{Key}
+use Rattle.store.specs.declared.element.Element.{Element}
+use Rattle.store.specs.declared.element.ReadingKey.the-variants as key
+use Rattle.store.specs.declared.element.ReadElement.the-variants as element
 use Rattle.store.specs.Store.{Walk, WalkedTo, tellStored}
 use Rattle.store.specs.Accessor.{tellFound, FindsElement, elementBytes}
 use Rattle.store.specs.declared.package.Stored.{Stored}
@@ -28,6 +33,35 @@ stored-telling (stored.Holds n) (stored.Holds m) e = let v = values-of _ _ e in 
 stored-telling (stored.Holds n) (stored.Refused q) e = let v = values-of _ _ e in impossible (cc)
 stored-telling (stored.Refused r) (stored.Holds m) e = let v = values-of _ _ e in impossible (cc)
 stored-telling (stored.Refused r) (stored.Refused q) e = ap stored.Refused (refuses-telling r q e)
+
+abbrev key-of : ℕ → ℕ → ℕ → Key
+key-of l h n = record { low = l; high = h; number = n }
+
+same-key : {l h n l′ h′ n′ : ℕ} → l ≡ l′ → h ≡ h′ → n ≡ n′ → key-of l h n ≡ key-of l′ h′ n′
+same-key a b c = cc
+
+pub reading-key-telling : Telling tellReadingKey
+reading-key-telling (key.At p k) (key.At q m) e =
+    let v = values-of _ _ e in let z : k ≡ m = same-key (cc) (cc) (cc) in let y : p ≡ q = cc in rw (y, z)
+reading-key-telling (key.At p k) (key.Refused q) e = let v = values-of _ _ e in impossible (cc)
+reading-key-telling (key.Refused r) (key.At q m) e = let v = values-of _ _ e in impossible (cc)
+reading-key-telling (key.Refused r) (key.Refused q) e = ap key.Refused (refuses-telling r q e)
+
+abbrev element-of : ℕ → ℕ → ℕ → Key → Key → Element
+element-of p l k i s = record { place = p; length = l; kind = k; id = i; serial = s }
+
+same-element : {p l k p′ l′ k′ : ℕ} {i s i′ s′ : Key} → p ≡ p′ → l ≡ l′ → k ≡ k′ → i ≡ i′ → s ≡ s′ → element-of p l k i s ≡ element-of p′ l′ k′ i′ s′
+same-element a b c d e = cc
+
+pub read-element-telling : Telling tellReadElement
+read-element-telling (element.Is x) (element.Is y) e =
+    let v = values-of _ _ e in
+    let i : x .id ≡ y .id = same-key (cc) (cc) (cc) in
+    let s : x .serial ≡ y .serial = same-key (cc) (cc) (cc) in
+    ap element.Is (same-element (cc) (cc) (cc) i s)
+read-element-telling (element.Is x) (element.Refused q) e = let v = values-of _ _ e in impossible (cc)
+read-element-telling (element.Refused r) (element.Is y) e = let v = values-of _ _ e in impossible (cc)
+read-element-telling (element.Refused r) (element.Refused q) e = ap element.Refused (refuses-telling r q e)
 
 pub find-element-one : (s : List ℕ) (i : ℕ) (r q : Found) → FindsElement s i r → FindsElement s i q → r ≡ q
 find-element-one s i r q a b = one-answer found-telling a b

@@ -18,8 +18,7 @@ use Rattle.objects.proofs.Keep.{good-front, good-start-of-length, good-skip}
 use Rattle.laws.specs.Once.{seen}
 use Rattle.laws.proofs.Cases.{by-bool, by-eq, impossible}
 use Rattle.laws.proofs.Twice.{seen-append}
-use Rattle.store.specs.Element.{sameKey, elementAt}
-use Rattle.store.specs.Chain.{idsIn, serialsIn}
+use Rattle.store.specs.Element.{sameKey, elementAt, idsIn, serialsIn}
 use Rattle.store.specs.Tables.{markOf, Marked, Lent, keyAt, idKeys, serialKeys, rowOf, idOf, flat, rowsOf, idsOf}
 use Rattle.store.specs.Store.{packageStart, Walk, walked, onElement, walkFrom, storedOf, WalkedTo}
 use Rattle.store.specs.declared.element.Key.{Key}
@@ -71,7 +70,7 @@ pub record Held (s rows₀ ids₀ rows rowmarks ids idmarks : List ℕ) (at : Re
   pub ids-marked : Marked idmarks (idsIn done)
   pub walk : walkFrom 256 s [] (packageStart s) ≡ walkFrom (256 - n) s done at
 
-good-package : (s : List ℕ) → Good s (packageStart s)
+pub good-package : (s : List ℕ) → Good s (packageStart s)
 unfolding packageStart
 good-package s =
     good-skip s 1 (startOfLength s nothingOpen 0x15 true true 1 (At 0 0)) (good-start-of-length s nothingOpen 0x15 true true 1 (At 0 0) (good-front s 0))
@@ -132,13 +131,13 @@ unfolding walkFrom
 walk-ends zero s done c e = rw e
 walk-ends (suc left) s done c e = rw e
 
-walk-over : (s : List ℕ) (done : List Element) (c : Reading) → nextIs s 0x01 c ≡ true
+pub walk-over : (s : List ℕ) (done : List Element) (c : Reading) → nextIs s 0x01 c ≡ true
     → walkFrom 0 s done c ≡ walked done (startHere s 0x15 0x01 true false c)
 unfolding walkFrom
 walk-over s done c e = rw e
 
 pub walk-element : (left : ℕ) (s : List ℕ) (done : List Element) (c : Reading) → nextIs s 0x01 c ≡ true → (r : ReadElement)
-    → elementAt 14 (map (λ (x : Element). x .id) done) (map (λ (x : Element). x .serial) done) s c ≡ r
+    → elementAt 14 (idsIn done) (serialsIn done) s c ≡ r
     → walkFrom (suc left) s done c ≡ onElement (λ more e. walkFrom left s more e) done r
 unfolding walkFrom
 walk-element left s done c e r q = rw (e, q)

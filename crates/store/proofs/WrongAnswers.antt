@@ -1,17 +1,30 @@
--- For the calls on a store, two wrong answers each that their promises rule out, tried on a named input.
+-- For read_store, find_element and element_bytes, wrong answers that their promises rule out, each tried on a named input.
 -- Assumes nothing.
-use mathlib.Core.Path.{_≡_, ap}
-use Prim.Native.Nat.{ℕ}
-use mathlib.Core.List.{[], _∷_}
+use mathlib.Core.Path.{_≡_, refl, ap}
+use Prim.Native.Nat.{ℕ, _≤_}
+use mathlib.Core.List.{List, [], _∷_}
+use lib.ListN.{length}
 use native.Mathlib.Omega.{arith}
-use Rattle.laws.specs.Bytes.{le}
+use Rattle.laws.specs.Bytes.{le, bytes}
+use Rattle.laws.specs.Loop.{turns, iterate}
+use Rattle.laws.specs.Once.{once, seen}
 use Rattle.laws.proofs.Cases.{impossible}
-use Rattle.numbers.specs.Refusals.{Told, faultAt}
-use Rattle.objects.specs.Header.{startOf, endOf, sized, headerOf, headerAt, lengthAt}
+use Rattle.numbers.specs.Refusals.{Told, longestInput, faultAt}
+use Rattle.numbers.specs.Compact.{compactBytes, formOf, formFrom, sizeOf}
+use Rattle.numbers.specs.Guid.{guidBytes, taggedBytes}
+use Rattle.numbers.specs.ExtendedGuid.{extendedGuidBytes, namedBytes, shortBytes}
+use Rattle.numbers.specs.Serial.{serialBytes}
+use Rattle.objects.specs.Header.{startBytes, endBytes, startOf, endOf, sized, headerOf, headerAt, lengthAt}
 use Rattle.objects.specs.Steps.{placeOf, startHere, lengthIs, startOfLength, skip, endHere, nextIs, finish}
-use Rattle.store.specs.Store.{packageStart, walkFrom, storeWalk}
+use Rattle.store.specs.Store.{packageStart, walkFrom, storeWalk, storedOf, WalkedTo}
+use Rattle.store.specs.Tables.{flat}
+use Rattle.store.specs.Written.{Content, AllFit, fieldBytes, writtenElement, writtenElements, packageFront, packageBytes, elementsFrom}
 use Rattle.store.specs.Accessor.{elementIn, foundIn, FindsElement, elementBytes}
 use Rattle.store.specs.declared.accessor.Found.the-variants as found
+use Rattle.store.specs.declared.package.Stored.the-variants as stored
+use Rattle.objects.specs.declared.reading.Reading.the-variants as reading
+use Rattle.objects.specs.Nesting.{objectAt, runAt}
+use Rattle.store.proofs.PackageWritten.{package-written}
 
 -- ---- find_element
 
@@ -25,6 +38,18 @@ fault-later : FindsElement (0x55 ∷ []) 0 (found.Refused (faultAt 9 0)) → ⊥
 unfolding foundIn storeWalk packageStart startOfLength lengthIs placeOf startHere skip walkFrom nextIs endHere finish elementIn headerAt headerOf sized startOf endOf lengthAt le
 fault-later h = let z : _≡_ {A = ℕ} 9 4 = ap (λ (t : Told). t .number) h in omega arith
 
+-- ---- read_store, on the same store and on two tables of one number each
+
+-- it holds no element, and not one
+one-held : WalkedTo (storeWalk (0xAC ∷ 0x02 ∷ 0x00 ∷ 0x55 ∷ [])) (stored.Holds 1) (7 ∷ []) (7 ∷ []) (8 ∷ []) (8 ∷ []) → ⊥
+unfolding storedOf storeWalk packageStart startOfLength lengthIs placeOf startHere skip walkFrom nextIs endHere finish headerAt headerOf sized startOf endOf lengthAt le
+one-held h = impossible (cc)
+
+-- what stands behind the rows stays, and is not put to 0
+rows-cleared : WalkedTo (storeWalk (0xAC ∷ 0x02 ∷ 0x00 ∷ 0x55 ∷ [])) (stored.Holds 0) (7 ∷ []) (0 ∷ []) (8 ∷ []) (8 ∷ []) → ⊥
+unfolding flat storedOf storeWalk packageStart startOfLength lengthIs placeOf startHere skip walkFrom nextIs endHere finish headerAt headerOf sized startOf endOf lengthAt le
+rows-cleared h = impossible (cc)
+
 -- ---- element_bytes
 
 -- a store without elements has no bytes to give, and not its own
@@ -36,3 +61,54 @@ whole-store h = impossible (cc)
 one-byte : 0xAC ∷ [] ≡ elementBytes (0xAC ∷ 0x02 ∷ 0x00 ∷ 0x55 ∷ []) 0 → ⊥
 unfolding elementBytes foundIn storeWalk packageStart startOfLength lengthIs placeOf startHere skip walkFrom nextIs endHere finish elementIn headerAt headerOf sized startOf endOf lengthAt le
 one-byte h = impossible (cc)
+
+-- ---- a store of one element is read: by no call may it be refused, or left out of the rows
+
+-- id 1, 2 with number 3, serial number 4, 5 with number 6, type 7, and nothing inside
+abbrev one : Content
+one =
+    record {
+      id = record { low = 1; high = 2; number = 3 };
+      serial = record { low = 4; high = 5; number = 6 };
+      kind = 7;
+      inner = 0x05 ∷ [];
+    }
+
+one-fits : AllFit 14 (one ∷ [])
+unfolding runAt objectAt headerAt headerOf sized startOf endOf le iterate turns
+one-fits = (
+  record {
+    id-low = omega arith;
+    id-high = omega arith;
+    id-number = omega arith;
+    serial-low = omega arith;
+    serial-high = omega arith;
+    serial-number = omega arith;
+    kind = omega arith;
+    nested = refl;
+  },
+  tt,
+)
+
+short : length (packageBytes (one ∷ [])) ≤ longestInput
+unfolding packageBytes packageFront writtenElements writtenElement fieldBytes startBytes endBytes extendedGuidBytes namedBytes shortBytes serialBytes taggedBytes guidBytes compactBytes formOf formFrom sizeOf bytes
+short = let z : length (packageBytes (one ∷ [])) ≡ 50 = refl in omega arith
+
+one-read : (storeWalk (packageBytes (one ∷ [])) .elements ≡ elementsFrom (length packageFront) (one ∷ []))
+    × (storeWalk (packageBytes (one ∷ [])) .last ≡ reading.At (length (packageBytes (one ∷ []))) 0)
+unfolding once seen
+one-read = package-written (one ∷ []) (omega arith) one-fits refl refl short
+
+-- find_element: 9, though it is there
+refused-there : FindsElement (packageBytes (one ∷ [])) 0 (found.Refused (faultAt 9 0)) → ⊥
+unfolding foundIn elementIn elementsFrom
+refused-there h = let e = rw (one-read .0, one-read .1) at h in let z : _≡_ {A = ℕ} 9 0 = ap (λ (t : Told). t .number) e in omega arith
+
+-- read_store: none held, and one held with its row not written
+none-held : (rows ids : List ℕ) → WalkedTo (storeWalk (packageBytes (one ∷ []))) (stored.Holds 0) rows rows ids ids → ⊥
+unfolding storedOf elementsFrom
+none-held rows ids h = let e : stored.Holds 0 ≡ stored.Holds 1 = rw (one-read .0, one-read .1) at (h .0) in impossible (cc)
+
+nothing-written : (ids : List ℕ) → WalkedTo (storeWalk (packageBytes (one ∷ []))) (stored.Holds 1) (0 ∷ 0 ∷ 0 ∷ []) (0 ∷ 0 ∷ 0 ∷ []) ids ids → ⊥
+unfolding flat elementsFrom
+nothing-written ids h = let e = rw (one-read .0) at (h .1) in impossible (cc)

@@ -6,16 +6,10 @@ use Prim.Native.Nat.{ℕ, _+_, _<_}
 use mathlib.Core.List.{List, [], _∷_, _++_, map}
 use Rattle.objects.specs.declared.reading.Reading.the-variants as reading
 use Rattle.laws.specs.Once.{seen}
-use Rattle.store.specs.Element.{sameKey, elementAt}
+use Rattle.store.specs.Element.{sameKey, idsIn, serialsIn, elementAt}
 use Rattle.store.specs.declared.element.Key.{Key}
 use Rattle.store.specs.declared.element.Element.{Element}
 use Rattle.store.specs.declared.element.ReadElement.the-variants as element
-
-abbrev pub idsIn : List Element → List Key
-idsIn done = map (λ (x : Element). x .id) done
-
-abbrev pub serialsIn : List Element → List Key
-serialsIn done = map (λ (x : Element). x .serial) done
 
 -- from a place behind the elements `done` to a place behind the last
 abbrev pub Chain : List ℕ → List Element → ℕ → List Element → ℕ → Type 0

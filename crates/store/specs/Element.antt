@@ -4,12 +4,12 @@
 -- Assumes nothing.
 use Prim.Native.Nat.{ℕ, _-_}
 use mathlib.Core.Bool.{Bool, true, false}
-use mathlib.Core.List.{List}
+use mathlib.Core.List.{List, [], _∷_, map}
 use lib.ListN.{length}
 use lib.Dec.{eqb}
 use Rattle.laws.specs.Pick.{pick}
 use Rattle.laws.specs.Once.{seen}
-use Rattle.numbers.specs.Refusals.{faultAt}
+use Rattle.numbers.specs.Refusals.{Told, gives, refuses, faultAt}
 use Rattle.numbers.specs.declared.guid.Guid.{Guid}
 use Rattle.numbers.specs.declared.extended_guid.ExtendedGuid.the-variants as id
 use Rattle.numbers.specs.declared.serial.Serial.the-variants as number
@@ -22,6 +22,7 @@ use Rattle.objects.specs.declared.reading.ReadingId.the-variants as id′
 use Rattle.objects.specs.declared.reading.ReadingSerial.{ReadingSerial}
 use Rattle.objects.specs.declared.reading.ReadingSerial.the-variants as serial′
 use Rattle.store.specs.declared.element.Key.{Key}
+use Rattle.store.specs.declared.element.Element.{Element}
 use Rattle.store.specs.declared.element.Fields.{Fields}
 use Rattle.store.specs.declared.element.ReadingKey.{ReadingKey}
 use Rattle.store.specs.declared.element.ReadingKey.the-variants.{At, Refused}
@@ -33,9 +34,16 @@ use Rattle.store.specs.declared.element.ReadElement.the-variants as elem
 abbrev pub keyOf : Guid → ℕ → Key
 keyOf g x = record { low = g .low; high = g .high; number = x }
 
--- "11 compares values"
+-- 11 compares values, not the bytes that stand for them (D-12)
 unfoldable pub sameKey : Key → Key → Bool
 sameKey a b = pick (eqb (a .low) (b .low)) (pick (eqb (a .high) (b .high)) (eqb (a .number) (b .number)) false) false
+
+-- those of the elements before
+abbrev pub idsIn : List Element → List Key
+idsIn done = map (λ (x : Element). x .id) done
+
+abbrev pub serialsIn : List Element → List Key
+serialsIn done = map (λ (x : Element). x .serial) done
 
 -- an id that stands at p: 10 where it is null
 unfoldable pub namedKey : ℕ → ReadingId → ReadingKey
@@ -103,3 +111,26 @@ unfoldable pub elementAt : ℕ → List Key → List Key → List ℕ → Readin
 elementAt depth ids serials s c =
     elementOn (placeOf c) (fieldsOf ids serials (runHere s (opened s c))) (valueOf (dataOf ids serials s c))
     (inside s depth 0x01 (dataOf ids serials s c))
+
+-- ---- what the answers tell: the values in the order of the enum, or the refusal
+
+-- the place behind, and the key
+abbrev pub tellReadingKey : ReadingKey → Told
+tellReadingKey (At q k) = gives (q ∷ k .low ∷ k .high ∷ k .number ∷ [])
+tellReadingKey (Refused r) = refuses r
+
+-- place, length, type, id and serial number
+abbrev pub tellReadElement : ReadElement → Told
+tellReadElement (element.Is x) =
+    gives
+    (x .place
+    ∷ x .length
+    ∷ x .kind
+    ∷ x .id .low
+    ∷ x .id .high
+    ∷ x .id .number
+    ∷ x .serial .low
+    ∷ x .serial .high
+    ∷ x .serial .number
+    ∷ [])
+tellReadElement (element.Refused r) = refuses r

@@ -4,7 +4,7 @@
 use mathlib.Core.Path.{_≡_}
 use Prim.Native.Nat.{ℕ, zero, suc, _+_, _*_}
 use mathlib.Core.Bool.{true, false}
-use mathlib.Core.List.{List, [], _∷_, _++_, map}
+use mathlib.Core.List.{List, [], _∷_, _++_}
 use lib.ListN.{length, drop}
 use lib.Dec.{ltb}
 use Rattle.laws.specs.Pick.{pick}
@@ -12,7 +12,7 @@ use Rattle.numbers.specs.Refusals.{Told, gives, refuses, longestInput, overLong
 use Rattle.objects.specs.Steps.{_▹_, nothingOpen, startOfLength, startHere, skip, endHere, nextIs, finish}
 use Rattle.objects.specs.declared.reading.Reading.{Reading}
 use Rattle.objects.specs.declared.reading.Reading.the-variants.{At, Refused}
-use Rattle.store.specs.Element.{elementAt}
+use Rattle.store.specs.Element.{idsIn, serialsIn, elementAt}
 use Rattle.store.specs.Tables.{rowsOf, idsOf}
 use Rattle.store.specs.declared.element.Element.{Element}
 use Rattle.store.specs.declared.element.ReadElement.{ReadElement}
@@ -32,7 +32,7 @@ pub record Walk : Type 0 where
 abbrev pub walked : List Element → Reading → Walk
 walked done c = record { elements = done; last = c }
 
--- the package's end, and "after the last end any byte is 5"
+-- the package's end. "After the last end any byte is 5"
 abbrev pub closing : List ℕ → List Element → Reading → Walk
 closing s done c = walked done (c ▹ endHere s 0x15 ▹ finish s)
 
@@ -48,10 +48,10 @@ walkFrom zero s done c =
 walkFrom (suc left) s done c =
     pick (nextIs s 0x01 c)
     (onElement (λ more e. walkFrom left s more e) done
-    (elementAt 14 (map (λ (x : Element). x .id) done) (map (λ (x : Element). x .serial) done) s c))
+    (elementAt 14 (idsIn done) (serialsIn done) s c))
     (closing s done c)
 
--- "9: over 256 elements"; an over-long store is 1 first
+-- 9, "over 256 elements"; an over-long store is 1 first
 unfoldable pub storeWalk : List ℕ → Walk
 storeWalk s = pick (ltb longestInput (length s)) (walked [] (Refused overLong)) (walkFrom 256 s [] (packageStart s))
 

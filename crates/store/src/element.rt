@@ -15,7 +15,7 @@ use objects::reading::Reading;
 use objects::reading::ReadingId;
 use objects::reading::ReadingSerial;
 
-// The types of document 01.
+// The types of the two objects that a store is made of.
 pub const ELEMENT: u64 = 0x01;
 
 pub const PACKAGE: u64 = 0x15;

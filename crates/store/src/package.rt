@@ -81,7 +81,8 @@ fn walk(
     count_if_fine(n, at.end(s, PACKAGE).finish(s))
 }
 
-// A store, its rows and its ids: each table then holds those of the elements that were read, and behind them what it held.
+// A store, its rows and its ids: each table then holds those of the elements that were read, and behind them what it held,
+// on a refusal too. Ruled out (proofs/WrongAnswers): a count of one for the store without elements; a row not written.
 pub fn read_store(s: &[u8], rows: &mut [u64], ids: &mut [u64]) -> Stored
     requires { ⌜ (1536 ≤ length (now rows)) × (768 ≤ length (now ids)) ⌝ }
     ensures { λ r. ⌜ WalkedTo (storeWalk (now (s .entry))) r (now (rows .entry)) (now (rows .exit)) (now (ids .entry)) (now (ids .exit)) ⌝ }

@@ -1,0 +1,81 @@
+-- A fault's place lies within the store, and a store that is read ends with its package's end.
+-- Assumes nothing.
+use mathlib.Core.Path.{_≡_, refl, sym, subst}
+use mathlib.Core.Bool.{true, false}
+use mathlib.Core.List.{List, [], _∷_, _++_}
+use Prim.Native.Nat.{ℕ, zero, suc, _+_, _≤_, _<_}
+use native.Mathlib.Omega.{arith}
+use lib.ListN.{length}
+use borrow.Author.Tests.{lt-ltb, le-ltb}
+use Rattle.laws.proofs.Cases.{by-bool, by-lt, impossible}
+use Rattle.numbers.specs.Refusals.{longestInput}
+use Rattle.numbers.specs.declared.refusal.Refusal.{Refusal}
+use Rattle.objects.specs.Steps.{placeOf, endHere, finish, nextIs, inside, Good}
+use Rattle.objects.specs.declared.reading.Reading.{Reading}
+use Rattle.objects.specs.declared.reading.Reading.the-variants as reading
+use Rattle.objects.proofs.Keep.{good-start, good-end, good-inside, good-finish}
+use Rattle.store.specs.Element.{dataOf, elementOn, elementAt, idsIn, serialsIn}
+use Rattle.store.specs.Store.{packageStart, onElement, walkFrom, storeWalk}
+use Rattle.store.specs.declared.element.Key.{Key}
+use Rattle.store.specs.declared.element.Fields.{Fields}
+use Rattle.store.specs.declared.element.Element.{Element}
+use Rattle.store.specs.declared.element.ReadElement.{ReadElement}
+use Rattle.store.specs.declared.element.ReadElement.the-variants as element
+use Rattle.store.proofs.Fields.{good-data, element-within}
+use Rattle.store.proofs.Walks.{good-package, walk-ends, walk-over, walk-element}
+use Rattle.store.proofs.Taken.{Stands}
+use Rattle.store.proofs.Chains.{StoreRead}
+
+-- ---- a fault's place
+
+refused-on : (at : ℕ) (f : Fields) (kind : ℕ) (e : Reading) (r : Refusal) → elementOn at f kind e ≡ element.Refused r → e ≡ reading.Refused r
+unfolding elementOn
+refused-on at f kind (reading.At e v) r h = impossible (cc)
+refused-on at f kind (reading.Refused q) r h = cc
+
+pub element-fault : (depth : ℕ) (ids serials : List Key) (s : List ℕ) (c : Reading) (r : Refusal) → elementAt depth ids serials s c ≡ element.Refused r
+    → Good s c → r .place ≤ length s
+unfolding elementAt
+element-fault depth ids serials s c r h g =
+    subst (Good s) (refused-on _ _ _ (inside s depth 0x01 (dataOf ids serials s c)) r h)
+    (good-inside s depth 0x01 (dataOf ids serials s c) (good-data ids serials s c g))
+
+element-good : (left : ℕ) (s : List ℕ) (done : List Element) (c : Reading) (r : ReadElement) → elementAt 14 (idsIn done) (serialsIn done) s c ≡ r
+    → ((x : Element) → x .place + x .length ≤ length s → Good s (walkFrom left s (done ++ (x ∷ [])) (reading.At (x .place + x .length) 0) .last))
+    → Good s c → Good s (onElement (λ more e. walkFrom left s more e) done r .last)
+element-good left s done c (element.Is x) q more g = more x (element-within 14 (idsIn done) (serialsIn done) s c x q g .1)
+element-good left s done c (element.Refused r) q more g = element-fault 14 (idsIn done) (serialsIn done) s c r q g
+
+walk-good : (left : ℕ) (s : List ℕ) (done : List Element) (c : Reading) → Good s c → Good s (walkFrom left s done c .last)
+walk-good zero s done c g =
+    by-bool (nextIs s 0x01 c) (λ e. rw (walk-over s done c e) (good-start s 0x15 0x01 true false c g))
+    (λ e. rw (walk-ends 0 s done c e) (good-finish s (endHere s 0x15 c) (good-end s 0x15 c g)))
+walk-good (suc left) s done c g =
+    by-bool (nextIs s 0x01 c)
+    (λ e.
+    rw (walk-element left s done c e (elementAt 14 (idsIn done) (serialsIn done) s c) refl)
+    (element-good left s done c (elementAt 14 (idsIn done) (serialsIn done) s c) refl
+    (λ x w. walk-good left s (done ++ (x ∷ [])) (reading.At (x .place + x .length) 0) w) g))
+    (λ e. rw (walk-ends (suc left) s done c e) (good-finish s (endHere s 0x15 c) (good-end s 0x15 c g)))
+
+pub store-good : (s : List ℕ) → Good s (storeWalk s .last)
+unfolding storeWalk
+store-good s =
+    by-lt longestInput (length s) (λ l. rw (lt-ltb longestInput (length s) l) (omega arith))
+    (λ l. rw (le-ltb longestInput (length s) l) (walk-good 256 s [] (packageStart s) (good-package s)))
+
+pub store-fault : (s : List ℕ) (r : Refusal) → storeWalk s .last ≡ reading.Refused r → r .place ≤ length s
+store-fault s r h = subst (Good s) h (store-good s)
+
+-- ---- the store's end
+
+finish-whole : (s : List ℕ) (c : Reading) → Good s (finish s c) → Stands (finish s c) → placeOf c ≡ length s
+unfolding finish placeOf
+finish-whole s (reading.At at v) g h =
+    by-lt at (length s) (λ l. absurd (rw (lt-ltb at (length s) l) at h)) (λ l. let b : at ≤ length s = rw (le-ltb at (length s) l) at g in omega arith)
+finish-whole s (reading.Refused r) g h = absurd h
+
+-- "one data element package, and nothing after it": behind the elements stands the package's end, which ends the store
+pub store-covered : (s : List ℕ) → Stands (storeWalk s .last) → (r : StoreRead s) → placeOf (endHere s 0x15 (reading.At (r .end) (r .value))) ≡ length s
+store-covered s h r =
+    finish-whole s (endHere s 0x15 (reading.At (r .end) (r .value))) (subst (Good s) (r .ends) (store-good s)) (subst Stands (r .ends) h)
