@@ -1,4 +1,4 @@
--- 'Seen before' and 'no key twice': one key more at the end, and what the test says of any two places.
+-- 'Seen before' and 'no key twice': one key more at the end, what the test says of any two places, and of a key and those before it.
 -- Assumes nothing.
 use mathlib.Core.Path.{_≡_, refl, sym, _∙_}
 use mathlib.Core.Bool.{Bool, true, false}
@@ -8,7 +8,7 @@ use native.Mathlib.Omega.{arith}
 use lib.ListN.{length, getD}
 use Rattle.laws.specs.Pick.{pick}
 use Rattle.laws.specs.Once.{seen, once}
-use Rattle.laws.proofs.Cases.{by-bool, impossible}
+use Rattle.laws.proofs.Cases.{by-bool, impossible, neither, both}
 
 other : {P : Type 0} → true ≡ false → P
 other z = impossible (cc)
@@ -51,3 +51,13 @@ module _ {K : Type 0} (same : K → K → Bool) where
       by-bool (same k x)
       (λ f. let g : same x k ≡ true = turn x k ∙ f in rw (seen-append x xs (k ∷ []), e, g, f) (by-bool (once same xs) (λ o. rw o) (λ o. rw o)))
       (λ f. let g : same x k ≡ false = turn x k ∙ f in rw (seen-append x xs (k ∷ []), e, g, f) (once-more turn k xs)))
+
+  -- in a list with no key twice, a key is not among those before it
+  pub once-before : ((a b : K) → same a b ≡ same b a) → (k : K) (xs ys : List K) → once same (xs ++ k ∷ ys) ≡ true → seen same k xs ≡ false
+  unfolding once seen
+  once-before turn k [] ys h = refl
+  once-before turn k (x ∷ xs) ys h =
+      let p = both (seen same x (xs ++ k ∷ ys)) (once same (xs ++ k ∷ ys)) h in
+      let q = neither (seen same x xs) (seen same x (k ∷ ys)) (sym (seen-append x xs (k ∷ ys)) ∙ p .0) in
+      let r = neither (same x k) (seen same x ys) (q .1) in
+      rw (turn k x, r .0) (once-before turn k xs ys (p .1))

@@ -3,7 +3,7 @@
 use mathlib.Core.Path.{_≡_, sym, ap, _∙_}
 use mathlib.Core.Bool.{true, false}
 use mathlib.Core.List.{List, [], _∷_, _++_, append-assoc}
-use Prim.Native.Nat.{ℕ, suc, _+_, _-_, _*_, _/_, _%_, _^_, _≤_, _<_}
+use Prim.Native.Nat.{ℕ, zero, suc, _+_, _-_, _*_, _/_, _%_, _^_, _≤_, _<_}
 use native.Mathlib.Nat.{div-div-eq-div-mul}
 use native.Mathlib.Omega.{arith}
 use lib.ListN.{length, getD, take, drop, set, length-append, length-drop, length-take}
@@ -13,7 +13,7 @@ use Rattle.laws.specs.Pick.{pick}
 use Rattle.laws.specs.Bytes.{AllBytes, le, bytes, before, be}
 use Rattle.laws.proofs.Numbers.{length-bytes, le-bytes, bytes-le, bytes-bytes, take-bytes, drop-bytes, le-lt}
 use Rattle.laws.proofs.Placing.{laid-behind}
-use Rattle.laws.proofs.Order.{before-be, before-append}
+use Rattle.laws.proofs.Order.{before-be, before-append, be-lt}
 use Rattle.numbers.specs.Guid.{guidAt, guidBytes, taggedBytes, GuidFits, guidBefore, swapped}
 use Rattle.numbers.specs.declared.guid.Guid.{Guid}
 
@@ -122,3 +122,34 @@ swapped-is x =
       div-div-eq-div-mul x 1099511627776 256,
       div-div-eq-div-mul x 281474976710656 256,
     ) (omega arith)
+
+-- ---- swapped twice is as it was
+
+-- eight bytes the highest first are these bytes the other way round, the lowest first
+be-is-le : (a b c d e f g h : ℕ) → be (a ∷ b ∷ c ∷ d ∷ e ∷ f ∷ g ∷ h ∷ []) ≡ le (h ∷ g ∷ f ∷ e ∷ d ∷ c ∷ b ∷ a ∷ [])
+unfolding be le
+be-is-le a b c d e f g h = omega arith
+
+turned-bytes : (a b c d e f g h : ℕ) → AllBytes (a ∷ b ∷ c ∷ d ∷ e ∷ f ∷ g ∷ h ∷ []) → AllBytes (h ∷ g ∷ f ∷ e ∷ d ∷ c ∷ b ∷ a ∷ [])
+turned-bytes a b c d e f g h k zero = k 7
+turned-bytes a b c d e f g h k (suc zero) = k 6
+turned-bytes a b c d e f g h k (suc (suc zero)) = k 5
+turned-bytes a b c d e f g h k (suc (suc (suc zero))) = k 4
+turned-bytes a b c d e f g h k (suc (suc (suc (suc zero)))) = k 3
+turned-bytes a b c d e f g h k (suc (suc (suc (suc (suc zero))))) = k 2
+turned-bytes a b c d e f g h k (suc (suc (suc (suc (suc (suc zero)))))) = k 1
+turned-bytes a b c d e f g h k (suc (suc (suc (suc (suc (suc (suc zero))))))) = k 0
+turned-bytes a b c d e f g h k (suc (suc (suc (suc (suc (suc (suc (suc i)))))))) = k (suc (suc (suc (suc (suc (suc (suc (suc i))))))))
+
+turned-back : (a b c d e f g h : ℕ) → AllBytes (a ∷ b ∷ c ∷ d ∷ e ∷ f ∷ g ∷ h ∷ [])
+    → be (bytes 8 (be (a ∷ b ∷ c ∷ d ∷ e ∷ f ∷ g ∷ h ∷ []))) ≡ le (a ∷ b ∷ c ∷ d ∷ e ∷ f ∷ g ∷ h ∷ [])
+turned-back a b c d e f g h k =
+    rw (be-is-le a b c d e f g h, bytes-le (h ∷ g ∷ f ∷ e ∷ d ∷ c ∷ b ∷ a ∷ []) (turned-bytes a b c d e f g h k)) (be-is-le h g f e d c b a)
+
+pub swapped-back : (x : ℕ) → x < 2 ^ 64 → swapped (swapped x) ≡ x
+unfolding swapped bytes
+swapped-back x h = turned-back _ _ _ _ _ _ _ _ (bytes-bytes 8 x) ∙ le-bytes 8 x h
+
+pub swapped-fits : (x : ℕ) → swapped x < 2 ^ 64
+unfolding swapped
+swapped-fits x = rw length-bytes at (be-lt (bytes 8 x) (bytes-bytes 8 x))

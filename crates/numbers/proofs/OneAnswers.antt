@@ -24,7 +24,8 @@ use Rattle.numbers.specs.declared.serial.ReadSerial.the-variants as seri
 
 -- ---- an answer is known by what it tells
 
-values-of : (a b : Told) → a ≡ b → a .values ≡ b .values
+-- equal tellings have equal values
+pub values-of : (a b : Told) → a ≡ b → a .values ≡ b .values
 values-of a b e = ap (λ (t : Told). t .values) e
 
 -- what holds four numbers, or two, is known by them

@@ -7,17 +7,13 @@ use mathlib.Core.List.{List}
 use native.Mathlib.Omega.{arith}
 use Rattle.laws.specs.Pick.{pick}
 use Rattle.laws.proofs.OneAnswer.{Telling, one-answer, one-outcome}
-use Rattle.numbers.specs.Refusals.{Told}
 use Rattle.numbers.specs.declared.refusal.Wrote.{Wrote}
-use Rattle.numbers.proofs.OneAnswers.{refuses-telling, wrote-telling}
+use Rattle.numbers.proofs.OneAnswers.{refuses-telling, wrote-telling, values-of}
 use Rattle.objects.specs.Calls.{tellHeader, ReadsHeader, WritesTyped}
 use Rattle.objects.specs.declared.header.Header.{Header}
 use Rattle.objects.specs.declared.header.Header.the-variants.{Start, End, Refused}
 
 -- ---- an answer is known by what it tells
-
-values-of : (a b : Told) → a ≡ b → a .values ≡ b .values
-values-of a b e = ap (λ (t : Told). t .values) e
 
 same-bit : (c d : Bool) → _≡_ {A = ℕ} (pick c 1 0) (pick d 1 0) → c ≡ d
 same-bit true true e = cc

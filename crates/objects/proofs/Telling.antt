@@ -5,11 +5,10 @@ use Prim.Native.Nat.{ℕ}
 use mathlib.Core.List.{List, [], _∷_}
 use Rattle.laws.proofs.Cases.{impossible}
 use Rattle.laws.proofs.OneAnswer.{Telling}
-use Rattle.numbers.specs.Refusals.{Told}
 use Rattle.numbers.specs.declared.guid.Guid.{Guid}
 use Rattle.numbers.specs.declared.extended_guid.ExtendedGuid.the-variants as id
 use Rattle.numbers.specs.declared.serial.Serial.the-variants as number
-use Rattle.numbers.proofs.OneAnswers.{refuses-telling, same-guid}
+use Rattle.numbers.proofs.OneAnswers.{refuses-telling, same-guid, values-of}
 use Rattle.objects.specs.Tellings.{tellLength, tellPassed, tellReading, tellReadingGuid, tellReadingId, tellReadingSerial}
 use Rattle.objects.specs.declared.header.Length.the-variants as length′
 use Rattle.objects.specs.declared.nesting.Passed.the-variants as passed
@@ -17,9 +16,6 @@ use Rattle.objects.specs.declared.reading.Reading.the-variants as readin
 use Rattle.objects.specs.declared.reading.ReadingGuid.the-variants as guid′
 use Rattle.objects.specs.declared.reading.ReadingId.the-variants as id′
 use Rattle.objects.specs.declared.reading.ReadingSerial.the-variants as serial′
-
-values-of : (a b : Told) → a ≡ b → a .values ≡ b .values
-values-of a b e = ap (λ (t : Told). t .values) e
 
 pub length-telling : Telling tellLength
 length-telling (length′.Is n f) (length′.Is n′ f′) e = let v = values-of _ _ e in cc

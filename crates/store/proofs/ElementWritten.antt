@@ -33,7 +33,7 @@ use Rattle.store.specs.declared.element.ReadElement.the-variants.{Is}
 
 -- ---- how long the fields are
 
-compact-most : (v : ℕ) → length (compactBytes v) ≤ 9
+pub compact-most : (v : ℕ) → length (compactBytes v) ≤ 9
 unfolding compactBytes
 compact-most v =
     by-eq v 0 (λ e. rw e (omega arith)) (λ n. rw (length-compact v n) (size-le _ (form-of-le v)))

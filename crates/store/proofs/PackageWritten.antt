@@ -1,19 +1,17 @@
 -- What was written for a store is read with no refusal, as exactly the elements that were written, each behind the one before.
 -- Assumes nothing.
 use mathlib.Core.Path.{_≡_, refl, sym, ap, _∙_}
-use mathlib.Core.Bool.{Bool, true, false}
+use mathlib.Core.Bool.{true, false}
 use mathlib.Core.List.{List, [], _∷_, _++_, map, map-append, append-assoc, append-nil}
 use Prim.Native.Nat.{ℕ, zero, suc, _+_, _≤_}
 use native.Mathlib.Nat.{zero-add}
 use native.Mathlib.Omega.{arith}
 use lib.ListN.{length, drop, length-append}
 use lib.Seq.{drop-append-seam}
-use lib.Dec.{eqb}
-use borrow.Author.Tests.{le-ltb, eq-eqb, ne-eqb}
-use Rattle.laws.specs.Pick.{pick}
-use Rattle.laws.specs.Once.{seen, once}
-use Rattle.laws.proofs.Cases.{by-eq, impossible}
-use Rattle.laws.proofs.Twice.{seen-append}
+use borrow.Author.Tests.{le-ltb}
+use Rattle.laws.specs.Once.{once}
+use Rattle.laws.proofs.Cases.{eqb-turn}
+use Rattle.laws.proofs.Twice.{once-before}
 use Rattle.numbers.specs.Refusals.{longestInput}
 use Rattle.objects.specs.Header.{startBytes, endBytes}
 use Rattle.objects.specs.Steps.{nothingOpen, endHere, nextIs}
@@ -31,32 +29,9 @@ use Rattle.store.proofs.Walks.{walk-ends, walk-element}
 
 -- ---- the keys
 
-eqb-turn : (a b : ℕ) → eqb a b ≡ eqb b a
-eqb-turn a b =
-    by-eq a b (λ e. rw (eq-eqb a b e, eq-eqb b a (sym e))) (λ n. rw (ne-eqb a b n, ne-eqb b a (λ e. n (sym e))))
-
 pub same-turn : (a b : Key) → sameKey a b ≡ sameKey b a
 unfolding sameKey
 same-turn a b = rw (eqb-turn (a .low) (b .low), eqb-turn (a .high) (b .high), eqb-turn (a .number) (b .number))
-
--- a choice that is false, or true, by its parts
-neither : (a b : Bool) → pick a true b ≡ false → (a ≡ false) × (b ≡ false)
-neither true b e = impossible (cc)
-neither false b e = (refl, e)
-
-both : (a b : Bool) → pick a false b ≡ true → (a ≡ false) × (b ≡ true)
-both true b e = impossible (cc)
-both false b e = (refl, e)
-
--- in a list with no key twice, a key is not among those before it
-pub once-before : (k : Key) (xs ys : List Key) → once sameKey (xs ++ k ∷ ys) ≡ true → seen sameKey k xs ≡ false
-unfolding once seen
-once-before k [] ys h = refl
-once-before k (x ∷ xs) ys h =
-    let p = both (seen sameKey x (xs ++ k ∷ ys)) (once sameKey (xs ++ k ∷ ys)) h in
-    let q = neither (seen sameKey x xs) (seen sameKey x (k ∷ ys)) (sym (seen-append sameKey x xs (k ∷ ys)) ∙ p .0) in
-    let r = neither (sameKey x k) (seen sameKey x ys) (q .1) in
-    rw (same-turn k x, r .0) (once-before k xs ys (p .1))
 
 -- ---- the walk
 
@@ -97,8 +72,8 @@ walk-written (suc left) s at u done (c ∷ cs) l f a b h =
     let e = next-element s at u c rest h′ in
     let r : elementAt 14 (ids done) (serials done) s (At at u) ≡ Is x =
     element-written 14 (ids done) (serials done) s at u c rest (f .0) h′
-    (once-before (c .id) (ids done) (map (λ (c : Content). c .id) cs) a)
-    (once-before (c .serial) (serials done) (map (λ (c : Content). c .serial) cs) b) in
+    (once-before sameKey same-turn (c .id) (ids done) (map (λ (c : Content). c .id) cs) a)
+    (once-before sameKey same-turn (c .serial) (serials done) (map (λ (c : Content). c .serial) cs) b) in
     let i = walk-written left s (at + length w) 0 (done ++ (x ∷ [])) cs (omega arith) (f .1)
     (rw (keys-more (λ (y : Element). y .id) done x (map (λ (y : Content). y .id) cs)) a)
     (rw (keys-more (λ (y : Element). y .serial) done x (map (λ (y : Content). y .serial) cs)) b) (behind s at w rest h′) in
