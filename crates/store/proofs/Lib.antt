@@ -11,3 +11,16 @@ pub mod Chains
 pub mod Places
 pub mod OneAnswers
 pub mod WrongAnswers
+pub mod RangeRows
+pub mod RangeSearch
+pub mod Items
+pub mod Uniting
+pub mod KnowledgeForward
+pub mod Learning
+pub mod KnowledgeHeld
+pub mod RangeOrder
+pub mod KnowledgeLengths
+pub mod KnowledgeWrongAnswers
+pub mod KnowledgeBack
+pub mod KnowledgeFits
+pub mod TableFree

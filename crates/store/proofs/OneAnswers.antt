@@ -1,12 +1,11 @@
--- The calls on a store determine their answers: what is told is known by what tells it, and any two answers allowed are equal.
+-- The calls on a store and on a knowledge determine their answers: what is told is known by what tells it, and any two answers allowed are equal.
 -- Assumes nothing.
-use mathlib.Core.Path.{_≡_, sym, ap, _∙_}
+use mathlib.Core.Path.{_≡_, refl, sym, ap, _∙_}
 use Prim.Native.Nat.{ℕ}
 use mathlib.Core.List.{List}
 use Rattle.laws.proofs.Cases.{impossible}
 use Rattle.laws.proofs.OneAnswer.{Telling, one-answer}
-use Rattle.numbers.specs.Refusals.{Told}
-use Rattle.numbers.proofs.OneAnswers.{refuses-telling}
+use Rattle.numbers.proofs.OneAnswers.{refuses-telling, values-of}
 use Rattle.store.specs.Element.{tellReadingKey, tellReadElement}
 use Rattle.store.specs.declared.element.Key.{Key}
 use Rattle.store.specs.declared.element.Element.{Element}
@@ -16,11 +15,17 @@ use Rattle.store.specs.Store.{Walk, WalkedTo, tellStored}
 use Rattle.store.specs.Accessor.{tellFound, FindsElement, elementBytes}
 use Rattle.store.specs.declared.package.Stored.{Stored}
 use Rattle.store.specs.declared.package.Stored.the-variants as stored
+use Rattle.store.specs.RangeTable.{addedTo, laidIn, tellAdded}
+use Rattle.store.specs.Knowledge.{Knowing, ReadsKnowledge, tellItem, tellReadKnowledge}
+use Rattle.talk.specs.declared.range.Range.{Range}
+use Rattle.talk.proofs.Order.{same-range}
+use Rattle.store.specs.declared.ranges.Added.{Added}
+use Rattle.store.specs.declared.ranges.Added.the-variants as added
+use Rattle.store.specs.declared.item.Item.the-variants as item
+use Rattle.store.specs.declared.knowledge.ReadKnowledge.{ReadKnowledge}
+use Rattle.store.specs.declared.knowledge.ReadKnowledge.the-variants as read
 use Rattle.store.specs.declared.accessor.Found.{Found}
 use Rattle.store.specs.declared.accessor.Found.the-variants as found
-
-values-of : (a b : Told) → a ≡ b → a .values ≡ b .values
-values-of a b e = ap (λ (t : Told). t .values) e
 
 pub found-telling : Telling tellFound
 found-telling (found.At p n) (found.At q m) e = let v = values-of _ _ e in cc
@@ -73,3 +78,38 @@ element-bytes-one s i r q a b = a ∙ sym b
 pub walked-one : (w : Walk) (r q : Stored) (rows x y ids u v : List ℕ) → WalkedTo w r rows x ids u → WalkedTo w q rows y ids v
     → (r ≡ q) × (x ≡ y) × (u ≡ v)
 walked-one w r q rows x y ids u v a b = (a .0 ∙ sym (b .0), a .1 ∙ sym (b .1), a .2 ∙ sym (b .2))
+
+-- ---- knowledge
+
+pub added-telling : Telling tellAdded
+added-telling (added.Rows n) (added.Rows m) e = let v = values-of _ _ e in cc
+added-telling (added.Rows n) added.Full e = let v = values-of _ _ e in impossible (cc)
+added-telling added.Full (added.Rows m) e = let v = values-of _ _ e in impossible (cc)
+added-telling added.Full added.Full e = refl
+
+pub item-telling : Telling tellItem
+item-telling (item.Adds p x) (item.Adds q y) e =
+    let v = values-of _ _ e in let z : x ≡ y = same-range x y (cc) (cc) (cc) (cc) in let w : p ≡ q = cc in rw (w, z)
+item-telling (item.Adds p x) (item.Nothing q) e = let v = values-of _ _ e in impossible (cc)
+item-telling (item.Adds p x) (item.Refused q) e = let v = values-of _ _ e in impossible (cc)
+item-telling (item.Nothing p) (item.Adds q y) e = let v = values-of _ _ e in impossible (cc)
+item-telling (item.Nothing p) (item.Nothing q) e = let v = values-of _ _ e in cc
+item-telling (item.Nothing p) (item.Refused q) e = let v = values-of _ _ e in impossible (cc)
+item-telling (item.Refused r) (item.Adds q y) e = let v = values-of _ _ e in impossible (cc)
+item-telling (item.Refused r) (item.Nothing q) e = let v = values-of _ _ e in impossible (cc)
+item-telling (item.Refused r) (item.Refused q) e = ap item.Refused (refuses-telling r q e)
+
+pub read-knowledge-telling : Telling tellReadKnowledge
+read-knowledge-telling (read.Holds p n) (read.Holds q m) e = let v = values-of _ _ e in cc
+read-knowledge-telling (read.Holds p n) (read.Refused q) e = let v = values-of _ _ e in impossible (cc)
+read-knowledge-telling (read.Refused r) (read.Holds q m) e = let v = values-of _ _ e in impossible (cc)
+read-knowledge-telling (read.Refused r) (read.Refused q) e = ap read.Refused (refuses-telling r q e)
+
+-- the answer of a reading, and the table at its exit
+pub reads-knowledge-one : (k : Knowing) (r q : ReadKnowledge) (x y : List ℕ) → ReadsKnowledge k r x → ReadsKnowledge k q y → (r ≡ q) × (x ≡ y)
+reads-knowledge-one k r q x y a b = (a .0 ∙ sym (b .0), a .1 ∙ sym (b .1))
+
+-- what adding a range answers, and the table at its exit
+pub add-range-one : (t : List ℕ) (l : List Range) (r q : Added) (x y : List ℕ) → (r ≡ addedTo t l) × (x ≡ laidIn t l) → (q ≡ addedTo t l) × (y ≡ laidIn t l)
+    → (r ≡ q) × (x ≡ y)
+add-range-one t l r q x y a b = (a .0 ∙ sym (b .0), a .1 ∙ sym (b .1))

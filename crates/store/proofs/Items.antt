@@ -1,0 +1,131 @@
+-- A range or an entry that is read: it stays within the input, goes forward, and adds a range in which from is not above to.
+-- Assumes nothing.
+use mathlib.Core.Path.{_≡_, refl}
+use mathlib.Core.Bool.{Bool, true, false}
+use mathlib.Core.List.{List}
+use Prim.Native.Nat.{ℕ, _+_, _≤_}
+use native.Mathlib.Omega.{arith}
+use lib.ListN.{length}
+use lib.Dec.{leb}
+use borrow.Author.Tests.{leb-true}
+use Rattle.laws.proofs.Cases.{pick-all}
+use Rattle.numbers.specs.declared.guid.Guid.{Guid}
+use Rattle.numbers.specs.declared.serial.Serial.the-variants as number
+use Rattle.objects.specs.Steps.{valueOf, need, onSerial, startHere, runHere, closed, nextIs, Behind, Good}
+use Rattle.objects.specs.declared.reading.Reading.{Reading}
+use Rattle.objects.specs.declared.reading.Reading.the-variants.{At, Refused}
+use Rattle.objects.specs.declared.reading.ReadingSerial.{ReadingSerial}
+use Rattle.objects.specs.declared.reading.ReadingSerial.the-variants as serial′
+use Rattle.objects.proofs.Keep.{good-front, good-need, good-place, good-number, good-guid, good-serial, good-start, good-closed}
+use Rattle.objects.proofs.Forward.{behind-start, behind-closed}
+use Rattle.talk.specs.Ranges.{insert, Normal}
+use Rattle.talk.specs.declared.range.Range.{Range}
+use Rattle.talk.proofs.Insertion.{length-insert, normal-insert}
+use Rattle.store.specs.Knowledge.{rangeOf, guidField, fromField, toField, rangeFields, itemOf, rangeStart, rangeItem, entryOf, entryStart, entrySerial, entryItem, itemAt, onItem, united}
+use Rattle.store.specs.declared.item.Item.{Item}
+use Rattle.store.specs.declared.item.Item.the-variants as item
+use Rattle.store.proofs.Taken.{Stands, stands-closed}
+
+-- ---- the fields stay within the data run
+
+good-from : (d : List ℕ) → Good d (fromField d)
+good-from d = good-number d _ (good-guid d (At 0 0) (good-front d 0))
+
+pub good-range-fields : (d : List ℕ) → Good d (rangeFields d .last)
+unfolding rangeFields
+good-range-fields d = good-need d _ 12 _ (toField d) (good-place d (fromField d) (good-from d)) (good-number d (fromField d) (good-from d))
+
+pub good-entry-fields : (d : List ℕ) → Good d (onSerial (entrySerial d))
+good-entry-fields d = good-serial d (At 0 0) (good-front d 0)
+
+-- ---- what holds of the place behind an item holds of where the reading goes on
+
+-- `At e v` becomes `At e 0`, which the predicates here do not tell apart
+on-range : (P : Reading → Type 0) → ((e v : ℕ) → P (At e v) → P (At e 0)) → (x : Range) (c : Reading) → P c → P (onItem (itemOf x c))
+unfolding onItem itemOf
+on-range P f x (At e v) h = f e v h
+on-range P f x (Refused r) h = h
+
+entry-closed : (P : Reading → Type 0) → ((e v : ℕ) → P (At e v) → P (At e 0)) → (k : ReadingSerial) (c : Reading) → P c
+    → (Stands c → Stands (onSerial k)) → P (onItem (entryOf k c))
+unfolding onItem entryOf onSerial
+entry-closed P f k (Refused r) h g = h
+entry-closed P f (serial′.At q number.Null) (At e v) h g = f e v h
+entry-closed P f (serial′.At q (number.Numbered i x)) (At e v) h g = f e v h
+entry-closed P f (serial′.Refused r) (At e v) h g = absurd (g tt)
+
+-- a serial number at fault leaves the closed run at fault
+on-entry : (P : Reading → Type 0) → ((e v : ℕ) → P (At e v) → P (At e 0)) → (k : ReadingSerial) (s : List ℕ) (o : Reading)
+    → P (closed s o (onSerial k)) → P (onItem (entryOf k (closed s o (onSerial k))))
+on-entry P f k s o h = entry-closed P f k (closed s o (onSerial k)) h (λ t. stands-closed s o (onSerial k) t .1)
+
+module _ (P : Reading → Type 0) (f : (e v : ℕ) → P (At e v) → P (At e 0)) (s : List ℕ) (c : Reading) where
+  on-item : P (closed s (rangeStart s c) (rangeFields (runHere s (rangeStart s c)) .last))
+      → P (closed s (entryStart s c) (onSerial (entrySerial (runHere s (entryStart s c))))) → P (onItem (itemAt s c))
+  unfolding itemAt rangeItem entryItem
+  on-item a b =
+      pick-all (λ (i : Item). P (onItem i)) (nextIs s 0x0F c) _ _
+      (λ e. on-range P f (rangeFields (runHere s (rangeStart s c)) .range) (closed s (rangeStart s c) (rangeFields (runHere s (rangeStart s c)) .last)) a)
+      (λ e. on-entry P f (entrySerial (runHere s (entryStart s c))) s (entryStart s c) b)
+
+pub good-item : (s : List ℕ) (c : Reading) → Good s c → Good s (onItem (itemAt s c))
+good-item s c g =
+    on-item (Good s) (λ e v h. h) s c
+    (good-closed s (rangeStart s c) _ (good-start s 0x14 0x0F false true c g) (good-range-fields (runHere s (rangeStart s c))))
+    (good-closed s (entryStart s c) _ (good-start s 0x14 0x17 false true c g) (good-entry-fields (runHere s (entryStart s c))))
+
+pub behind-item : (s : List ℕ) (p : ℕ) (c : Reading) → Behind p c → Behind p (onItem (itemAt s c))
+behind-item s p c h =
+    on-item (Behind p) (λ e v g. g) s c
+    (behind-closed s p (rangeStart s c) _ (behind-start s 0x14 0x0F false true p c h))
+    (behind-closed s p (entryStart s c) _ (behind-start s 0x14 0x17 false true p c h))
+
+-- ---- from is not above to
+
+abbrev pub Sound : Item → Type 0
+Sound (item.Adds e x) = x .from ≤ x .to
+Sound (item.Nothing e) = Unit {0}
+Sound (item.Refused r) = Unit {0}
+
+need-holds : (fine : Bool) (k p : ℕ) (c : Reading) → Stands (need fine k p c) → fine ≡ true
+unfolding need
+need-holds true k p c h = refl
+need-holds false k p (At at v) h = absurd h
+need-holds false k p (Refused r) h = absurd h
+
+sound-range : (x : Range) (c : Reading) → (Stands c → x .from ≤ x .to) → Sound (itemOf x c)
+unfolding itemOf
+sound-range x (At e v) h = h tt
+sound-range x (Refused r) h = tt
+
+sound-entry : (k : ReadingSerial) (c : Reading) → Sound (entryOf k c)
+unfolding entryOf rangeOf
+sound-entry k (Refused r) = tt
+sound-entry (serial′.At q number.Null) (At e v) = tt
+sound-entry (serial′.At q (number.Numbered g x)) (At e v) = omega arith
+sound-entry (serial′.Refused r) (At e v) = tt
+
+sound-fields : (d : List ℕ) → Stands (rangeFields d .last) → rangeFields d .range .from ≤ rangeFields d .range .to
+unfolding rangeFields rangeOf
+sound-fields d h = leb-true _ _ (need-holds (leb (valueOf (fromField d)) (valueOf (toField d))) 12 _ (toField d) h)
+
+pub sound-item : (s : List ℕ) (c : Reading) → Sound (itemAt s c)
+unfolding itemAt rangeItem entryItem
+sound-item s c =
+    pick-all Sound (nextIs s 0x0F c) _ _
+    (λ e. sound-range _ _ (λ h. sound-fields (runHere s (rangeStart s c)) (stands-closed s (rangeStart s c) (rangeFields (runHere s (rangeStart s c)) .last) h .1)))
+    (λ e. sound-entry _ _)
+
+-- ---- the ranges with it
+
+pub united-normal : (i : Item) (l : List Range) → Sound i → Normal l → Normal (united i l)
+unfolding united
+united-normal (item.Adds e x) l h n = normal-insert x l h n
+united-normal (item.Nothing e) l h n = n
+united-normal (item.Refused r) l h n = n
+
+pub length-united : (i : Item) (l : List Range) (n : ℕ) → length l ≤ n → length (united i l) ≤ n + 1
+unfolding united
+length-united (item.Adds e x) l n h = omega (arith, length-insert x l)
+length-united (item.Nothing e) l n h = omega arith
+length-united (item.Refused r) l n h = omega arith

@@ -1,0 +1,55 @@
+-- The specialized knowledges of a knowledge, turn by turn: what the working table holds, and where the reading stands.
+-- Assumes nothing.
+use mathlib.Core.Path.{_≡_, refl, sym, ap, _∙_}
+use mathlib.Core.Bool.{true, false}
+use mathlib.Core.List.{List, []}
+use Prim.Native.Nat.{ℕ, _+_, _≤_}
+use native.Mathlib.Omega.{arith}
+use lib.ListN.{length}
+use Rattle.objects.specs.Steps.{endHere, nextIs}
+use Rattle.objects.specs.declared.reading.Reading.{Reading}
+use Rattle.talk.specs.Ranges.{Normal}
+use Rattle.store.specs.RangeTable.{rangesAt}
+use Rattle.store.specs.Knowledge.{Knowing, knowing, standing, specializedFrom, knowledgeFrom, knowledgeAnswer, KnownIs, ReadsKnowledge}
+use Rattle.store.specs.declared.knowledge.Known.{Known}
+use Rattle.store.specs.declared.knowledge.ReadKnowledge.{ReadKnowledge}
+use Rattle.store.proofs.RangeRows.{length-rows}
+use Rattle.store.proofs.KnowledgeForward.{knowledge-more, knowledge-end}
+
+-- ---- what is known, as the code has it
+
+-- the rows of a table
+pub known-start : (t : List ℕ) (n left : ℕ) (c : Reading) → n + left ≤ 512 → Normal (rangesAt t 0 n) → (r : Known) → r .rows ≡ n → r .left ≡ left → r .last ≡ c
+    → KnownIs (knowing (rangesAt t 0 n) t left c) r t
+known-start t n left c m o r f g h =
+    record { rows = f ∙ sym (length-rows t 0 n); left = g; last = h; table = refl; held = rw f; room = rw (f, g) m; normal = o }
+
+-- the same at another place
+pub known-standing : (k : Knowing) (r q : Known) (t : List ℕ) (c : Reading) → KnownIs k r t → q .rows ≡ r .rows → q .left ≡ r .left → q .last ≡ c
+    → KnownIs (standing c k) q t
+known-standing k r q t c i f g h =
+    record { rows = f ∙ i .rows; left = g ∙ i .left; last = h; table = i .table; held = rw f (i .held); room = rw (f, g) (i .room); normal = i .normal }
+
+-- ---- what holds whenever the loop's test is reached: the knowledge from the start is the knowledge from here
+
+pub record Learning (depth : ℕ) (s : List ℕ) (told : Knowing) (t : List ℕ) (c : Reading) (n left : ℕ) : Type 0 where
+  pub room : n + left ≤ 512
+  pub normal : Normal (rangesAt t 0 n)
+  pub rest : told ≡ knowledgeFrom depth s (knowing (rangesAt t 0 n) t left c)
+
+pub learning-start : (depth : ℕ) (s t : List ℕ) (c : Reading) → Learning depth s (knowledgeFrom depth s (knowing [] t 512 c)) t c 0 512
+unfolding rangesAt Normal
+learning-start depth s t c = record { room = omega arith; normal = tt; rest = refl }
+
+module _ {depth : ℕ} {s : List ℕ} {told : Knowing} {t : List ℕ} {c : Reading} {n left : ℕ} (u : Learning depth s told t c n left) where
+  pub learning-more : nextIs s 0x44 c ≡ true → (r : Known) (v : List ℕ) → KnownIs (specializedFrom depth s (knowing (rangesAt t 0 n) t left c)) r v
+      → Learning depth s told v (r .last) (r .rows) (r .left)
+  learning-more e r v i =
+      record {
+        room = i .room;
+        normal = rw (i .held) (i .normal);
+        rest = rw (i .held, i .left, i .last, i .table) (u .rest ∙ knowledge-more depth s (knowing (rangesAt t 0 n) t left c) e);
+      }
+
+  pub learning-end : nextIs s 0x44 c ≡ false → (r : ReadKnowledge) → r ≡ knowledgeAnswer n (endHere s 0x10 c) → ReadsKnowledge told r t
+  learning-end e r q = rw (u .rest ∙ knowledge-end depth s (knowing (rangesAt t 0 n) t left c) e, length-rows t 0 n) (q, refl, refl, u .normal)

@@ -1,0 +1,97 @@
+-- The ranges and entries of a cell knowledge, turn by turn: what the working table holds, and how many may still come.
+-- Assumes nothing.
+use mathlib.Core.Path.{_≡_, refl, sym, ap, _∙_}
+use mathlib.Core.Bool.{true, false}
+use mathlib.Core.List.{List, _++_}
+use Prim.Native.Nat.{ℕ, zero, suc, _+_, _-_, _*_, _≤_}
+use native.Mathlib.Omega.{arith}
+use lib.ListN.{length, drop}
+use borrow.Author.Tests.{le-leb}
+use Rattle.objects.specs.Steps.{startHere, endHere}
+use Rattle.objects.specs.declared.reading.Reading.{Reading}
+use Rattle.talk.specs.Ranges.{insert, Normal}
+use Rattle.talk.specs.declared.range.Range.{Range}
+use Rattle.talk.proofs.Insertion.{length-insert}
+use Rattle.store.specs.RangeTable.{rangesAt, numbersOf, laidRanges, addedTo, laidIn}
+use Rattle.store.specs.Knowledge.{itemNext, itemKind, itemAt, onItem, united, Knowing, knowing, itemsFrom, KnownIs}
+use Rattle.store.specs.declared.item.Item.{Item}
+use Rattle.store.specs.declared.knowledge.Known.{Known}
+use Rattle.store.specs.declared.ranges.Added.the-variants.{Rows}
+use Rattle.store.proofs.RangeRows.{length-rows, laid-rows, laid-same}
+use Rattle.store.proofs.Items.{sound-item, united-normal, length-united}
+
+-- ---- one item's range
+
+-- with room for one row more, a range is added
+pub added-fits : (t : List ℕ) (n : ℕ) (x : Range) → n * 4 + 4 ≤ length t
+    → (addedTo t (insert x (rangesAt t 0 n)) ≡ Rows (length (insert x (rangesAt t 0 n))))
+    × (laidIn t (insert x (rangesAt t 0 n)) ≡ laidRanges (insert x (rangesAt t 0 n)) t)
+added-fits t n x h =
+    let k : length (insert x (rangesAt t 0 n)) * 4 ≤ length t = omega (arith, length-insert x (rangesAt t 0 n), length-rows t 0 n) in
+    (simp (le-leb _ _ k), simp (le-leb _ _ k))
+
+-- where nothing is added, rows and table stay
+pub none-added : (t : List ℕ) (n : ℕ) → n * 4 + 4 ≤ length t → (n ≡ length (rangesAt t 0 n)) × (t ≡ laidRanges (rangesAt t 0 n) t)
+none-added t n h = (sym (length-rows t 0 n), sym (laid-same t n (omega arith)))
+
+-- ---- the items at a place
+
+pub items-end : (left : ℕ) (s : List ℕ) (l : List Range) (t : List ℕ) (c : Reading) → itemNext s c ≡ false
+    → itemsFrom left s l t c ≡ knowing l t left (endHere s 0x14 c)
+unfolding itemsFrom
+items-end zero s l t c e = rw e
+items-end (suc left) s l t c e = rw e
+
+pub items-over : (s : List ℕ) (l : List Range) (t : List ℕ) (c : Reading) → itemNext s c ≡ true
+    → itemsFrom 0 s l t c ≡ knowing l t 0 (startHere s 0x14 (itemKind s c) false false c)
+unfolding itemsFrom
+items-over s l t c e = rw e
+
+pub items-more : (left : ℕ) (s : List ℕ) (l : List Range) (t : List ℕ) (c : Reading) → itemNext s c ≡ true
+    → itemsFrom (suc left) s l t c ≡ itemsFrom left s (united (itemAt s c) l) (laidRanges (united (itemAt s c) l) t) (onItem (itemAt s c))
+unfolding itemsFrom
+items-more left s l t c e = rw e
+
+-- ---- what holds whenever the loop's test is reached: the items from the start are the items from here
+
+pub record Uniting (s : List ℕ) (told : Knowing) (t : List ℕ) (c : Reading) (n left : ℕ) : Type 0 where
+  pub room : n + left ≤ 512
+  pub normal : Normal (rangesAt t 0 n)
+  pub rest : told ≡ itemsFrom left s (rangesAt t 0 n) t c
+
+module _ {s : List ℕ} {told : Knowing} {t : List ℕ} {c : Reading} {n left : ℕ} (u : Uniting s told t c n left) where
+  -- where the walk ends at k with these ranges
+  known-here : (k : Knowing) (r : Known) → told ≡ k → k .ranges ≡ rangesAt t 0 n → k .table ≡ t → k .left ≡ left → r .rows ≡ n → r .left ≡ left → r .last ≡ k .last → KnownIs told r t
+  known-here k r e a b d f g h =
+      rw e
+      (record {
+        rows = f ∙ sym (length-rows t 0 n) ∙ ap length (sym a);
+        left = g ∙ sym d;
+        last = h;
+        table = sym b;
+        held = rw f (sym a);
+        room = rw (f, g) (u .room);
+        normal = rw a (u .normal);
+      })
+
+  pub uniting-end : itemNext s c ≡ false → (r : Known) → r .rows ≡ n → r .left ≡ left → r .last ≡ endHere s 0x14 c → KnownIs told r t
+  uniting-end e r f g h =
+      known-here (knowing (rangesAt t 0 n) t left (endHere s 0x14 c)) r (u .rest ∙ items-end left s (rangesAt t 0 n) t c e) refl refl refl f g h
+
+  pub uniting-over : itemNext s c ≡ true → left ≡ 0 → (r : Known) → r .rows ≡ n → r .left ≡ left → r .last ≡ startHere s 0x14 (itemKind s c) false false c
+      → KnownIs told r t
+  uniting-over e z r f g h =
+      known-here (knowing (rangesAt t 0 n) t 0 (startHere s 0x14 (itemKind s c) false false c)) r
+      (u .rest ∙ rw z (items-over s (rangesAt t 0 n) t c e)) refl refl (sym z) f g h
+
+  pub uniting-more : itemNext s c ≡ true → (left ≡ 0 → ⊥)
+      → Uniting s told (laidRanges (united (itemAt s c) (rangesAt t 0 n)) t) (onItem (itemAt s c)) (length (united (itemAt s c) (rangesAt t 0 n))) (left - 1)
+  uniting-more e d =
+      let l = united (itemAt s c) (rangesAt t 0 n) in
+      let z : left ≡ suc (left - 1) = omega arith in
+      let h : rangesAt (laidRanges l t) 0 (length l) ≡ l = laid-rows l (drop (length l * 4) t) in
+      record {
+        room = (let m = length-united (itemAt s c) (rangesAt t 0 n) n (let q = length-rows t 0 n in omega arith) in let q = u .room in omega arith);
+        normal = rw h (united-normal (itemAt s c) (rangesAt t 0 n) (sound-item s c) (u .normal));
+        rest = rw h (u .rest ∙ ap (λ (m : ℕ). itemsFrom m s (rangesAt t 0 n) t c) z ∙ items-more (left - 1) s (rangesAt t 0 n) t c e);
+      }

@@ -1,0 +1,145 @@
+// Ranges and entries of a cell knowledge, read one at a time.
+ghost use mathlib.Core.Path.{_≡_};
+ghost use Rattle.store.specs.Knowledge.{guidIn, rangeFields, itemOf, rangeItem, entryOf, entryItem, itemNext, itemKind, itemAt, onItem};
+use crate::ranges::range_of;
+use numbers::guid::Guid;
+use numbers::refusal::Refusal;
+use numbers::serial::Serial;
+use objects::reading::Reading;
+use objects::reading::ReadingGuid;
+use objects::reading::ReadingSerial;
+use talk::range::Range;
+
+// The types of the objects.
+pub const CELL: u64 = 0x14;
+
+pub const RANGE: u64 = 0x0F;
+
+pub const ENTRY: u64 = 0x17;
+
+// The fields of a range; `last` stands behind them.
+pub struct RangeFields {
+    pub range: Range,
+    pub last: Reading,
+}
+
+// The place behind a range or an entry, and what it adds.
+pub enum Item {
+    Adds(usize, Range),
+    Nothing(usize),
+    Refused(Refusal),
+}
+
+// The GUID that was read.
+fn guid_in(c: ReadingGuid) -> Guid
+    ensures { λ r. ⌜ r ≡ guidIn c ⌝ }
+{
+    match c {
+        ReadingGuid::At(_, g) => g,
+        ReadingGuid::Refused(_) => Guid { low: 0, high: 0 },
+    }
+}
+
+// The fields of a range, in the part that its data run is.
+fn range_fields(d: &[u8]) -> RangeFields
+    ensures { λ r. ⌜ r ≡ rangeFields (now (d .entry)) ⌝ }
+{
+    let g = Reading::At(0, 0).guid(d);
+    let from = g.on().number(d);
+    let to = from.number(d);
+    let first = from.value();
+    let second = to.value();
+    RangeFields {
+        range: range_of(guid_in(g), first, second),
+        last: to.need(first <= second, 12, from.place()),
+    }
+}
+
+// A range, if no fault stands behind it.
+fn item_of(x: Range, c: Reading) -> Item
+    ensures { λ r. ⌜ r ≡ itemOf x c ⌝ }
+{
+    match c {
+        Reading::At(e, _) => Item::Adds(e, x),
+        Reading::Refused(r) => Item::Refused(r),
+    }
+}
+
+// The range that begins here.
+fn range_item(s: &[u8], c: Reading) -> Item
+    ensures { λ r. ⌜ r ≡ rangeItem (now (s .entry)) c ⌝ }
+{
+    let o = c.start(s, CELL, RANGE, false, true);
+    let f = range_fields(o.run(s));
+    let last = f.last;
+    let x = f.range;
+    item_of(x, o.closed(s, last))
+}
+
+// An entry, if no fault stands behind it: a null one adds nothing.
+fn entry_of(k: ReadingSerial, c: Reading) -> Item
+    ensures { λ r. ⌜ r ≡ entryOf k c ⌝ }
+{
+    match c {
+        Reading::Refused(r) => Item::Refused(r),
+        Reading::At(e, _) => match k {
+            ReadingSerial::Refused(r) => Item::Refused(r),
+            ReadingSerial::At(_, x) => match x {
+                Serial::Null => Item::Nothing(e),
+                Serial::Numbered(g, n) => Item::Adds(e, range_of(g, n, n)),
+            },
+        },
+    }
+}
+
+// The entry that begins here.
+fn entry_item(s: &[u8], c: Reading) -> Item
+    ensures { λ r. ⌜ r ≡ entryItem (now (s .entry)) c ⌝ }
+{
+    let o = c.start(s, CELL, ENTRY, false, true);
+    let k = Reading::At(0, 0).serial(o.run(s));
+    entry_of(k, o.closed(s, k.on()))
+}
+
+// Whether a range or an entry stands here.
+pub fn item_next(s: &[u8], c: Reading) -> bool
+    ensures { λ r. ⌜ r ≡ itemNext (now (s .entry)) c ⌝ }
+{
+    if c.next_is(s, RANGE) {
+        return true;
+    }
+    c.next_is(s, ENTRY)
+}
+
+// Which of the two.
+pub fn item_kind(s: &[u8], c: Reading) -> u64
+    ensures { λ r. ⌜ r ≡ itemKind (now (s .entry)) c ⌝ }
+{
+    if c.next_is(s, RANGE) {
+        return RANGE;
+    }
+    ENTRY
+}
+
+// The range or the entry that begins here.
+pub fn read_item(s: &[u8], c: Reading) -> Item
+    ensures { λ r. ⌜ r ≡ itemAt (now (s .entry)) c ⌝ }
+{
+    if c.next_is(s, RANGE) {
+        return range_item(s, c);
+    }
+    entry_item(s, c)
+}
+
+impl Item {
+    // On from behind it.
+    pub fn on(self) -> Reading
+        ensures { λ r. ⌜ r ≡ onItem self ⌝ }
+    {
+        match self {
+            Item::Adds(e, _) => Reading::At(e, 0),
+            Item::Nothing(e) => Reading::At(e, 0),
+            Item::Refused(r) => Reading::Refused(r),
+        }
+    }
+}

@@ -1,0 +1,159 @@
+// Knowledge written from the rows of the working table: empty, or one cell knowledge of ranges only. Its exact length is
+// known before anything is written.
+ghost use mathlib.Core.Path.{_≡_};
+ghost use mathlib.Core.List.{_++_};
+ghost use Prim.Native.Nat.{_+_, _*_, _≤_};
+ghost use lib.ListN.{length, drop};
+ghost use Rattle.laws.specs.Placed.{Lays};
+ghost use Rattle.numbers.specs.Calls.{Writes};
+ghost use Rattle.store.specs.RangeTable.{rangesAt};
+ghost use Rattle.store.specs.KnowledgeWritten.{guidOf, rangeData, rangeBytes, rangesBytes, cellFront, cellBack, knowledgeBytes};
+use crate::item::CELL;
+use crate::item::RANGE;
+use crate::knowledge::CELL_HIGH;
+use crate::knowledge::CELL_LOW;
+use crate::knowledge::KNOWLEDGE;
+use crate::knowledge::SPECIALIZED;
+use crate::lay::lay_end;
+use crate::lay::lay_guid;
+use crate::lay::lay_number;
+use crate::lay::lay_start;
+use crate::ranges::range_at;
+use numbers::compact::compact_length;
+use numbers::guid::Guid;
+use numbers::guid::swap;
+use numbers::refusal::Wrote;
+use numbers::refusal::too_short;
+use talk::range::Range;
+
+// How many bytes a range takes: its header two, its GUID sixteen. Ruled out (proofs/KnowledgeWrongAnswers): 18 for a range
+// from 0 to 0, its header not counted; 36 for it.
+pub fn range_length(x: Range) -> usize
+    ensures { λ r. ⌜ (r ≡ length (rangeBytes x)) × (r ≤ 36) ⌝ }
+{
+    18 + compact_length(x.from) + compact_length(x.to)
+}
+
+// How many bytes the ranges of the first rows take.
+fn ranges_length(table: &[u64], rows: usize) -> usize
+    requires { ⌜ (rows ≤ 512) × (rows * 4 ≤ length (now table)) ⌝ }
+    ensures { λ r. ⌜ (r ≡ length (rangesBytes (rangesAt (now (table .entry)) 0 rows))) × (r ≤ rows * 36) ⌝ }
+{
+    let mut n = 0;
+    let mut i = 0;
+    while i < rows {
+        n += range_length(range_at(table, i));
+        i += 1;
+    }
+    n
+}
+
+// How many bytes the knowledge of the first rows takes. Ruled out (proofs/KnowledgeWrongAnswers): 28 for no row, as without
+// a range there is no cell knowledge; 44 for one short range, its four bytes of ends not counted.
+pub fn knowledge_length(table: &[u64], rows: usize) -> usize
+    requires { ⌜ (rows ≤ 512) × (rows * 4 ≤ length (now table)) ⌝ }
+    ensures { λ r. ⌜ (r ≡ length (knowledgeBytes (rangesAt (now (table .entry)) 0 rows))) × (r ≤ 18460) ⌝ }
+{
+    if rows == 0 {
+        return 3;
+    }
+    28 + ranges_length(table, rows)
+}
+
+// A range's GUID.
+fn guid_of(x: Range) -> Guid
+    ensures { λ r. ⌜ r ≡ guidOf x ⌝ }
+{
+    Guid {
+        low: swap(x.upper),
+        high: swap(x.lower),
+    }
+}
+
+// A range's data: its GUID and both ends.
+fn lay_data(out: &mut [u8], at: usize, x: Range) -> usize
+    requires { ⌜ at + length (rangeData x) ≤ length (now out) ⌝ }
+    ensures { λ r. ⌜ Lays at (rangeData x) (now (out .entry)) r (now (out .exit)) ⌝ }
+{
+    let behind_guid = lay_guid(out, at, guid_of(x));
+    let behind_from = lay_number(out, behind_guid, x.from);
+    lay_number(out, behind_from, x.to)
+}
+
+// A range: how many bytes its data takes, all but the two of its header, stands in its start.
+fn lay_range(out: &mut [u8], at: usize, x: Range) -> usize
+    requires { ⌜ at + length (rangeBytes x) ≤ length (now out) ⌝ }
+    ensures { λ r. ⌜ Lays at (rangeBytes x) (now (out .entry)) r (now (out .exit)) ⌝ }
+{
+    let n = range_length(x) - 2;
+    let behind_start = lay_start(out, at, RANGE, false, n as u64);
+    lay_data(out, behind_start, x)
+}
+
+// The ranges of the first rows, one behind the other.
+fn lay_ranges(out: &mut [u8], at: usize, table: &[u64], rows: usize) -> usize
+    requires { ⌜ (rows * 4 ≤ length (now table)) × (at + length (rangesBytes (rangesAt (now table) 0 rows)) ≤ length (now out)) ⌝ }
+    ensures { λ r. ⌜ Lays at (rangesBytes (rangesAt (now (table .entry)) 0 rows)) (now (out .entry)) r (now (out .exit)) ⌝ }
+{
+    let mut p = at;
+    let mut i = 0;
+    while i < rows {
+        p = lay_range(out, p, range_at(table, i));
+        i += 1;
+    }
+    p
+}
+
+// A knowledge with one cell knowledge, up to its first range.
+fn lay_front(out: &mut [u8], at: usize) -> usize
+    requires { ⌜ at + length cellFront ≤ length (now out) ⌝ }
+    ensures { λ r. ⌜ Lays at cellFront (now (out .entry)) r (now (out .exit)) ⌝ }
+{
+    let behind_knowledge = lay_start(out, at, KNOWLEDGE, true, 0);
+    let behind_specialized = lay_start(out, behind_knowledge, SPECIALIZED, true, 16);
+    let kind = Guid {
+        low: CELL_LOW,
+        high: CELL_HIGH,
+    };
+    let behind_kind = lay_guid(out, behind_specialized, kind);
+    lay_start(out, behind_kind, CELL, true, 0)
+}
+
+// From behind its last range.
+fn lay_back(out: &mut [u8], at: usize) -> usize
+    requires { ⌜ at + length cellBack ≤ length (now out) ⌝ }
+    ensures { λ r. ⌜ Lays at cellBack (now (out .entry)) r (now (out .exit)) ⌝ }
+{
+    let behind_cell = lay_end(out, at, CELL);
+    let behind_specialized = lay_end(out, behind_cell, SPECIALIZED);
+    lay_end(out, behind_specialized, KNOWLEDGE)
+}
+
+// The knowledge of the first rows at the front of out.
+fn put_knowledge(out: &mut [u8], table: &[u64], rows: usize)
+    requires { ⌜ (rows * 4 ≤ length (now table)) × (length (knowledgeBytes (rangesAt (now table) 0 rows)) ≤ length (now out)) ⌝ }
+    ensures { λ _. ⌜ now (out .exit) ≡ knowledgeBytes (rangesAt (now (table .entry)) 0 rows) ++ drop (length (knowledgeBytes (rangesAt (now (table .entry)) 0 rows))) (now (out .entry)) ⌝ }
+{
+    if rows == 0 {
+        let behind_start = lay_start(out, 0, KNOWLEDGE, true, 0);
+        lay_end(out, behind_start, KNOWLEDGE);
+        return;
+    }
+    let behind_front = lay_front(out, 0);
+    let behind_ranges = lay_ranges(out, behind_front, table, rows);
+    lay_back(out, behind_ranges);
+}
+
+// The knowledge of the first rows. Ruled out (proofs/KnowledgeWrongAnswers): a needed length of 2 for no row, as its end
+// counts; a range's GUID with its bytes in the order of the row's little-endian numbers.
+pub fn write_knowledge(out: &mut [u8], table: &[u64], rows: usize) -> Wrote
+    requires { ⌜ (rows ≤ 512) × (rows * 4 ≤ length (now table)) ⌝ }
+    ensures { λ r. ⌜ Writes (knowledgeBytes (rangesAt (now (table .entry)) 0 rows)) (now (out .entry)) r (now (out .exit)) ⌝ }
+{
+    let needed = knowledge_length(table, rows);
+    if out.len() < needed {
+        return Wrote::Refused(too_short(needed));
+    }
+    put_knowledge(out, table, rows);
+    Wrote::Done(needed)
+}
