@@ -2,6 +2,7 @@
 // calls of the libraries from outside, so that a run can be compared with what another program makes of the same cases.
 mod headers;
 mod items;
+mod knowledges;
 mod say;
 mod stores;
 mod words;
@@ -49,10 +50,13 @@ fn two_words(line: &[u8], space: &mut [u8]) {
     if check::same(mode, b"store") {
         return stores::rows(s);
     }
+    if check::same(mode, b"knowledge") {
+        return knowledges::rows(s);
+    }
     say::bad()
 }
 
-// `MODE NUMBER OUTLEN`, or `element STOREHEX POSITION`.
+// `MODE NUMBER OUTLEN`, `element STOREHEX POSITION` or `rewritten HEX OUTLEN`.
 fn three_words(line: &[u8], space: &mut [u8], out: &mut [u8]) {
     let mode = words::word(line, 0);
     if check::same(mode, b"wcompact") {
@@ -64,17 +68,23 @@ fn three_words(line: &[u8], space: &mut [u8], out: &mut [u8]) {
     if check::same(mode, b"element") {
         return stores::element(line, space);
     }
+    if check::same(mode, b"rewritten") {
+        return knowledges::rewritten(line, space);
+    }
     say::bad()
 }
 
-// `MODE GUIDHEX NUMBER OUTLEN`
-fn four_words(line: &[u8], out: &mut [u8]) {
+// `MODE GUIDHEX NUMBER OUTLEN`, or `known HEX GUIDHEX NUMBER`.
+fn four_words(line: &[u8], space: &mut [u8], out: &mut [u8]) {
     let mode = words::word(line, 0);
     if check::same(mode, b"wexguid") {
         return items::wexguid(line, out);
     }
     if check::same(mode, b"wserial") {
         return items::wserial(line, out);
+    }
+    if check::same(mode, b"known") {
+        return knowledges::known(line, space);
     }
     say::bad()
 }
@@ -93,7 +103,7 @@ fn one_case(line: &[u8], space: &mut [u8], out: &mut [u8]) {
     match words::count(line) {
         2 => two_words(line, space),
         3 => three_words(line, space, out),
-        4 => four_words(line, out),
+        4 => four_words(line, space, out),
         5 => five_words(line, out),
         _ => say::bad(),
     }

@@ -13,11 +13,11 @@ use store::package::MOST_ELEMENTS;
 use store::package::Stored;
 use store::package::read_store;
 
-// What every number of both tables holds before a store is read.
-const UNTOUCHED: u64 = 0xA5A5A5A5A5A5A5A5;
+// What every number of a table holds before a case lends it.
+pub(crate) const UNTOUCHED: u64 = 0xA5A5A5A5A5A5A5A5;
 
 // Whether no number was changed.
-fn untouched(t: &[u64]) -> bool
+pub(crate) fn untouched(t: &[u64]) -> bool
     ensures { λ r. ⌜ (r ≡ true → (k : ℕ) → k < length (now (t .entry)) → getD (now (t .entry)) k 0 ≡ 0xA5A5A5A5A5A5A5A5) ⌝ }
 {
     let mut i = 0;
