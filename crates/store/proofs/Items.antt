@@ -9,19 +9,18 @@ use lib.ListN.{length}
 use lib.Dec.{leb}
 use borrow.Author.Tests.{leb-true}
 use Rattle.laws.proofs.Cases.{pick-all}
-use Rattle.numbers.specs.declared.guid.Guid.{Guid}
 use Rattle.numbers.specs.declared.serial.Serial.the-variants as number
-use Rattle.objects.specs.Steps.{valueOf, need, onSerial, startHere, runHere, closed, nextIs, Behind, Good}
+use Rattle.objects.specs.Steps.{valueOf, need, onSerial, runHere, closed, nextIs, Behind, Good}
 use Rattle.objects.specs.declared.reading.Reading.{Reading}
 use Rattle.objects.specs.declared.reading.Reading.the-variants.{At, Refused}
 use Rattle.objects.specs.declared.reading.ReadingSerial.{ReadingSerial}
 use Rattle.objects.specs.declared.reading.ReadingSerial.the-variants as serial′
 use Rattle.objects.proofs.Keep.{good-front, good-need, good-place, good-number, good-guid, good-serial, good-start, good-closed}
 use Rattle.objects.proofs.Forward.{behind-start, behind-closed}
-use Rattle.talk.specs.Ranges.{insert, Normal}
+use Rattle.talk.specs.Ranges.{Normal}
 use Rattle.talk.specs.declared.range.Range.{Range}
 use Rattle.talk.proofs.Insertion.{length-insert, normal-insert}
-use Rattle.store.specs.Knowledge.{rangeOf, guidField, fromField, toField, rangeFields, itemOf, rangeStart, rangeItem, entryOf, entryStart, entrySerial, entryItem, itemAt, onItem, united}
+use Rattle.store.specs.Knowledge.{rangeOf, fromField, toField, rangeFields, itemOf, rangeStart, rangeItem, entryOf, entryStart, entrySerial, entryItem, itemAt, onItem, united}
 use Rattle.store.specs.declared.item.Item.{Item}
 use Rattle.store.specs.declared.item.Item.the-variants as item
 use Rattle.store.proofs.Taken.{Stands, stands-closed}

@@ -1,10 +1,10 @@
 -- The ranges of a knowledge that was read from bytes are ranges of 64-bit numbers.
 -- Assumes nothing.
 use mathlib.Core.Path.{_≡_, refl}
-use mathlib.Core.List.{List, []}
-use Prim.Native.Nat.{ℕ, suc, _^_, _<_}
+use mathlib.Core.List.{List}
+use Prim.Native.Nat.{ℕ, _^_, _<_}
 use native.Mathlib.Omega.{arith}
-use lib.ListN.{take, drop}
+use lib.ListN.{drop}
 use Rattle.laws.specs.Bytes.{AllBytes}
 use Rattle.laws.proofs.Cases.{pick-all}
 use Rattle.laws.proofs.Numbers.{take-bytes, drop-bytes}
@@ -19,12 +19,10 @@ use Rattle.numbers.specs.declared.serial.ReadSerial.the-variants as serial
 use Rattle.numbers.proofs.RoundTrip.{written-read}
 use Rattle.numbers.proofs.Guids.{swapped-fits}
 use Rattle.numbers.proofs.Serials.{serial-written-read}
-use Rattle.objects.specs.Steps.{valueOf, numberOn, serialOn, serialHere, onGuid, onSerial, runHere, closed, nextIs}
+use Rattle.objects.specs.Steps.{valueOf, numberOn, serialOn, serialHere, onGuid, runHere, nextIs}
 use Rattle.objects.specs.Steps as steps
 use Rattle.objects.specs.declared.reading.Reading.{Reading}
 use Rattle.objects.specs.declared.reading.Reading.the-variants.{At, Refused}
-use Rattle.objects.specs.declared.reading.ReadingSerial.{ReadingSerial}
-use Rattle.objects.specs.declared.reading.ReadingSerial.the-variants as serial′
 use Rattle.talk.specs.Ranges.{RangeFits, AllFit}
 use Rattle.talk.specs.declared.range.Range.{Range}
 use Rattle.talk.proofs.Bounds.{insert-fits}

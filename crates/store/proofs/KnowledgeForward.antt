@@ -1,25 +1,23 @@
 -- Reading a knowledge goes forward and stays within the input: a specialized knowledge takes a byte at least, so that the
 -- turns end.
 -- Assumes nothing.
-use mathlib.Core.Path.{_≡_, refl}
+use mathlib.Core.Path.{_≡_}
 use mathlib.Core.Bool.{true, false}
 use mathlib.Core.List.{List}
-use Prim.Native.Nat.{ℕ, zero, suc, _-_, _≤_, _<_}
+use Prim.Native.Nat.{ℕ, zero, suc, _-_, _<_}
 use native.Mathlib.Omega.{arith}
-use lib.ListN.{length}
-use Rattle.laws.specs.Pick.{pick}
-use Rattle.laws.specs.Loop.{Turn, after}
+use Rattle.laws.specs.Loop.{Turn}
 use Rattle.laws.specs.Loop.Turn.{more, done}
-use Rattle.laws.proofs.Cases.{by-bool, pick-all, impossible}
-use Rattle.laws.proofs.Loops.{Falls, iterate-at, iterate-ind}
-use Rattle.objects.specs.Steps.{placeOf, guidHere, onGuid, startHere, startOfLength, endHere, nextIs, inside, Behind, Good}
+use Rattle.laws.proofs.Cases.{pick-all, impossible}
+use Rattle.laws.proofs.Loops.{Falls, iterate-at}
+use Rattle.objects.specs.Steps.{placeOf, onGuid, startHere, startOfLength, endHere, nextIs, Behind, Good}
 use Rattle.objects.specs.declared.reading.Reading.{Reading}
 use Rattle.objects.specs.declared.reading.Reading.the-variants.{At, Refused}
 use Rattle.objects.proofs.Keep.{good-start, good-start-of-length, good-guid, good-end, good-inside}
 use Rattle.objects.proofs.Forward.{behind-place, behind-start, behind-start-of-length, behind-guid, Past, past-behind, past-end, past-inside}
 use Rattle.talk.specs.declared.range.Range.{Range}
 use Rattle.store.specs.RangeTable.{laidRanges}
-use Rattle.store.specs.Knowledge.{itemNext, itemKind, itemAt, onItem, united, Knowing, standing, itemsFrom, isCell, specializedGuid, cellFrom, specializedFrom, knowledgeTurn, toGo, unreached, knowledgeFrom, knowledgeAt}
+use Rattle.store.specs.Knowledge.{itemNext, itemKind, itemAt, onItem, united, Knowing, standing, itemsFrom, isCell, specializedGuid, cellFrom, specializedFrom, knowledgeTurn, toGo, unreached, knowledgeFrom}
 use Rattle.store.proofs.Items.{good-item, behind-item}
 
 -- ---- ranges and entries

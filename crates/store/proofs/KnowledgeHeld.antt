@@ -3,17 +3,15 @@
 -- Assumes nothing.
 use mathlib.Core.Path.{_≡_, refl, sym, ap, _∙_}
 use mathlib.Core.Bool.{Bool, true, false}
-use mathlib.Core.List.{List, [], _++_}
+use mathlib.Core.List.{List, []}
 use Prim.Native.Nat.{ℕ, zero, suc, _+_, _*_, _-_, _≤_}
 use native.Mathlib.Omega.{arith}
-use lib.ListN.{length, drop, length-append}
+use lib.ListN.{length, drop}
 use lib.Seq.{drop-drop, drop-at}
 use Rattle.laws.specs.Pick.{pick}
-use Rattle.laws.specs.Loop.{Turn}
-use Rattle.laws.specs.Loop.Turn.{more}
 use Rattle.laws.proofs.Cases.{by-bool, pick-all, impossible}
 use Rattle.laws.proofs.Loops.{iterate-ind}
-use Rattle.objects.specs.Steps.{onGuid, startOfLength, endHere, nextIs, Behind, Good}
+use Rattle.objects.specs.Steps.{onGuid, startOfLength, nextIs, Behind, Good}
 use Rattle.objects.specs.declared.reading.Reading.{Reading}
 use Rattle.objects.specs.declared.reading.Reading.the-variants.{At, Refused}
 use Rattle.objects.proofs.Keep.{good-start-of-length, good-end}
@@ -22,7 +20,7 @@ use Rattle.talk.specs.Ranges.{within, holds, Normal}
 use Rattle.talk.specs.declared.range.Range.{Range}
 use Rattle.talk.proofs.Membership.{holds-insert}
 use Rattle.store.specs.RangeTable.{rangesAt, numbersOf, laidRanges}
-use Rattle.store.specs.Knowledge.{itemNext, itemAt, onItem, united, Knowing, knowing, standing, itemsFrom, isCell, specializedGuid, cellFrom, specializedFrom, knowledgeTurn, toGo, unreached, knowledgeFrom, knowledgeAt, knowledgeAnswer}
+use Rattle.store.specs.Knowledge.{itemNext, itemAt, onItem, united, Knowing, knowing, itemsFrom, isCell, specializedGuid, cellFrom, specializedFrom, knowledgeTurn, toGo, unreached, knowledgeFrom, knowledgeAt, knowledgeAnswer}
 use Rattle.store.specs.declared.item.Item.{Item}
 use Rattle.store.specs.declared.item.Item.the-variants as item
 use Rattle.store.specs.declared.knowledge.ReadKnowledge.the-variants as read

@@ -1,11 +1,10 @@
 -- The specialized knowledges of a knowledge, turn by turn: what the working table holds, and where the reading stands.
 -- Assumes nothing.
-use mathlib.Core.Path.{_≡_, refl, sym, ap, _∙_}
+use mathlib.Core.Path.{_≡_, refl, sym, _∙_}
 use mathlib.Core.Bool.{true, false}
 use mathlib.Core.List.{List, []}
 use Prim.Native.Nat.{ℕ, _+_, _≤_}
 use native.Mathlib.Omega.{arith}
-use lib.ListN.{length}
 use Rattle.objects.specs.Steps.{endHere, nextIs}
 use Rattle.objects.specs.declared.reading.Reading.{Reading}
 use Rattle.talk.specs.Ranges.{Normal}

@@ -2,14 +2,14 @@
 -- the table after a row is written.
 -- Assumes nothing.
 use mathlib.Core.Path.{_≡_, refl, sym, ap, _∙_}
-use mathlib.Core.Bool.{Bool, true, false}
+use mathlib.Core.Bool.{true, false}
 use mathlib.Core.List.{List, [], _∷_, _++_, append-assoc}
 use Prim.Native.Nat.{ℕ, zero, suc, _+_, _-_, _*_, _/_, _≤_, _<_}
 use native.Mathlib.Nat.{zero-add}
 use native.Mathlib.Omega.{arith}
 use native.Mathlib.Numerals.{add-one}
 use lib.ListN.{length, take, drop, getD, length-append, length-drop, take-append-drop}
-use lib.Seq.{append-snoc, drop-cons, drop-drop, take-at, drop-at, getD-drop, length-take-le}
+use lib.Seq.{drop-cons, drop-drop, take-at, drop-at, getD-drop, length-take-le}
 use borrow.Author.Tests.{le-leb, lt-leb}
 use Rattle.laws.proofs.Cases.{impossible}
 use Rattle.talk.specs.Ranges.{isBefore, joined, absorb, insert}
@@ -17,7 +17,6 @@ use Rattle.talk.specs.declared.range.Range.{Range}
 use Rattle.talk.proofs.Order.{same-range}
 use Rattle.talk.proofs.Insertion.{insert-none, insert-past, insert-here, absorb-none, absorb-stop, absorb-join}
 use Rattle.store.specs.RangeTable.{rangeAt, rangesAt, rangeNumbers, numbersOf, laidRanges, addedTo, laidIn, FirstNotBefore}
-use Rattle.store.specs.declared.ranges.Added.{Added}
 use Rattle.store.specs.declared.ranges.Added.the-variants.{Rows, Full}
 
 -- the first of the rows from k up to count

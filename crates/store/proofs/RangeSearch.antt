@@ -1,7 +1,7 @@
 -- The search among rows in normal form: the rows before a range come first, and only the first row that does not lie before a
 -- pair can hold it.
 -- Assumes nothing.
-use mathlib.Core.Path.{_≡_, refl, sym, _∙_}
+use mathlib.Core.Path.{_≡_, refl}
 use mathlib.Core.Bool.{Bool, true, false}
 use mathlib.Core.List.{List}
 use Prim.Native.Nat.{ℕ, zero, suc, _+_, _≤_, _<_}
@@ -11,7 +11,7 @@ use Rattle.laws.specs.Pick.{pick}
 use Rattle.laws.proofs.Cases.{by-lt, by-eq, impossible}
 use Rattle.talk.specs.Ranges.{range, isBefore, within, holds, Before, BeforeAll, Normal}
 use Rattle.talk.specs.declared.range.Range.{Range}
-use Rattle.talk.proofs.Order.{by-before, before-or-not, before-trans, not-before-later}
+use Rattle.talk.proofs.Order.{by-before, before-or-not, before-trans}
 use Rattle.talk.proofs.Membership.{before-outside, later-outside}
 use Rattle.store.specs.RangeTable.{rangeAt, rangesAt, FirstNotBefore}
 

@@ -1,17 +1,17 @@
 -- Reading a knowledge relies on nothing that was in the table: whatever stood there, the ranges, the count and the place are
 -- the same.
 -- Assumes nothing.
-use mathlib.Core.Path.{_≡_, refl, sym, ap, _∙_}
+use mathlib.Core.Path.{_≡_, refl, ap}
 use mathlib.Core.Bool.{true, false}
 use mathlib.Core.List.{List, []}
 use Prim.Native.Nat.{ℕ, zero, suc}
 use Rattle.laws.proofs.Cases.{by-bool}
 use Rattle.laws.proofs.Loops.{iterate-ind}
-use Rattle.objects.specs.Steps.{onGuid, startOfLength, endHere, nextIs, inside}
+use Rattle.objects.specs.Steps.{onGuid, startOfLength, endHere, nextIs}
 use Rattle.objects.specs.declared.reading.Reading.{Reading}
 use Rattle.talk.specs.declared.range.Range.{Range}
 use Rattle.store.specs.RangeTable.{laidRanges}
-use Rattle.store.specs.Knowledge.{itemNext, itemAt, onItem, united, Knowing, knowing, standing, itemsFrom, isCell, specializedGuid, cellFrom, specializedFrom, knowledgeTurn, toGo, unreached, knowledgeFrom, knowledgeAt}
+use Rattle.store.specs.Knowledge.{itemNext, itemAt, onItem, united, Knowing, knowing, itemsFrom, isCell, specializedGuid, cellFrom, specializedFrom, knowledgeTurn, toGo, unreached, knowledgeFrom, knowledgeAt}
 use Rattle.store.proofs.Uniting.{items-end, items-over, items-more}
 use Rattle.store.proofs.KnowledgeForward.{knowledge-falls, knowledge-more, knowledge-end, turn-more}
 

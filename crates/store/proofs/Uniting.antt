@@ -2,7 +2,7 @@
 -- Assumes nothing.
 use mathlib.Core.Path.{_≡_, refl, sym, ap, _∙_}
 use mathlib.Core.Bool.{true, false}
-use mathlib.Core.List.{List, _++_}
+use mathlib.Core.List.{List}
 use Prim.Native.Nat.{ℕ, zero, suc, _+_, _-_, _*_, _≤_}
 use native.Mathlib.Omega.{arith}
 use lib.ListN.{length, drop}
@@ -12,9 +12,8 @@ use Rattle.objects.specs.declared.reading.Reading.{Reading}
 use Rattle.talk.specs.Ranges.{insert, Normal}
 use Rattle.talk.specs.declared.range.Range.{Range}
 use Rattle.talk.proofs.Insertion.{length-insert}
-use Rattle.store.specs.RangeTable.{rangesAt, numbersOf, laidRanges, addedTo, laidIn}
+use Rattle.store.specs.RangeTable.{rangesAt, laidRanges, addedTo, laidIn}
 use Rattle.store.specs.Knowledge.{itemNext, itemKind, itemAt, onItem, united, Knowing, knowing, itemsFrom, KnownIs}
-use Rattle.store.specs.declared.item.Item.{Item}
 use Rattle.store.specs.declared.knowledge.Known.{Known}
 use Rattle.store.specs.declared.ranges.Added.the-variants.{Rows}
 use Rattle.store.proofs.RangeRows.{length-rows, laid-rows, laid-same}

@@ -3,7 +3,7 @@
 -- read from left to right, and each range goes into the list as it is read; a fault ends the reading with the ranges before it.
 -- Assumes nothing.
 use mathlib.Core.Path.{_≡_}
-use Prim.Native.Nat.{ℕ, zero, suc, _+_, _-_, _*_, _≤_}
+use Prim.Native.Nat.{ℕ, zero, suc, _+_, _-_, _≤_}
 use mathlib.Core.Bool.{Bool, true, false}
 use mathlib.Core.List.{List, [], _∷_}
 use lib.ListN.{length}
@@ -15,7 +15,7 @@ use Rattle.numbers.specs.Refusals.{Told, gives, refuses, faultAt}
 use Rattle.numbers.specs.Guid.{swapped}
 use Rattle.numbers.specs.declared.guid.Guid.{Guid}
 use Rattle.numbers.specs.declared.serial.Serial.the-variants as number
-use Rattle.objects.specs.Steps.{_▹_, placeOf, valueOf, need, guidHere, onGuid, serialHere, onSerial, startHere, startOfLength, runHere, closed, endHere, nextIs, inside}
+use Rattle.objects.specs.Steps.{placeOf, valueOf, need, guidHere, onGuid, serialHere, onSerial, startHere, startOfLength, runHere, closed, endHere, nextIs, inside}
 use Rattle.objects.specs.Steps as steps
 use Rattle.objects.specs.declared.reading.Reading.{Reading}
 use Rattle.objects.specs.declared.reading.Reading.the-variants.{At, Refused}

@@ -142,7 +142,7 @@ fn read_specialized(
 }
 
 // The answer, if no fault stands.
-fn answer(rows: usize, c: Reading) -> ReadKnowledge
+pub fn answer(rows: usize, c: Reading) -> ReadKnowledge
     ensures { λ r. ⌜ r ≡ knowledgeAnswer rows c ⌝ }
 {
     match c {

@@ -11,7 +11,7 @@ use crate::element::Element;
 use crate::element::Key;
 
 // The key of three numbers at a place of a table.
-fn key_at(t: &[u64], at: usize) -> Key
+pub fn key_at(t: &[u64], at: usize) -> Key
     requires { ⌜ at + 3 ≤ length (now t) ⌝ }
     ensures { λ r. ⌜ r ≡ keyAt (now (t .entry)) at ⌝ }
 {
@@ -22,7 +22,7 @@ fn key_at(t: &[u64], at: usize) -> Key
     }
 }
 
-fn same_key(a: Key, b: Key) -> bool
+pub fn same_key(a: Key, b: Key) -> bool
     ensures { λ r. ⌜ r ≡ sameKey a b ⌝ }
 {
     if a.low != b.low {

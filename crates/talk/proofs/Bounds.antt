@@ -1,6 +1,5 @@
 -- Ranges of 64-bit numbers stay so.
 -- Assumes nothing.
-use mathlib.Core.Bool.{true, false}
 use mathlib.Core.List.{List, [], _∷_}
 use native.Mathlib.Omega.{arith}
 use Rattle.laws.proofs.Cases.{by-bool}

@@ -1,9 +1,8 @@
 -- Wrong answers that the definitions rule out, each on a named input.
 -- Assumes nothing.
 use mathlib.Core.Path.{_≡_, refl}
-use mathlib.Core.Bool.{Bool, true, false}
-use mathlib.Core.List.{List, [], _∷_}
-use Prim.Native.Nat.{ℕ}
+use mathlib.Core.Bool.{false}
+use mathlib.Core.List.{[], _∷_}
 use Rattle.talk.specs.Ranges.{range, within, holds, isBefore, joined, absorb, insert}
 
 -- 5 to 6 put to 1 to 4, which it touches, is 1 to 6 and not two ranges
