@@ -1,0 +1,11 @@
+pub mod Inside
+pub mod Turns
+pub mod Whole
+pub mod Places
+pub mod OneAnswers
+pub mod WrongAnswers
+pub mod Choosing
+pub mod Elements
+pub mod Setting
+pub mod Putting
+pub mod WrongChoices

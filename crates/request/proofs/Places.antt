@@ -1,0 +1,112 @@
+-- A request that is read, and the place of a fault, lie within the request.
+-- Assumes nothing.
+use mathlib.Core.Path.{_≡_}
+use mathlib.Core.Bool.{true, false}
+use mathlib.Core.List.{List}
+use Prim.Native.Nat.{ℕ, zero, suc, _-_, _≤_}
+use native.Mathlib.Omega.{arith}
+use lib.ListN.{length}
+use borrow.Author.Tests.{lt-ltb, le-ltb}
+use lib.Dec.{eqb}
+use Rattle.laws.proofs.Cases.{by-lt, pick-all, impossible}
+use Rattle.numbers.specs.Refusals.{longestInput, overLong}
+use Rattle.numbers.specs.declared.refusal.Refusal.{Refusal}
+use Rattle.objects.specs.Steps.{placeOf, nothingOpen, startHere, runHere, closed, nextIs, Good}
+use Rattle.objects.specs.declared.reading.Reading.{Reading}
+use Rattle.objects.specs.declared.reading.Reading.the-variants.{At, Refused}
+use Rattle.objects.proofs.Keep.{good-front, good-place, good-fixed, good-valued, good-skip, good-start, good-start-of-length, good-closed, good-inside, good-end, good-finish}
+use Rattle.store.specs.Knowledge.{Knowing}
+use Rattle.store.proofs.KnowledgeHeld.{knowledge-good}
+use Rattle.request.specs.Filter.{filterFields, oneNumber, typePart, idsField, idsPart, kindPart, filterStart, filterKind, filterOpened, filterAt, filtersFrom}
+use Rattle.request.specs.Message.{versions, userAgent, subRequestFields, subRequest, queryChanges, argumentFields, arguments, constraint, knowledgePart, packagePart, identified, constrainedFrom, constrained, filtered, ended, requestKnowing, inRequest, requestAnswer, requestIn}
+use Rattle.request.specs.declared.message.Request.the-variants as request
+use Rattle.request.proofs.Inside.{good-one-number, good-sub-request-fields, good-argument-fields, good-filter-fields, good-ids-field}
+
+-- a start, and its data run read by fields that stay within it
+good-run : (s : List ℕ) (outer kind : ℕ) (fields : List ℕ → Reading) → ((d : List ℕ) → Good d (fields d)) → (c : Reading) → Good s c
+    → Good s (closed s (startHere s outer kind false true c) (fields (runHere s (startHere s outer kind false true c))))
+good-run s outer kind fields f c g = good-closed s (startHere s outer kind false true c) _ (good-start s outer kind false true c g) (f (runHere s (startHere s outer kind false true c)))
+
+-- ---- filters
+
+good-kind-part : (s : List ℕ) (kind : ℕ) (c : Reading) → Good s c → Good s (kindPart s kind c)
+unfolding kindPart typePart idsPart
+good-kind-part s kind c g =
+    pick-all (Good s) (eqb kind 2) _ _ (λ e. good-run s 0x47 0x57 oneNumber good-one-number c g)
+    (λ e. pick-all (Good s) (eqb kind 6) _ _ (λ f. good-run s 0x47 0x54 idsField good-ids-field c g) (λ f. g))
+
+good-filter : (s : List ℕ) (c : Reading) → Good s c → Good s (filterAt s c)
+unfolding filterAt filterOpened
+good-filter s c g =
+    let o = filterStart s c in
+    good-end s 0x47 _ (good-kind-part s (filterKind s c) _ (good-closed s o (filterFields (runHere s o) .last) (good-start s 0x42 0x47 true true c g) (good-filter-fields (runHere s o))))
+
+good-filters : (left : ℕ) (s : List ℕ) (c : Reading) → Good s c → Good s (filtersFrom left s c)
+unfolding filtersFrom
+good-filters zero s c g = pick-all (Good s) (nextIs s 0x47 c) _ _ (λ e. good-start s 0x42 0x47 true false c g) (λ e. good-valued s 16 c g)
+good-filters (suc left) s c g =
+    pick-all (Good s) (nextIs s 0x47 c) _ _ (λ e. good-filters left s (filterAt s c) (good-filter s c g)) (λ e. good-valued s (16 - suc left) c g)
+
+-- ---- the parts
+
+good-versions : (s : List ℕ) → Good s (versions s)
+unfolding versions
+good-versions s =
+    good-fixed s 8 0x9B069439F329CF9C 0x9B069439F329CF9C 7 _ (good-fixed s 2 0 12 7 _ (good-fixed s 2 12 0xFFFF 7 (At 0 0) (good-front s 0)))
+
+good-user-agent : (s : List ℕ) (c : Reading) → Good s c → Good s (userAgent s c)
+unfolding userAgent
+good-user-agent s c g =
+    good-inside s 14 0x5D _ (good-start-of-length s 0x40 0x5D true true 0 _ (good-start-of-length s nothingOpen 0x40 true true 0 c g))
+
+good-sub-request : (s : List ℕ) (c : Reading) → Good s c → Good s (subRequest s c)
+unfolding subRequest
+good-sub-request s c g =
+    let o = startHere s 0x40 0x42 true true c in
+    good-closed s o (subRequestFields (runHere s o)) (good-start s 0x40 0x42 true true c g) (good-sub-request-fields (runHere s o))
+
+good-constrained-from : (s : List ℕ) (c : Reading) → Good s c → Good s (constrainedFrom s c)
+unfolding constrainedFrom queryChanges arguments constraint
+good-constrained-from s c g =
+    let a = good-skip s 1 _ (good-start-of-length s 0x42 0x51 false true 1 c g) in
+    let b = good-run s 0x42 0x5B argumentFields good-argument-fields _ a in
+    pick-all (Good s) (nextIs s 0x59 _) _ _ (λ e. good-run s 0x42 0x59 oneNumber good-one-number _ b) (λ e. good-valued s 0xFFFFFFFFFFFFFFFF _ b)
+
+good-constrained : (s : List ℕ) → Good s (constrained s)
+unfolding identified
+good-constrained s = good-constrained-from s (identified s) (good-sub-request s _ (good-user-agent s _ (good-versions s)))
+
+good-filtered : (s : List ℕ) → Good s (filtered s)
+good-filtered s = good-filters 16 s (constrained s) (good-constrained s)
+
+good-knowledge-part : (s t : List ℕ) (c : Reading) → Good s c → Good s (knowledgePart s t c .last)
+unfolding knowledgePart
+good-knowledge-part s t c g = pick-all (λ (k : Knowing). Good s (k .last)) (nextIs s 0x10 c) _ _ (λ e. knowledge-good 12 0x42 s t c g) (λ e. g)
+
+good-package-part : (s : List ℕ) (c : Reading) → Good s c → Good s (packagePart s c)
+unfolding packagePart
+good-package-part s c g =
+    pick-all (Good s) (nextIs s 0x15 c) _ _ (λ e. good-inside s 14 0x15 _ (good-skip s 1 _ (good-start-of-length s 0x40 0x15 true true 1 c g))) (λ e. g)
+
+good-ended : (s : List ℕ) (c : Reading) → Good s c → Good s (ended s c)
+unfolding ended
+good-ended s c g = good-finish s _ (good-end s 0x40 _ (good-package-part s _ (good-end s 0x42 c g)))
+
+-- ---- the whole
+
+-- the filters stand within the request
+pub filters-within : (s : List ℕ) → placeOf (constrained s) ≤ length s
+filters-within s = good-place s (constrained s) (good-constrained s)
+
+answer-fault : (c : Reading) (a b p n m : ℕ) (r : Refusal) (s : List ℕ) → Good s c → requestAnswer c a b p n m ≡ request.Refused r → r .place ≤ length s
+unfolding requestAnswer
+answer-fault (At e v) a b p n m r s g h = impossible (cc)
+answer-fault (Refused q) a b p n m r s g h = let e : inRequest q ≡ r = cc in rw (← e) g
+
+-- and so does a fault, or it is the limit of a request that is longer
+pub request-fault : (s t : List ℕ) (r : Refusal) → requestIn s t ≡ request.Refused r → r .place ≤ length s
+unfolding requestIn requestKnowing
+request-fault s t r h =
+    by-lt longestInput (length s)
+    (λ l. answer-fault (ended s (Refused overLong)) _ _ _ _ _ r s (good-ended s (Refused overLong) (omega arith)) (rw (lt-ltb _ _ l) at h))
+    (λ l. answer-fault (ended s (knowledgePart s t (filtered s) .last)) _ _ _ _ _ r s (good-ended s _ (good-knowledge-part s t (filtered s) (good-filtered s))) (rw (le-ltb _ _ l) at h))

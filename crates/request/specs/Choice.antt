@@ -1,0 +1,94 @@
+-- The filters put to a whole list of elements by flags: a byte for each element, 1 where it is in and 0 where it is out. And the
+-- elements that stand in the working tables of a store.
+-- Assumes nothing.
+use mathlib.Core.Path.{_≡_}
+use Prim.Native.Nat.{ℕ, zero, suc, _+_, _*_}
+use mathlib.Core.Bool.{Bool, true, false}
+use mathlib.Core.List.{List, [], _∷_, _++_}
+use lib.ListN.{getD, drop}
+use lib.Dec.{eqb}
+use Rattle.laws.specs.Pick.{pick}
+use Rattle.laws.specs.Once.{seen}
+use Rattle.numbers.specs.declared.extended_guid.ExtendedGuid.the-variants as id
+use Rattle.objects.specs.Steps.{valueOf, startHere, runHere}
+use Rattle.objects.specs.declared.reading.Reading.{Reading}
+use Rattle.objects.specs.declared.reading.ReadingId.{ReadingId}
+use Rattle.objects.specs.declared.reading.ReadingId.the-variants as id′
+use Rattle.store.specs.Element.{keyOf, sameKey}
+use Rattle.store.specs.Tables.{keyAt}
+use Rattle.store.specs.declared.element.Key.{Key}
+use Rattle.store.specs.declared.element.Element.{Element}
+use Rattle.request.specs.Filter.{typePart}
+use Rattle.request.specs.Meaning.{Filter, keysIn, matches, filtersRead, letsIn}
+use Rattle.request.specs.declared.choice.Matched.{Matched}
+use Rattle.request.specs.declared.choice.Matched.the-variants.{Nothing, All, OfType, WithId}
+
+-- ---- the elements that stand in the working tables
+
+-- the one of row i: six numbers in one table, its id in the other
+unfoldable pub elementOf : List ℕ → List ℕ → ℕ → Element
+elementOf rows ids i =
+    record {
+      place = getD rows (i * 6) 0;
+      length = getD rows (i * 6 + 1) 0;
+      kind = getD rows (i * 6 + 2) 0;
+      id = keyAt ids (i * 3);
+      serial = keyAt rows (i * 6 + 3);
+    }
+
+-- n of them, from row i on
+unfoldable pub elementsFrom : List ℕ → List ℕ → ℕ → ℕ → List Element
+elementsFrom rows ids i zero = []
+elementsFrom rows ids i (suc n) = elementOf rows ids i ∷ elementsFrom rows ids (suc i) n
+
+abbrev pub elementsIn : List ℕ → List ℕ → ℕ → List Element
+elementsIn rows ids n = elementsFrom rows ids 0 n
+
+-- ---- flags
+
+-- 1 for in, 0 for out
+unfoldable pub flagOf : Bool → ℕ
+flagOf inside = pick inside 1 0
+
+unfoldable pub flagsOf : List Bool → List ℕ
+flagsOf [] = []
+flagsOf (b ∷ bs) = flagOf b ∷ flagsOf bs
+
+-- the flags of those elements for which a test holds are set; the others, and all behind the last element's, stay
+unfoldable pub setFlags : (Element → Bool) → ℕ → List Element → List ℕ → List ℕ
+setFlags test to [] flags = flags
+setFlags test to (x ∷ xs) [] = []
+setFlags test to (x ∷ xs) (b ∷ flags) = pick (test x) to b ∷ setFlags test to xs flags
+
+-- one filter, the whole list of elements, the flags
+abbrev pub setByFilter : Filter → List Element → List ℕ → List ℕ
+setByFilter f all flags = setFlags (matches f all) (flagOf (eqb (f .operation) 1)) all flags
+
+-- ---- what is matched at one go through the elements
+
+unfoldable pub matchedBy : Matched → Element → Bool
+matchedBy Nothing x = false
+matchedBy All x = true
+matchedBy (OfType t) x = eqb (x .kind) t
+matchedBy (WithId k) x = sameKey (x .id) k
+
+-- by an id that was read: a null id matches nothing
+unfoldable pub matchedId : ReadingId → Matched
+matchedId (id′.At p id.Null) = Nothing
+matchedId (id′.At p (id.Named g x)) = WithId (keyOf g x)
+matchedId (id′.Refused r) = Nothing
+
+-- the test of a filter of ids
+abbrev pub withIds : List Key → Element → Bool
+withIds keys x = seen sameKey (x .id) keys
+
+-- the test of a filter of this kind that stands open at c
+unfoldable pub kindMatches : List ℕ → ℕ → Reading → Element → Bool
+kindMatches s kind c x =
+    pick (eqb kind 1) true
+    (pick (eqb kind 2) (eqb (x .kind) (valueOf (typePart s c)))
+    (pick (eqb kind 6) (withIds (keysIn (runHere s (startHere s 0x47 0x54 false true c))) x) false))
+
+-- ---- what choosing promises: the flags of n elements, and behind them what was there
+abbrev pub Chooses : List ℕ → Reading → ℕ → List ℕ → List ℕ → ℕ → List ℕ → List ℕ → Type 0
+Chooses s c count rows ids n entry exit = exit ≡ flagsOf (letsIn (filtersRead count s c) (elementsIn rows ids n)) ++ drop n entry

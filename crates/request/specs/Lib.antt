@@ -1,0 +1,4 @@
+pub mod Filter
+pub mod Meaning
+pub mod Message
+pub mod Choice

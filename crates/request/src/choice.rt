@@ -1,0 +1,183 @@
+// The filters of a request, put to the elements of a store: a flag for each element says whether they leave it in. A filter is
+// read once, and put to every element as it is read, so that the bytes of a request are not read again for each.
+ghost use mathlib.Core.Path.{_≡_};
+ghost use Prim.Native.Nat.{_+_, _*_, _≤_};
+ghost use lib.ListN.{length};
+ghost use lib.Dec.{eqb};
+ghost use Rattle.request.specs.Filter.{idsField, kindPart, filterAt};
+ghost use Rattle.request.specs.Meaning.{keysIn, filterRead};
+ghost use Rattle.request.specs.Choice.{elementOf, elementsIn, flagOf, setFlags, setByFilter, matchedBy, matchedId, withIds, kindMatches, Chooses};
+use crate::filter::ALL;
+use crate::filter::FILTER;
+use crate::filter::FILTER_IDS;
+use crate::filter::MOST_IDS;
+use crate::filter::OF_TYPE;
+use crate::filter::SUB_REQUEST;
+use crate::filter::WITH_IDS;
+use crate::filter::filter_fields;
+use crate::filter::one_number;
+use crate::filter::type_part;
+use numbers::extended_guid::ExtendedGuid;
+use objects::reading::Reading;
+use objects::reading::ReadingId;
+use store::element::Key;
+use store::element::key_of;
+use store::table::key_at;
+use store::table::same_key;
+
+// What is matched at one go through the elements.
+pub enum Matched {
+    Nothing,
+    All,
+    OfType(u64),
+    WithId(Key),
+}
+
+// Whether the element of row i is matched. A row is six numbers, the third its type; an id is three.
+fn is_matched(m: Matched, rows: &[u64], ids: &[u64], i: usize) -> bool
+    requires { ⌜ (i * 6 + 6 ≤ length (now rows)) × (i * 3 + 3 ≤ length (now ids)) ⌝ }
+    ensures { λ r. ⌜ r ≡ matchedBy m (elementOf (now (rows .entry)) (now (ids .entry)) i) ⌝ }
+{
+    match m {
+        Matched::Nothing => false,
+        Matched::All => true,
+        Matched::OfType(t) => rows[i * 6 + 2] == t,
+        Matched::WithId(k) => same_key(key_at(ids, i * 3), k),
+    }
+}
+
+// One go through the elements: the flags of those that are matched are set.
+fn set_matched(m: Matched, rows: &[u64], ids: &[u64], n: usize, flags: &mut [u8], to: u8)
+    requires { ⌜ (n * 6 ≤ length (now rows)) × (n * 3 ≤ length (now ids)) × (n ≤ length (now flags)) ⌝ }
+    ensures { λ _. ⌜ now (flags .exit) ≡ setFlags (matchedBy m) to (elementsIn (now (rows .entry)) (now (ids .entry)) n) (now (flags .entry)) ⌝ }
+{
+    let mut i = 0;
+    while i < n {
+        if is_matched(m, rows, ids, i) {
+            flags[i] = to;
+        }
+        i += 1;
+    }
+}
+
+// What an id that was read matches: a null id, which no element has, matches nothing.
+fn matched_id(c: ReadingId) -> Matched
+    ensures { λ r. ⌜ r ≡ matchedId c ⌝ }
+{
+    match c {
+        ReadingId::Refused(_) => Matched::Nothing,
+        ReadingId::At(_, x) => match x {
+            ExtendedGuid::Null => Matched::Nothing,
+            ExtendedGuid::Named(g, number) => Matched::WithId(key_of(g, number as u64)),
+        },
+    }
+}
+
+// The ids of a filter, in the part that their data run is: one go through the elements for each. The answer is the reading behind
+// them, a refusal at the 65th.
+fn set_with_ids(d: &[u8], rows: &[u64], ids: &[u64], n: usize, flags: &mut [u8], to: u8) -> Reading
+    requires { ⌜ (n * 6 ≤ length (now rows)) × (n * 3 ≤ length (now ids)) × (n ≤ length (now flags)) ⌝ }
+    ensures { λ r. ⌜ (r ≡ idsField (now (d .entry))) × (now (flags .exit) ≡ setFlags (withIds (keysIn (now (d .entry)))) to (elementsIn (now (rows .entry)) (now (ids .entry)) n) (now (flags .entry))) ⌝ }
+{
+    let mut at = one_number(d);
+    let count = at.value();
+    let mut i = 0;
+    while i < count {
+        let id = at.extended_guid(d);
+        let next = id.on();
+        if i == MOST_IDS {
+            return next.need(false, 9, at.place());
+        }
+        set_matched(matched_id(id), rows, ids, n, flags, to);
+        at = next;
+        i += 1;
+    }
+    at
+}
+
+// What a filter of this kind has inside, read from behind its two bytes; the flags of those it matches are set. The answer is the
+// reading behind what is inside.
+fn put_kind(
+    s: &[u8],
+    kind: u64,
+    c: Reading,
+    rows: &[u64],
+    ids: &[u64],
+    n: usize,
+    flags: &mut [u8],
+    to: u8,
+) -> Reading
+    requires { ⌜ (n * 6 ≤ length (now rows)) × (n * 3 ≤ length (now ids)) × (n ≤ length (now flags)) ⌝ }
+    ensures { λ r. ⌜ (r ≡ kindPart (now (s .entry)) kind c) × (now (flags .exit) ≡ setFlags (kindMatches (now (s .entry)) kind c) to (elementsIn (now (rows .entry)) (now (ids .entry)) n) (now (flags .entry))) ⌝ }
+{
+    if kind == ALL {
+        set_matched(Matched::All, rows, ids, n, flags, to);
+        return c;
+    }
+    if kind == OF_TYPE {
+        let t = type_part(s, c);
+        set_matched(Matched::OfType(t.value()), rows, ids, n, flags, to);
+        return t;
+    }
+    if kind == WITH_IDS {
+        let listed = c.start(s, FILTER, FILTER_IDS, false, true);
+        let e = set_with_ids(listed.run(s), rows, ids, n, flags, to);
+        return listed.closed(s, e);
+    }
+    c
+}
+
+// Operation 1 sets in, 0 sets out.
+fn flag_of(operation: u64) -> u8
+    ensures { λ r. ⌜ r ≡ flagOf (eqb operation 1) ⌝ }
+{
+    if operation == 1 {
+        return 1;
+    }
+    0
+}
+
+// One filter, the whole list of elements, the flags: a later kind may look at other elements than the one it sets. The answer is the
+// reading behind the filter.
+pub fn put_filter(
+    s: &[u8],
+    c: Reading,
+    rows: &[u64],
+    ids: &[u64],
+    n: usize,
+    flags: &mut [u8],
+) -> Reading
+    requires { ⌜ (n * 6 ≤ length (now rows)) × (n * 3 ≤ length (now ids)) × (n ≤ length (now flags)) ⌝ }
+    ensures { λ r. ⌜ (r ≡ filterAt (now (s .entry)) c) × (now (flags .exit) ≡ setByFilter (filterRead (now (s .entry)) c) (elementsIn (now (rows .entry)) (now (ids .entry)) n) (now (flags .entry))) ⌝ }
+{
+    let o = c.start(s, SUB_REQUEST, FILTER, true, true);
+    let f = filter_fields(o.run(s));
+    let last = f.last;
+    let k = o.closed(s, last);
+    let to = flag_of(f.operation);
+    put_kind(s, f.kind, k, rows, ids, n, flags, to).end(s, FILTER)
+}
+
+// So many filters from c on, put to the n elements of the tables: all elements start in, and each filter in turn sets those it
+// matches. Ruled out (proofs/WrongChoices), of one element of type 5: out where there is no filter; in after a filter of all
+// elements that sets out.
+pub fn choose(
+    s: &[u8],
+    c: Reading,
+    count: u64,
+    rows: &[u64],
+    ids: &[u64],
+    n: usize,
+    flags: &mut [u8],
+)
+    requires { ⌜ (n * 6 ≤ length (now rows)) × (n * 3 ≤ length (now ids)) × (n ≤ length (now flags)) ⌝ }
+    ensures { λ _. ⌜ Chooses (now (s .entry)) c count (now (rows .entry)) (now (ids .entry)) n (now (flags .entry)) (now (flags .exit)) ⌝ }
+{
+    set_matched(Matched::All, rows, ids, n, flags, 1);
+    let mut at = c;
+    let mut i = 0;
+    while i < count {
+        at = put_filter(s, at, rows, ids, n, flags);
+        i += 1;
+    }
+}

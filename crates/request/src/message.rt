@@ -1,0 +1,221 @@
+// The request message, read whole: a function for each part, in the order of document 01.
+ghost use mathlib.Core.Path.{_≡_};
+ghost use Prim.Native.Nat.{_≤_};
+ghost use lib.ListN.{length};
+ghost use Rattle.store.specs.Knowledge.{ReadsKnowledge};
+ghost use Rattle.request.specs.Message.{versions, userAgent, subRequestFields, subRequest, queryChanges, argumentFields, arguments, constraint, packagePart, identified, constrainedFrom, ended, knowledgePart, onKnowledge, rowsKnown, inRequest, requestAnswer, ReadsRequest};
+use crate::filter::SUB_REQUEST;
+use crate::filter::one_number;
+use crate::filter::read_filters;
+use numbers::refusal::LONGEST_INPUT;
+use numbers::refusal::Refusal;
+use numbers::refusal::over_long;
+use objects::layout::NOTHING;
+use objects::reading::Reading;
+use store::element::PACKAGE;
+use store::knowledge::KNOWLEDGE;
+use store::knowledge::ReadKnowledge;
+use store::knowledge::read_knowledge;
+
+// The types of the objects.
+pub const REQUEST: u64 = 0x40;
+
+pub const USER_AGENT: u64 = 0x5D;
+
+pub const QUERY_CHANGES: u64 = 0x51;
+
+pub const ARGUMENTS: u64 = 0x5B;
+
+pub const CONSTRAINT: u64 = 0x59;
+
+// The signature of a request.
+pub const SIGNATURE: u64 = 0x9B069439F329CF9C;
+
+// The limit where there is no constraint.
+pub const NO_LIMIT: u64 = 0xFFFFFFFFFFFFFFFF;
+
+// Levels left inside the user agent and the package, and inside a specialized knowledge of another kind.
+const LEVELS_INSIDE: usize = 14;
+
+const KNOWLEDGE_LEVELS: usize = 12;
+
+// What was asked: the id, the limit, where the filters stand, how many they are, and how many ranges are known.
+pub enum Request {
+    Asked(u64, u64, usize, u64, usize),
+    Refused(Refusal),
+}
+
+// The versions and the signature.
+fn versions(s: &[u8]) -> Reading
+    ensures { λ r. ⌜ r ≡ versions (now (s .entry)) ⌝ }
+{
+    Reading::At(0, 0)
+        .fixed_in(s, 2, 12, 0xFFFF, 7)
+        .fixed_in(s, 2, 0, 12, 7)
+        .fixed_in(s, 8, SIGNATURE, SIGNATURE, 7)
+}
+
+// The start of the request, and the user agent.
+fn user_agent(s: &[u8], c: Reading) -> Reading
+    ensures { λ r. ⌜ r ≡ userAgent (now (s .entry)) c ⌝ }
+{
+    c.start_of_length(s, NOTHING, REQUEST, true, true, 0)
+        .start_of_length(s, REQUEST, USER_AGENT, true, true, 0)
+        .inside(s, LEVELS_INSIDE, USER_AGENT)
+}
+
+// Id, type and priority of the sub-request, in the part that its data run is.
+fn sub_request_fields(d: &[u8]) -> Reading
+    ensures { λ r. ⌜ r ≡ subRequestFields (now (d .entry)) ⌝ }
+{
+    let id = Reading::At(0, 0).number(d);
+    id.number_is(d, 2, 8).number(d).valued(id.value())
+}
+
+fn sub_request(s: &[u8], c: Reading) -> Reading
+    ensures { λ r. ⌜ r ≡ subRequest (now (s .entry)) c ⌝ }
+{
+    let o = c.start(s, REQUEST, SUB_REQUEST, true, true);
+    o.closed(s, sub_request_fields(o.run(s)))
+}
+
+fn query_changes(s: &[u8], c: Reading) -> Reading
+    ensures { λ r. ⌜ r ≡ queryChanges (now (s .entry)) c ⌝ }
+{
+    c.start_of_length(s, SUB_REQUEST, QUERY_CHANGES, false, true, 1)
+        .skip(s, 1)
+}
+
+// Flags and cell ID, in the part that the arguments' data run is.
+fn argument_fields(d: &[u8]) -> Reading
+    ensures { λ r. ⌜ r ≡ argumentFields (now (d .entry)) ⌝ }
+{
+    let flags = Reading::At(0, 0).fixed_in(d, 1, 0, 255, 8);
+    flags
+        .need(flags.value() % 4 == 3, 8, 0)
+        .null_id(d, 8)
+        .null_id(d, 8)
+}
+
+fn arguments(s: &[u8], c: Reading) -> Reading
+    ensures { λ r. ⌜ r ≡ arguments (now (s .entry)) c ⌝ }
+{
+    let o = c.start(s, SUB_REQUEST, ARGUMENTS, false, true);
+    o.closed(s, argument_fields(o.run(s)))
+}
+
+// The constraint, which may be absent.
+fn constraint(s: &[u8], c: Reading) -> Reading
+    ensures { λ r. ⌜ r ≡ constraint (now (s .entry)) c ⌝ }
+{
+    if c.next_is(s, CONSTRAINT) {
+        let o = c.start(s, SUB_REQUEST, CONSTRAINT, false, true);
+        return o.closed(s, one_number(o.run(s)));
+    }
+    c.valued(NO_LIMIT)
+}
+
+// The package, which may be absent: it is passed over.
+fn package_part(s: &[u8], c: Reading) -> Reading
+    ensures { λ r. ⌜ r ≡ packagePart (now (s .entry)) c ⌝ }
+{
+    if c.next_is(s, PACKAGE) {
+        return c.start_of_length(s, REQUEST, PACKAGE, true, true, 1)
+            .skip(s, 1)
+            .inside(s, LEVELS_INSIDE, PACKAGE);
+    }
+    c
+}
+
+// Up to the sub-request's fields.
+fn identified(s: &[u8]) -> Reading
+    ensures { λ r. ⌜ r ≡ identified (now (s .entry)) ⌝ }
+{
+    sub_request(s, user_agent(s, versions(s)))
+}
+
+// From there to the constraint.
+fn constrained(s: &[u8], c: Reading) -> Reading
+    ensures { λ r. ⌜ r ≡ constrainedFrom (now (s .entry)) c ⌝ }
+{
+    constraint(s, arguments(s, query_changes(s, c)))
+}
+
+// From behind the knowledge to the end.
+fn ended(s: &[u8], c: Reading) -> Reading
+    ensures { λ r. ⌜ r ≡ ended (now (s .entry)) c ⌝ }
+{
+    package_part(s, c.end(s, SUB_REQUEST))
+        .end(s, REQUEST)
+        .finish(s)
+}
+
+// On from behind the knowledge.
+fn on_knowledge(k: ReadKnowledge) -> Reading
+    ensures { λ r. ⌜ r ≡ onKnowledge k ⌝ }
+{
+    match k {
+        ReadKnowledge::Holds(e, _) => Reading::At(e, 0),
+        ReadKnowledge::Refused(r) => Reading::Refused(r),
+    }
+}
+
+// How many ranges it has.
+fn rows_known(k: ReadKnowledge) -> usize
+    ensures { λ r. ⌜ r ≡ rowsKnown k ⌝ }
+{
+    match k {
+        ReadKnowledge::Holds(_, n) => n,
+        ReadKnowledge::Refused(_) => 0,
+    }
+}
+
+// The knowledge, which may be absent: then nothing is known.
+fn knowledge_part(s: &[u8], c: Reading, table: &mut [u64]) -> ReadKnowledge
+    requires { ⌜ 2048 ≤ length (now table) ⌝ }
+    ensures { λ r. ⌜ ReadsKnowledge (knowledgePart (now (s .entry)) (now (table .entry)) c) r (now (table .exit)) ⌝ }
+{
+    if c.next_is(s, KNOWLEDGE) {
+        return read_knowledge(s, c, SUB_REQUEST, KNOWLEDGE_LEVELS, table);
+    }
+    store::knowledge::answer(0, c)
+}
+
+// A fault of the second input.
+fn in_request(r: Refusal) -> Refusal
+    ensures { λ q. ⌜ q ≡ inRequest r ⌝ }
+{
+    Refusal {
+        number: r.number,
+        input: 1,
+        place: r.place,
+        needed: r.needed,
+    }
+}
+
+// The answer, if no fault stands.
+fn answer(c: Reading, id: u64, limit: u64, place: usize, count: u64, rows: usize) -> Request
+    ensures { λ r. ⌜ r ≡ requestAnswer c id limit place count rows ⌝ }
+{
+    match c {
+        Reading::At(_, _) => Request::Asked(id, limit, place, count, rows),
+        Reading::Refused(r) => Request::Refused(in_request(r)),
+    }
+}
+
+// The request, with its knowledge in the table: after a refusal the ranges before the fault. Ruled out (proofs/WrongAnswers):
+// of no bytes, 7 for the version that is not there, and a fault of the first input; of the shortest request, a limit of 0.
+pub fn read_request(s: &[u8], table: &mut [u64]) -> Request
+    requires { ⌜ 2048 ≤ length (now table) ⌝ }
+    ensures { λ r. ⌜ ReadsRequest (now (s .entry)) (now (table .entry)) r (now (table .exit)) ⌝ }
+{
+    if LONGEST_INPUT < s.len() {
+        return Request::Refused(in_request(over_long()));
+    }
+    let a = identified(s);
+    let b = constrained(s, a);
+    let c = read_filters(s, b);
+    let k = knowledge_part(s, c, table);
+    let e = ended(s, on_knowledge(k));
+    answer(e, a.value(), b.value(), b.place(), c.value(), rows_known(k))
+}
