@@ -37,7 +37,7 @@ fn row(mark: &[u8], t: &[u64], at: usize)
 }
 
 // The first n rows of the table.
-fn every_row(t: &[u64], n: usize)
+pub(crate) fn every_row(t: &[u64], n: usize)
     requires { ⌜ n * 4 ≤ length (now t) ⌝ }
 {
     if n == 0 {
@@ -53,7 +53,7 @@ fn every_row(t: &[u64], n: usize)
 
 // Whether no number was changed behind the rows of 512 ranges. Before that a row may be left from before it was joined with
 // another.
-fn kept(t: &[u64]) -> bool
+pub(crate) fn kept(t: &[u64]) -> bool
     requires { ⌜ 2048 ≤ length (now t) ⌝ }
 {
     untouched(&t[2048..])
@@ -76,7 +76,7 @@ fn held(place: usize, n: usize, t: &[u64])
 }
 
 // A refusal; or that numbers behind all rows were changed.
-fn refused(r: Refusal, t: &[u64])
+pub(crate) fn refused(r: Refusal, t: &[u64])
     requires { ⌜ 2048 ≤ length (now t) ⌝ }
 {
     if !kept(t) {

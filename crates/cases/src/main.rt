@@ -3,6 +3,7 @@
 mod headers;
 mod items;
 mod knowledges;
+mod requests;
 mod say;
 mod stores;
 mod words;
@@ -53,10 +54,13 @@ fn two_words(line: &[u8], space: &mut [u8]) {
     if check::same(mode, b"knowledge") {
         return knowledges::rows(s);
     }
+    if check::same(mode, b"request") {
+        return requests::message(s);
+    }
     say::bad()
 }
 
-// `MODE NUMBER OUTLEN`, `element STOREHEX POSITION` or `rewritten HEX OUTLEN`.
+// `MODE NUMBER OUTLEN`, `element STOREHEX POSITION`, `rewritten HEX OUTLEN` or `chosen STOREHEX REQUESTHEX`.
 fn three_words(line: &[u8], space: &mut [u8], out: &mut [u8]) {
     let mode = words::word(line, 0);
     if check::same(mode, b"wcompact") {
@@ -70,6 +74,9 @@ fn three_words(line: &[u8], space: &mut [u8], out: &mut [u8]) {
     }
     if check::same(mode, b"rewritten") {
         return knowledges::rewritten(line, space);
+    }
+    if check::same(mode, b"chosen") {
+        return requests::chosen(line, space);
     }
     say::bad()
 }

@@ -110,7 +110,7 @@ pub(crate) fn guid(g: Guid) {
 }
 
 // Whether no byte was changed.
-fn untouched(s: &[u8]) -> bool
+pub(crate) fn untouched(s: &[u8]) -> bool
     ensures { λ r. ⌜ (r ≡ true → (k : ℕ) → k < length (now (s .entry)) → getD (now (s .entry)) k 0 ≡ 0xA5) ⌝ }
 {
     let mut i = 0;
