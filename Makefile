@@ -5,5 +5,5 @@ test:
 	@sh .ci/test.sh
 
 run:
-	@echo 'There is no program for users yet: the crates laws, talk, numbers, objects and store are libraries.'
+	@echo 'There is no program for users yet: the crates laws, talk, numbers, objects, store and request are libraries.'
 	@echo 'make test proves every crate and runs the test programs.'
