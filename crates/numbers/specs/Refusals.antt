@@ -37,7 +37,7 @@ longestInput = 16777216
 abbrev pub overLong : Refusal
 overLong = record { number = 1; input = 0; place = longestInput; needed = 0 }
 
--- 14: the output is shorter "than the single item to be written"; it "names the store, place 0"
+-- 14: the output is shorter "than the page of 1 .., or than the single item to be written"; it "names the store, place 0"
 abbrev pub tooShort : ℕ → Refusal
 tooShort n = record { number = 14; input = 0; place = 0; needed = n }
 

@@ -9,6 +9,7 @@ pub mod Carry
 pub mod ItemsAt
 pub mod NullId
 pub mod Keep
+pub mod FaultNumbers
 pub mod Forward
 pub mod WholeHeaders
 pub mod Calls

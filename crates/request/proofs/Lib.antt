@@ -2,6 +2,7 @@ pub mod Inside
 pub mod Turns
 pub mod Whole
 pub mod Places
+pub mod FaultNumbers
 pub mod OneAnswers
 pub mod WrongAnswers
 pub mod Choosing

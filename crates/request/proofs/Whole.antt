@@ -4,6 +4,7 @@
 use mathlib.Core.Path.{_≡_, refl, ap, _∙_}
 use mathlib.Core.List.{List}
 use Prim.Native.Nat.{ℕ, zero, suc, _≤_, _<_}
+use native.Mathlib.Omega.{arith}
 use lib.ListN.{length}
 use lib.Dec.{ltb}
 use borrow.Author.Tests.{lt-ltb, le-ltb}
@@ -17,6 +18,7 @@ use Rattle.talk.specs.Ranges.{Normal}
 use Rattle.store.specs.RangeTable.{rangesAt}
 use Rattle.store.specs.Knowledge.{knowledgeAnswer, ReadsKnowledge}
 use Rattle.store.specs.declared.knowledge.ReadKnowledge.{ReadKnowledge}
+use Rattle.store.proofs.KnowledgeHeld.{Held, knowledge-held}
 use Rattle.store.proofs.TableFree.{Alike, table-free}
 use Rattle.request.specs.Filter.{filterOpened, filterAt, filtersFrom}
 use Rattle.request.specs.Meaning.{filterRead, filtersRead}
@@ -67,6 +69,17 @@ pub request-table-free : (s t v : List ℕ) → (requestIn s t ≡ requestIn s v
 unfolding requestIn
 request-table-free s t v = let a = knowing-alike s t v in (rw (a .ranges, a .last), a .ranges)
 
+-- ---- the ranges, in a table that has room for 512
+
+pub request-held : (s t : List ℕ) → 2048 ≤ length t → Held t (requestKnowing s t .ranges) (requestKnowing s t .table) (requestKnowing s t .left)
+unfolding requestKnowing knowledgePart Normal rangesAt
+request-held s t h =
+    by-bool (ltb longestInput (length s)) (λ e. rw e (record { normal = tt; room = omega arith; rows = refl; long = refl; later = refl }))
+    (λ e.
+    rw e
+    (by-bool (nextIs s 0x10 (filtered s)) (λ f. rw f (knowledge-held 12 0x42 s t (filtered s) h))
+    (λ f. rw f (record { normal = tt; room = omega arith; rows = refl; long = refl; later = refl }))))
+
 -- ---- the filters of the request
 
 -- a filter does not depend on the number that was read before it
@@ -86,14 +99,22 @@ unfolding placeOf filtersRead
 from-place s (At q v) = filters-from (valueOf (filtersFrom 16 s (At q v))) s q 0 v
 from-place s (Refused r) = rw (none-after s r)
 
-asked-parts : (c : Reading) (a b p n m a′ b′ p′ n′ m′ : ℕ) → requestAnswer c a b p n m ≡ request.Asked a′ b′ p′ n′ m′ → (p ≡ p′) × (n ≡ n′)
+asked-parts : (c : Reading) (a b p n m a′ b′ p′ n′ m′ : ℕ) → requestAnswer c a b p n m ≡ request.Asked a′ b′ p′ n′ m′
+    → (p ≡ p′) × (n ≡ n′) × (m ≡ m′)
 unfolding requestAnswer
-asked-parts (At e v) a b p n m a′ b′ p′ n′ m′ h = (cc, cc)
+asked-parts (At e v) a b p n m a′ b′ p′ n′ m′ h = (cc, cc, cc)
 asked-parts (Refused r) a b p n m a′ b′ p′ n′ m′ h = impossible (cc)
 
--- the filters that stand at the place that is told, as many as are told, are those of the request
-pub asked-filters : (s t : List ℕ) (a b p n m : ℕ) → requestIn s t ≡ request.Asked a b p n m → filtersRead n s (At p 0) ≡ filtersOf s
-unfolding requestIn
-asked-filters s t a b p n m h =
-    let q = asked-parts (ended s (requestKnowing s t .last)) (valueOf (identified s)) (valueOf (constrained s)) (placeOf (constrained s)) (valueOf (filtered s)) (length (requestKnowing s t .ranges)) a b p n m h in
-    rw (← q .0, ← q .1) (from-place s (constrained s))
+module _ (s t : List ℕ) (a b p n m : ℕ) (h : requestIn s t ≡ request.Asked a b p n m) where
+  told-parts : (placeOf (constrained s) ≡ p) × (valueOf (filtered s) ≡ n) × (length (requestKnowing s t .ranges) ≡ m)
+  unfolding requestIn
+  told-parts =
+      asked-parts (ended s (requestKnowing s t .last)) (valueOf (identified s)) (valueOf (constrained s)) (placeOf (constrained s)) (valueOf (filtered s)) (length (requestKnowing s t .ranges)) a b p n m h
+
+  -- the filters that stand at the place that is told, as many as are told, are those of the request
+  pub asked-filters : filtersRead n s (At p 0) ≡ filtersOf s
+  asked-filters = rw (← told-parts .0, ← told-parts .1) (from-place s (constrained s))
+
+  -- as many ranges are known as are told
+  pub asked-known : length (requestKnowing s t .ranges) ≡ m
+  asked-known = told-parts .2

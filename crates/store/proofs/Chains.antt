@@ -181,7 +181,7 @@ package-read s (reading.At at v) e h l =
     }
 package-read s (reading.Refused r) e h l = absurd h
 
-over-long : (s : List ℕ) → longestInput < length s → Stands (storeWalk s .last) → ⊥
+pub over-long : (s : List ℕ) → longestInput < length s → Stands (storeWalk s .last) → ⊥
 unfolding storeWalk
 over-long s h = rw (lt-ltb longestInput (length s) h) (λ z. z)
 

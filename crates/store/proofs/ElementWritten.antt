@@ -38,7 +38,7 @@ unfolding compactBytes
 compact-most v =
     by-eq v 0 (λ e. rw e (omega arith)) (λ n. rw (length-compact v n) (size-le _ (form-of-le v)))
 
-named-most : (g : Guid) (x : ℕ) → length (namedBytes g x) ≤ 21
+pub named-most : (g : Guid) (x : ℕ) → length (namedBytes g x) ≤ 21
 named-most g x =
     by-lt x 0x20
     (λ h. rw (named-5 g x h, length-short) (omega arith))

@@ -59,7 +59,7 @@ on-entry : (P : Reading → Type 0) → ((e v : ℕ) → P (At e v) → P (At e 
 on-entry P f k s o h = entry-closed P f k (closed s o (onSerial k)) h (λ t. stands-closed s o (onSerial k) t .1)
 
 module _ (P : Reading → Type 0) (f : (e v : ℕ) → P (At e v) → P (At e 0)) (s : List ℕ) (c : Reading) where
-  on-item : P (closed s (rangeStart s c) (rangeFields (runHere s (rangeStart s c)) .last))
+  pub on-item : P (closed s (rangeStart s c) (rangeFields (runHere s (rangeStart s c)) .last))
       → P (closed s (entryStart s c) (onSerial (entrySerial (runHere s (entryStart s c))))) → P (onItem (itemAt s c))
   unfolding itemAt rangeItem entryItem
   on-item a b =

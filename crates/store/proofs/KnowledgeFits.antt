@@ -47,7 +47,7 @@ range-fits : (g : Guid) (a b : ℕ) → a < 2 ^ 64 → b < 2 ^ 64 → RangeFits 
 unfolding rangeOf
 range-fits g a b h k = (swapped-fits (g .low), swapped-fits (g .high), h, k)
 
-run-bytes : (s : List ℕ) (c : Reading) → AllBytes s → AllBytes (runHere s c)
+pub run-bytes : (s : List ℕ) (c : Reading) → AllBytes s → AllBytes (runHere s c)
 unfolding runHere
 run-bytes s (At from n) b = take-bytes n (drop from s) (drop-bytes from s b)
 run-bytes s (Refused r) b = λ i. omega arith

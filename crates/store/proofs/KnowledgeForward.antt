@@ -22,7 +22,7 @@ use Rattle.store.proofs.Items.{good-item, behind-item}
 
 -- ---- ranges and entries
 
-items-last : (P : Reading → Type 0) (s : List ℕ) → ((c : Reading) → P c → P (onItem (itemAt s c))) → ((c : Reading) → P c → P (endHere s 0x14 c))
+pub items-last : (P : Reading → Type 0) (s : List ℕ) → ((c : Reading) → P c → P (onItem (itemAt s c))) → ((c : Reading) → P c → P (endHere s 0x14 c))
     → ((c : Reading) → P c → P (startHere s 0x14 (itemKind s c) false false c))
     → (left : ℕ) (l : List Range) (t : List ℕ) (c : Reading) → P c → P (itemsFrom left s l t c .last)
 unfolding itemsFrom

@@ -18,9 +18,11 @@ pub mod Uniting
 pub mod KnowledgeForward
 pub mod Learning
 pub mod KnowledgeHeld
+pub mod FaultNumbers
 pub mod RangeOrder
 pub mod KnowledgeLengths
 pub mod KnowledgeWrongAnswers
 pub mod KnowledgeBack
 pub mod KnowledgeFits
 pub mod TableFree
+pub mod ElementFits

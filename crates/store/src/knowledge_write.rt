@@ -2,7 +2,7 @@
 // known before anything is written.
 ghost use mathlib.Core.Path.{_≡_};
 ghost use mathlib.Core.List.{_++_};
-ghost use Prim.Native.Nat.{_+_, _*_, _≤_};
+ghost use Prim.Native.Nat.{_+_, _-_, _*_, _≤_};
 ghost use lib.ListN.{length, drop};
 ghost use Rattle.laws.specs.Placed.{Lays};
 ghost use Rattle.numbers.specs.Calls.{Writes};
@@ -34,13 +34,13 @@ pub fn range_length(x: Range) -> usize
     18 + compact_length(x.from) + compact_length(x.to)
 }
 
-// How many bytes the ranges of the first rows take.
-fn ranges_length(table: &[u64], rows: usize) -> usize
-    requires { ⌜ (rows ≤ 512) × (rows * 4 ≤ length (now table)) ⌝ }
-    ensures { λ r. ⌜ (r ≡ length (rangesBytes (rangesAt (now (table .entry)) 0 rows))) × (r ≤ rows * 36) ⌝ }
+// How many bytes the ranges of the rows from `first` up to `rows` take.
+pub fn ranges_length(table: &[u64], first: usize, rows: usize) -> usize
+    requires { ⌜ (first ≤ rows) × (rows ≤ 512) × (rows * 4 ≤ length (now table)) ⌝ }
+    ensures { λ r. ⌜ (r ≡ length (rangesBytes (rangesAt (now (table .entry)) first (rows - first)))) × (r ≤ rows * 36) ⌝ }
 {
     let mut n = 0;
-    let mut i = 0;
+    let mut i = first;
     while i < rows {
         n += range_length(range_at(table, i));
         i += 1;
@@ -57,7 +57,7 @@ pub fn knowledge_length(table: &[u64], rows: usize) -> usize
     if rows == 0 {
         return 3;
     }
-    28 + ranges_length(table, rows)
+    28 + ranges_length(table, 0, rows)
 }
 
 // A range's GUID.

@@ -21,9 +21,9 @@ pub enum Added {
 }
 
 // A range, and the first row that it does not meet.
-struct Gathered {
-    range: Range,
-    next: usize,
+pub struct Gathered {
+    pub range: Range,
+    pub next: usize,
 }
 
 // Whether a lies wholly before b, and does not touch it.
@@ -111,7 +111,7 @@ fn put_range(t: &mut [u64], k: usize, x: Range)
 }
 
 // How many rows lie wholly before x: found by halving, as the rows are in order.
-fn rows_before(t: &[u64], count: usize, x: Range) -> usize
+pub fn rows_before(t: &[u64], count: usize, x: Range) -> usize
     requires { ⌜ (count * 4 ≤ length (now t)) × Normal (rangesAt (now t) 0 count) ⌝ }
     ensures { λ i. ⌜ FirstNotBefore (now (t .entry)) count x i ⌝ }
 {
@@ -129,7 +129,7 @@ fn rows_before(t: &[u64], count: usize, x: Range) -> usize
 }
 
 // x joined with the rows from i on that it meets.
-fn gather(t: &[u64], count: usize, i: usize, x: Range) -> Gathered
+pub fn gather(t: &[u64], count: usize, i: usize, x: Range) -> Gathered
     requires { ⌜ (i ≤ count) × (count * 4 ≤ length (now t)) ⌝ }
     ensures { λ r. ⌜ (i ≤ r .next) × (r .next ≤ count) × (absorb x (rangesAt (now (t .entry)) i (count - i)) ≡ r .range ∷ rangesAt (now (t .entry)) (r .next) (count - r .next)) ⌝ }
 {
@@ -147,7 +147,7 @@ fn gather(t: &[u64], count: usize, i: usize, x: Range) -> Gathered
 }
 
 // x as row i, and behind it the rows that were j to count: rows move up or down, each read before it is written over.
-fn shift(t: &mut [u64], i: usize, j: usize, count: usize, x: Range)
+pub fn shift(t: &mut [u64], i: usize, j: usize, count: usize, x: Range)
     requires { ⌜ (i ≤ j) × (j ≤ count) × (count * 4 ≤ length (now t)) × (i * 4 + 4 + (count - j) * 4 ≤ length (now t)) ⌝ }
     ensures { λ _. ⌜ now (t .exit) ≡ take (i * 4) (now (t .entry)) ++ (numbersOf (x ∷ rangesAt (now (t .entry)) j (count - j)) ++ drop (i * 4 + 4 + (count - j) * 4) (now (t .entry))) ⌝ }
 {

@@ -5,3 +5,4 @@ pub mod OneForm
 pub mod Bounds
 pub mod PageRule
 pub mod WrongAnswers
+pub mod Things

@@ -1,2 +1,4 @@
 pub mod Ranges
 pub mod Page
+pub mod Wanted
+pub mod Each

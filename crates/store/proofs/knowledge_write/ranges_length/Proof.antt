@@ -1,27 +1,24 @@
 -- `knowledge_write::ranges_length` meets its contract. The invariant: with the bytes of the rows still to come, n is the whole.
 -- Assumes nothing.
-use mathlib.Core.Path.{_≡_, ap}
+use mathlib.Core.Path.{_≡_}
 use Prim.Native.Nat.{_+_, _-_, _*_, _≤_, _<_}
 use native.Mathlib.Omega.{arith}
 use lib.ListN.{length}
 use Rattle.store.specs.RangeTable.{rangeAt, rangesAt}
 use Rattle.store.specs.KnowledgeWritten.{rangeBytes, rangesBytes}
-use Rattle.store.proofs.KnowledgeLengths.{rows-front, length-turn, length-end}
+use Rattle.store.proofs.KnowledgeLengths.{length-turn, length-end}
 use borrow.Author.Needs.{needs}
 use Rattle.store.proofs.knowledge_write.ranges_length.Statement.{statement}
 use Rattle.store.proofs.knowledge_write.ranges_length.Tie as tie
 
 abbrev Inv-loop : tie.InvT-loop
-Inv-loop table rows n₀ i₀ n i = (i ≤ rows) × (n + length (rangesBytes (rangesAt table i (rows - i))) ≡ length (rangesBytes (rangesAt table 0 rows))) × (n ≤ i * 36)
+Inv-loop table first rows n₀ i₀ n i = (i ≤ rows) × (n + length (rangesBytes (rangesAt table i (rows - i))) ≡ length (rangesBytes (rangesAt table first (rows - first)))) × (n ≤ i * 36)
 
 abbrev μ-loop : tie.MeasureT-loop
-μ-loop table rows n₀ i₀ n i = rows - i
+μ-loop table first rows n₀ i₀ n i = rows - i
 
 loop-holds : tie.Need-loop-holds Inv-loop μ-loop
-loop-holds c =
-    let a = c .before .args in
-    let e = ap length (ap rangesBytes (rows-front (a .table .now) (a .rows))) in
-    (omega arith, omega (arith, e), omega arith)
+loop-holds c = (omega arith, omega arith, omega arith)
 
 range-at-requires : tie.Need-range-at-requires Inv-loop μ-loop
 range-at-requires c κs = search needs
