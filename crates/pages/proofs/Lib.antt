@@ -1,0 +1,14 @@
+pub mod Stops
+pub mod Pricing
+pub mod Chosen
+pub mod UnderWay
+pub mod Lengths
+pub mod Copying
+pub mod Laying
+pub mod Stored
+pub mod Paged
+pub mod OneAnswers
+pub mod PageCases
+pub mod WrongHubs
+pub mod WrongAnswers
+pub mod Refusing

@@ -1,0 +1,205 @@
+-- When the answering call refuses, and with what: 13, 1, 14 and 9 for a page, each exactly when document 01's table says, in its
+-- order: "13; the store's faults; the request's; then 9 for a page; then 14."
+-- Assumes nothing.
+use mathlib.Core.Path.{_≡_, refl, sym, ap, subst, _∙_}
+use mathlib.Core.List.{List, []}
+use mathlib.Core.Logic.{_⊎_, inl, inr, ⊎-elim}
+use Prim.Native.Nat.{ℕ, _≤_, _<_}
+use native.Mathlib.Omega.{arith}
+use lib.ListN.{length}
+use borrow.Author.Tests.{lt-ltb, le-ltb}
+use Rattle.laws.proofs.Cases.{by-lt, impossible}
+use Rattle.numbers.specs.Refusals.{faultAt, tooShort, longestInput, overLong}
+use Rattle.numbers.specs.declared.refusal.Refusal.{Refusal}
+use Rattle.objects.specs.declared.reading.Reading.{Reading}
+use Rattle.objects.specs.declared.reading.Reading.the-variants as reading
+use Rattle.talk.specs.Page.{Greatest}
+use Rattle.talk.specs.declared.range.Range.{Range}
+use Rattle.store.specs.Store.{storeWalk}
+use Rattle.store.specs.declared.element.Element.{Element}
+use Rattle.store.proofs.Taken.{Stands}
+use Rattle.store.proofs.FaultNumbers.{store-number}
+use Rattle.request.specs.Message.{inRequest, requestIn}
+use Rattle.request.specs.declared.message.Request.{Request}
+use Rattle.request.specs.declared.message.Request.the-variants as request
+use Rattle.request.proofs.FaultNumbers.{request-number}
+use Rattle.request.proofs.Whole.{over-long-read}
+use Rattle.pages.specs.Decision.{sendable, decision}
+use Rattle.pages.specs.Answer.{Ask, Outcome, refused, answered, numberIn, pageRanges, pageBytes, pageMeasure, onDecided, pageDecided, pageOutcome, askOf, onRequest, onStore, outcome, answerOf}
+use Rattle.pages.specs.declared.page.Decided.{Decided}
+use Rattle.pages.specs.declared.page.Decided.the-variants as decided
+use Rattle.pages.proofs.Stops.{sent-law}
+use Rattle.pages.proofs.PageCases.{smallest, Few, nine-only-if, nine-if, fourteen-only-if, fourteen-if, page-numbers}
+
+-- ---- the course of a call
+
+-- both inputs read, and this is asked
+pub record Asks (s q : List ℕ) (a : Ask) : Type 0 where
+  pub id : ℕ
+  pub limit : ℕ
+  pub place : ℕ
+  pub count : ℕ
+  pub known : ℕ
+  pub store-reads : Stands (storeWalk s .last)
+  pub request-reads : requestIn q [] ≡ request.Asked id limit place count known
+  pub asked : a ≡ askOf s (storeWalk s .elements) q id limit
+
+data Course (s q : List ℕ) (room : ℕ) : Outcome → Type 0 where
+  store-fault : (r : Refusal) → storeWalk s .last ≡ reading.Refused r → Course s q room (refused r)
+  request-fault : (r : Refusal) → Stands (storeWalk s .last) → requestIn q [] ≡ request.Refused r → Course s q room (refused r)
+  page : (a : Ask) → Asks s q a → Course s q room (pageOutcome a room)
+
+on-request : (s q : List ℕ) (room : ℕ) (r : Request) → requestIn q [] ≡ r → Stands (storeWalk s .last) → Course s q room (onRequest s (storeWalk s .elements) q room r)
+unfolding onRequest
+on-request s q room (request.Asked id limit place count known) e h =
+    page (askOf s (storeWalk s .elements) q id limit)
+    (record { id = id; limit = limit; place = place; count = count; known = known; store-reads = h; request-reads = e; asked = refl })
+on-request s q room (request.Refused r) e h = request-fault r h e
+
+on-store : (s q : List ℕ) (room : ℕ) (c : Reading) → storeWalk s .last ≡ c → Course s q room (onStore s (storeWalk s .elements) q room c)
+unfolding onStore
+on-store s q room (reading.At e v) h = on-request s q room (requestIn q []) refl (subst Stands (sym h) tt)
+on-store s q room (reading.Refused r) h = store-fault r h
+
+course : (s q : List ℕ) (room : ℕ) → Course s q room (outcome s q room)
+unfolding outcome
+course s q room = on-store s q room (storeWalk s .last) refl
+
+-- where both inputs read, the outcome is that of the page
+stored-on : (s q : List ℕ) (room : ℕ) (c : Reading) → Stands c → onStore s (storeWalk s .elements) q room c ≡ onRequest s (storeWalk s .elements) q room (requestIn q [])
+unfolding onStore
+stored-on s q room (reading.At e v) h = refl
+stored-on s q room (reading.Refused r) h = absurd h
+
+pub asked-outcome : (s q : List ℕ) (a : Ask) (room : ℕ) → Asks s q a → outcome s q room ≡ pageOutcome a room
+unfolding outcome onRequest
+asked-outcome s q a room h = stored-on s q room (storeWalk s .last) (h .store-reads) ∙ rw (h .request-reads, h .asked)
+
+-- ---- 13: "store table under 1,536 numbers or knowledge table under 2,048"
+
+pub thirteen-if : (s q : List ℕ) (rows ranges room : ℕ) → (rows < 1536) ⊎ (ranges < 2048) → answerOf s q rows ranges room ≡ refused (faultAt 13 0)
+unfolding answerOf
+thirteen-if s q rows ranges room (inl h) = rw (lt-ltb rows 1536 h)
+thirteen-if s q rows ranges room (inr h) = by-lt rows 1536 (λ l. rw (lt-ltb rows 1536 l)) (λ l. rw (le-ltb rows 1536 l, lt-ltb ranges 2048 h))
+
+pub tables-fine : (s q : List ℕ) (rows ranges room : ℕ) → 1536 ≤ rows → 2048 ≤ ranges → answerOf s q rows ranges room ≡ outcome s q room
+unfolding answerOf
+tables-fine s q rows ranges room h g = rw (le-ltb rows 1536 h, le-ltb ranges 2048 g)
+
+-- the other refusals have other numbers
+fault-number : (s : List ℕ) (r : Refusal) → storeWalk s .last ≡ reading.Refused r → (1 ≤ r .number) × (r .number ≤ 12)
+fault-number s r e =
+    by-lt longestInput (length s) (λ l. rw (store-number s r e .1 l) (omega arith, omega arith))
+    (λ l. let w = store-number s r e .0 l in (omega arith, w .1))
+
+request-fault-number : (q : List ℕ) (r : Refusal) → requestIn q [] ≡ request.Refused r → (1 ≤ r .number) × (r .number ≤ 12)
+request-fault-number q r e =
+    by-lt longestInput (length q) (λ l. rw (request-number q [] r e .1 l) (omega arith, omega arith))
+    (λ l. let w = request-number q [] r e .0 l in (omega arith, w .1))
+
+never-thirteen-on : (s q : List ℕ) (room : ℕ) (o : Outcome) → Course s q room o → numberIn o ≡ 13 → ⊥
+unfolding numberIn
+never-thirteen-on s q room _ (store-fault r e) h = let w = fault-number s r e in omega arith
+never-thirteen-on s q room _ (request-fault r g e) h = let w = request-fault-number q r e in omega arith
+never-thirteen-on s q room _ (page a x) h =
+    ⊎-elim (λ z. omega arith) (λ w. ⊎-elim (λ z. omega arith) (λ z. omega arith) w) (page-numbers a room)
+
+pub never-thirteen : (s q : List ℕ) (room : ℕ) → numberIn (outcome s q room) ≡ 13 → ⊥
+never-thirteen s q room h = never-thirteen-on s q room (outcome s q room) (course s q room) h
+
+pub thirteen-only-if : (s q : List ℕ) (rows ranges room : ℕ) → numberIn (answerOf s q rows ranges room) ≡ 13 → (rows < 1536) ⊎ (ranges < 2048)
+thirteen-only-if s q rows ranges room h =
+    by-lt rows 1536 inl
+    (λ a. by-lt ranges 2048 inr (λ b. absurd (never-thirteen s q room (ap numberIn (sym (tables-fine s q rows ranges room a b)) ∙ h))))
+
+-- ---- 1: "an input is over 16,777,216 bytes"; the request's comes after all of the store's faults
+
+abbrev pub OverLong : List ℕ → List ℕ → Type 0
+OverLong s q = (longestInput < length s) ⊎ (Stands (storeWalk s .last) × (longestInput < length q))
+
+one-on : (s q : List ℕ) (room : ℕ) (o : Outcome) → Course s q room o → numberIn o ≡ 1 → OverLong s q
+unfolding numberIn
+one-on s q room _ (store-fault r e) h = by-lt longestInput (length s) inl (λ l. let w = store-number s r e .0 l in absurd (omega arith))
+one-on s q room _ (request-fault r g e) h =
+    by-lt longestInput (length q) (λ l. inr (g, l)) (λ l. let w = request-number q [] r e .0 l in absurd (omega arith))
+one-on s q room _ (page a x) h = absurd (⊎-elim (λ z. omega arith) (λ w. ⊎-elim (λ z. omega arith) (λ z. omega arith) w) (page-numbers a room))
+
+pub one-only-if : (s q : List ℕ) (room : ℕ) → numberIn (outcome s q room) ≡ 1 → OverLong s q
+one-only-if s q room h = one-on s q room (outcome s q room) (course s q room) h
+
+over-long-on : (s q : List ℕ) (room : ℕ) → longestInput < length s → onStore s (storeWalk s .elements) q room (storeWalk s .last) ≡ refused overLong
+unfolding storeWalk onStore
+over-long-on s q room h = rw (lt-ltb longestInput (length s) h)
+
+pub one-if-store : (s q : List ℕ) (room : ℕ) → longestInput < length s → outcome s q room ≡ refused overLong
+unfolding outcome
+one-if-store s q room h = over-long-on s q room h
+
+pub one-if-request : (s q : List ℕ) (room : ℕ) → Stands (storeWalk s .last) → longestInput < length q → outcome s q room ≡ refused (inRequest overLong)
+unfolding outcome onRequest
+one-if-request s q room g h =
+    let e : requestIn q [] ≡ request.Refused (inRequest overLong) = sym (over-long-read q [] h .0) in
+    stored-on s q room (storeWalk s .last) g ∙ rw e
+
+-- ---- 14: "the output is shorter than the page of 1 (of 0, if nothing is wanted)"; the needed length is that page's
+
+-- this is asked, and its smallest page does not fit, though it does not need over 512 ranges
+pub record TooShort (s q : List ℕ) (room : ℕ) (a : Ask) : Type 0 where
+  pub asks : Asks s q a
+  pub few : Few a
+  pub needs : room < length (pageBytes a (smallest a))
+
+fourteen-on : (s q : List ℕ) (room : ℕ) (o : Outcome) → Course s q room o → numberIn o ≡ 14
+    → (a : Ask) × (TooShort s q room a) × (o ≡ refused (tooShort (length (pageBytes a (smallest a)))))
+unfolding numberIn
+fourteen-on s q room _ (store-fault r e) h = let w = fault-number s r e in absurd (omega arith)
+fourteen-on s q room _ (request-fault r g e) h = let w = request-fault-number q r e in absurd (omega arith)
+fourteen-on s q room _ (page a x) h = let w = fourteen-only-if a room h in (a, record { asks = x; few = w .2; needs = w .1 }, w .0)
+
+pub fourteen-of-call : (s q : List ℕ) (room : ℕ) → numberIn (outcome s q room) ≡ 14
+    → (a : Ask) × (TooShort s q room a) × (outcome s q room ≡ refused (tooShort (length (pageBytes a (smallest a)))))
+fourteen-of-call s q room h = fourteen-on s q room (outcome s q room) (course s q room) h
+
+pub call-of-fourteen : (s q : List ℕ) (room : ℕ) (a : Ask) → TooShort s q room a → outcome s q room ≡ refused (tooShort (length (pageBytes a (smallest a))))
+call-of-fourteen s q room a h = asked-outcome s q a room (h .asks) ∙ fourteen-if a room (h .few) (h .needs)
+
+-- ---- 9 for a page: "a page of 1 needs over 512 ranges"
+
+pub nine-of-call : (s q : List ℕ) (room : ℕ) (a : Ask) → Asks s q a → numberIn (outcome s q room) ≡ 9
+    → (0 < length (a .wanted)) × (512 < length (pageRanges a 1))
+nine-of-call s q room a x h = nine-only-if a room (ap numberIn (sym (asked-outcome s q a room x)) ∙ h)
+
+pub call-of-nine : (s q : List ℕ) (room : ℕ) (a : Ask) → Asks s q a → 0 < length (a .wanted) → 512 < length (pageRanges a 1)
+    → outcome s q room ≡ refused (faultAt 9 0)
+call-of-nine s q room a x p c = asked-outcome s q a room x ∙ nine-if a room p c
+
+-- ---- where nothing is refused, the greatest page is sent
+
+pub record Sends (a : Ask) (room : ℕ) (w : List ℕ) (all : List Element) (l : List Range) : Type 0 where
+  pub count : ℕ
+  pub greatest : Greatest (sendable 512 (a .limit) room (pageMeasure a)) (length (a .wanted)) count
+  pub bytes-are : w ≡ pageBytes a count
+  pub elements-are : all ≡ a .elements
+  pub ranges-are : l ≡ pageRanges a count
+
+sends-on : (a : Ask) (room : ℕ) (d : Decided) → decision 512 (a .limit) room (pageMeasure a) (length (a .wanted)) ≡ d → (w : List ℕ) (all : List Element) (l : List Range)
+    → onDecided a d ≡ answered w all l → Sends a room w all l
+unfolding onDecided
+sends-on a room (decided.Sent k whole ranges more) e w all l h =
+    record {
+      count = k;
+      greatest = sent-law 512 (a .limit) room (pageMeasure a) (length (a .wanted)) k whole ranges more e .greatest;
+      bytes-are = cc (h);
+      elements-are = cc (h);
+      ranges-are = cc (h);
+    }
+sends-on a room decided.Crowded e w all l h = impossible (cc (h))
+sends-on a room (decided.Short n) e w all l h = impossible (cc (h))
+
+pub page-sends : (a : Ask) (room : ℕ) (w : List ℕ) (all : List Element) (l : List Range) → pageOutcome a room ≡ answered w all l → Sends a room w all l
+unfolding pageOutcome pageDecided
+page-sends a room w all l h = sends-on a room (decision 512 (a .limit) room (pageMeasure a) (length (a .wanted))) refl w all l h
+
+pub call-sends : (s q : List ℕ) (room : ℕ) (a : Ask) → Asks s q a → (w : List ℕ) (all : List Element) (l : List Range) → outcome s q room ≡ answered w all l
+    → Sends a room w all l
+call-sends s q room a x w all l h = page-sends a room w all l (sym (asked-outcome s q a room x) ∙ h)

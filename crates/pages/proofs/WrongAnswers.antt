@@ -1,0 +1,191 @@
+-- For each part of the answering call, wrong answers that its promise rules out, each tried on a named input.
+-- Assumes nothing.
+use mathlib.Core.Path.{_≡_, ap}
+use mathlib.Core.Bool.{true, false}
+use mathlib.Core.List.{List, [], _∷_, _++_}
+use Prim.Native.Nat.{ℕ, _+_}
+use native.Mathlib.Omega.{arith}
+use lib.ListN.{length, getD, take, drop, length-append}
+use Rattle.laws.specs.Bytes.{bytes, be}
+use Rattle.laws.specs.Placed.{Lays}
+use Rattle.laws.proofs.Cases.{impossible}
+use Rattle.numbers.specs.Compact.{compactBytes, sizeOf, formOf, formFrom, marked}
+use Rattle.numbers.specs.ExtendedGuid.{extendedGuidBytes}
+use Rattle.numbers.specs.Guid.{swapped}
+use Rattle.numbers.specs.Refusals.{faultAt}
+use Rattle.numbers.specs.declared.guid.Guid.{Guid}
+use Rattle.numbers.specs.declared.extended_guid.ExtendedGuid.the-variants.{Null, Named}
+use Rattle.talk.specs.Ranges.{range, within, holds, insert}
+use Rattle.talk.specs.declared.range.Range.{Range}
+use Rattle.store.specs.Knowledge.{rangeOf, knows}
+use Rattle.store.specs.KnowledgeWritten.{guidOf, rangeBytes, rangesBytes}
+use Rattle.store.proofs.KnowledgeLengths.{length-range}
+use Rattle.store.specs.RangeTable.{rangesAt}
+use Rattle.store.specs.declared.element.Key.{Key}
+use Rattle.store.specs.declared.element.Element.{Element}
+use Rattle.request.specs.Choice.{setFlags}
+use Rattle.pages.specs.Choice.{isKnown, serialRange, rangesWith, storedLength, storageIndex}
+use Rattle.pages.specs.Decision.{isSendable, decision}
+use Rattle.pages.specs.Written.{changesData, subResponseData, partialByte}
+use Rattle.pages.specs.Tables.{wholeOf, fixedLength, Priced, Decides}
+use Rattle.pages.specs.Answer.{rangeRows, answerOf, told, rowsAfter, Answers}
+use Rattle.pages.specs.declared.price.Price.{Price}
+use Rattle.pages.specs.declared.page.Bounds.{Bounds}
+use Rattle.pages.specs.declared.page.Decided.{Decided}
+use Rattle.pages.specs.declared.page.Decided.the-variants.{Sent, Crowded, Short}
+use Rattle.pages.specs.declared.answer.Answered.the-variants as answer
+
+abbrev key : ℕ → Key
+key n = record { low = 0; high = 0; number = n }
+
+-- an element of this type, its id and its serial number numbered n
+abbrev element : ℕ → ℕ → Element
+element kind n = record { place = 3; length = 46; kind = kind; id = key n; serial = key n }
+
+abbrev zeros : Guid
+zeros = record { low = 0; high = 0 }
+
+-- ---- clear_known: a known one stays wanted; an unknown one does not
+
+known-kept : setFlags (isKnown (range 0 0 1 4 ∷ [])) 0 (element 5 4 ∷ []) (1 ∷ []) ≡ 1 ∷ [] → ⊥
+unfolding setFlags isKnown knows swapped be bytes holds within
+known-kept h = impossible (cc)
+
+unknown-cleared : setFlags (isKnown (range 0 0 1 4 ∷ [])) 0 (element 5 5 ∷ []) (1 ∷ []) ≡ 0 ∷ [] → ⊥
+unfolding setFlags isKnown knows swapped be bytes holds within
+unknown-cleared h = impossible (cc)
+
+-- ---- storage_index: null though there is one; the first element's, of whatever type
+
+index-missed : Null ≡ storageIndex (element 5 1 ∷ element 1 2 ∷ []) → ⊥
+unfolding storageIndex
+index-missed h = impossible (cc)
+
+index-of-any : Named zeros 1 ≡ storageIndex (element 5 1 ∷ element 1 2 ∷ []) → ⊥
+unfolding storageIndex
+index-of-any h = impossible (cc)
+
+-- ---- serial_range: all numbers up to the serial number; a range of the number 0
+
+up-to-it : range 0 0 0 7 ≡ serialRange (element 5 7) → ⊥
+unfolding serialRange rangeOf swapped be bytes
+up-to-it h = let z : _≡_ {A = ℕ} 0 7 = ap (λ (x : Range). x .from) h in omega arith
+
+of-zero : range 0 0 0 0 ≡ serialRange (element 5 7) → ⊥
+unfolding serialRange rangeOf swapped be bytes
+of-zero h = let z : _≡_ {A = ℕ} 0 7 = ap (λ (x : Range). x .to) h in omega arith
+
+-- ---- price_of, in an empty table: no row for a new range; its GUID not counted
+
+abbrev priceOf : ℕ → ℕ → Price
+priceOf ranges spelled = record { at = 0; next = 0; range = range 0 0 7 7; ranges = ranges; spelled = spelled }
+
+no-row : Priced [] 0 (range 0 0 7 7) (priceOf 0 20) → ⊥
+unfolding insert rangesAt
+no-row h = let z = h .counted in omega arith
+
+guid-forgotten : Priced [] 0 (range 0 0 7 7) (priceOf 1 4) → ⊥
+unfolding insert rangesAt rangesBytes compactBytes sizeOf formOf formFrom bytes
+guid-forgotten h =
+    let z = h .priced in
+    let l = length-range (range 0 0 7 7) in
+    let p = length-append (rangeBytes (range 0 0 7 7)) [] in
+    omega arith
+
+-- ---- whole_of: the cell knowledge's 25 bytes left out; counted where there is no range
+
+cell-forgotten : 107 ≡ wholeOf 41 46 1 20 → ⊥
+unfolding wholeOf
+cell-forgotten h = omega arith
+
+cell-always : 66 ≡ wholeOf 41 0 0 0 → ⊥
+unfolding wholeOf
+cell-always h = omega arith
+
+-- ---- is_sendable: the limit put to a page of 1; a page of 2 over it; the 513th range
+
+first-limited : false ≡ isSendable 512 45 1000 1 46 1 132 → ⊥
+unfolding isSendable
+first-limited h = impossible (cc)
+
+one-range-more : true ≡ isSendable 512 1000 100000 1 46 513 20000 → ⊥
+unfolding isSendable
+one-range-more h = impossible (cc)
+
+second-unlimited : true ≡ isSendable 512 91 1000 2 92 1 178 → ⊥
+unfolding isSendable
+second-unlimited h = impossible (cc)
+
+-- ---- decide, with nothing wanted and nothing known: sent without room; a needed length that is the room
+
+abbrev bounds : ℕ → Bounds
+bounds room = record { most = 512; limit = 0; fixed = 41; room = room }
+
+abbrev neededBy : Decided → ℕ
+neededBy (Sent k whole ranges more) = 0
+neededBy Crowded = 0
+neededBy (Short n) = n
+
+sent-without-room : Decides [] [] (bounds 40) (Sent 0 41 0 false) (7 ∷ []) (7 ∷ []) → ⊥
+unfolding decision wholeOf storedLength rangesWith rangesBytes
+sent-without-room h = impossible (cc (h .0))
+
+room-needed : Decides [] [] (bounds 40) (Short 40) (7 ∷ []) (7 ∷ []) → ⊥
+unfolding decision wholeOf storedLength rangesWith rangesBytes
+room-needed h = let z : _≡_ {A = ℕ} 40 41 = ap neededBy (h .0) in omega arith
+
+-- ---- fixed_length: the null id not counted; the ends counted twice
+
+null-forgotten : 40 ≡ fixedLength 1 Null → ⊥
+unfolding fixedLength compactBytes sizeOf formOf formFrom bytes extendedGuidBytes
+null-forgotten h = omega arith
+
+ends-twice : 45 ≡ fixedLength 1 Null → ⊥
+unfolding fixedLength compactBytes sizeOf formOf formFrom bytes extendedGuidBytes
+ends-twice h = omega arith
+
+-- ---- lay_part, of one byte: the byte behind it put to 0; the place of its front answered
+
+byte-behind : Lays 1 (5 ∷ []) (7 ∷ 8 ∷ 9 ∷ []) 2 (7 ∷ 5 ∷ 0 ∷ []) → ⊥
+byte-behind h = impossible (cc (h .1))
+
+front-answered : Lays 1 (5 ∷ []) (7 ∷ 8 ∷ 9 ∷ []) 1 (7 ∷ 5 ∷ 9 ∷ []) → ⊥
+front-answered h = let z = h .0 in omega arith
+
+-- ---- copy_numbers, of one number: the later number put to 0; nothing copied
+
+later-cleared : _≡_ {A = List ℕ} (5 ∷ 0 ∷ []) (take 1 (5 ∷ 6 ∷ []) ++ drop 1 (7 ∷ 8 ∷ [])) → ⊥
+later-cleared h = impossible (cc)
+
+nothing-copied : _≡_ {A = List ℕ} (7 ∷ 8 ∷ []) (take 1 (5 ∷ 6 ∷ []) ++ drop 1 (7 ∷ 8 ∷ [])) → ⊥
+nothing-copied h = impossible (cc)
+
+-- ---- copy_ranges: the GUID's halves as the working table has them; the halves turned
+
+bytes-turned : 1 ∷ 0 ∷ 7 ∷ 9 ∷ [] ≡ rangeRows (range 1 0 7 9 ∷ []) → ⊥
+unfolding rangeRows guidOf swapped be bytes
+bytes-turned h = impossible (cc)
+
+halves-turned : 0 ∷ 0x0100000000000000 ∷ 7 ∷ 9 ∷ [] ≡ rangeRows (range 1 0 7 9 ∷ []) → ⊥
+unfolding rangeRows guidOf swapped be bytes
+halves-turned h = impossible (cc)
+
+-- ---- write_answer, part by part: a partial answer not marked; another type of sub-request named
+
+not-marked : 0 ∷ 0 ∷ [] ≡ changesData Null true → ⊥
+unfolding changesData extendedGuidBytes partialByte
+not-marked h = impossible (cc)
+
+put-named : 0x03 ∷ 0x0B ∷ 0 ∷ [] ≡ subResponseData 1 → ⊥
+unfolding subResponseData compactBytes sizeOf formOf formFrom bytes marked
+put-named h = let z : _≡_ {A = ℕ} 0x0B 5 = ap (λ (l : List ℕ). getD l 1 0) h in omega arith
+
+-- ---- answer: with a table too short, the store's fault before 13; a number of a table put to 0
+
+fault-first : Answers [] [] (answer.Refused (faultAt 2 0)) (7 ∷ []) (7 ∷ []) [] [] [] [] → ⊥
+unfolding answerOf told
+fault-first h = let z : _≡_ {A = ℕ} 2 13 = ap (λ t. t .number) (h .0) in omega arith
+
+table-cleared : Answers [] [] (answer.Refused (faultAt 13 0)) (7 ∷ []) (0 ∷ []) [] [] [] [] → ⊥
+unfolding answerOf rowsAfter
+table-cleared h = impossible (cc (h .1))

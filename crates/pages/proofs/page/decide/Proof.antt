@@ -1,0 +1,299 @@
+-- `page::decide` meets its contract. The invariant is `Under`: still to come are the wanted of the rows from the place on.
+-- Assumes nothing.
+use mathlib.Core.Path.{_≡_, refl, sym, ap, _∙_}
+use mathlib.Core.List.{List}
+use Prim.Native.Nat.{_+_, _-_, _*_, _^_, _≤_, _<_}
+use native.Mathlib.Omega.{arith}
+use lib.ListN.{length, take}
+use borrow.Author.Tests.{not-true, not-false}
+use Rattle.talk.specs.declared.range.Range.{Range}
+use Rattle.store.specs.RangeTable.{rangesAt}
+use Rattle.store.specs.KnowledgeWritten.{rangesBytes}
+use Rattle.request.specs.Choice.{elementOf}
+use Rattle.pages.specs.Tables.{chosenIn}
+use Rattle.pages.specs.declared.page.Page.{Page}
+use Rattle.pages.proofs.Stops.{sendable-ranges}
+use Rattle.pages.proofs.Pricing.{normal-with}
+use Rattle.pages.proofs.Chosen.{chosenFrom, chosen-start, chosen-not, chosen-one, chosen-none}
+use Rattle.pages.proofs.UnderWay.{Under, under-start, spelled-most, under-same, under-pass, under-end, price-most, under-stop, under-take}
+use borrow.Author.Needs.{needs}
+use Rattle.pages.proofs.page.decide.Statement.{statement}
+use Rattle.pages.proofs.page.decide.Tie as tie
+
+abbrev Inv-loop : tie.InvT-loop
+Inv-loop rows ids n flags t₀ count b p₀ t p =
+    (p .place ≤ n) × Under (chosenIn rows ids n flags) (rangesAt t₀ 0 count) t₀ b (chosenFrom rows ids n flags (p .place)) t p
+
+abbrev μ-loop : tie.MeasureT-loop
+μ-loop rows ids n flags t₀ count b p₀ t p = n - p .place
+
+ranges-length-requires : tie.Need-ranges-length-requires Inv-loop μ-loop
+ranges-length-requires c κs = search needs
+
+new-requires : tie.Need-new-requires Inv-loop μ-loop
+new-requires c κs = search needs
+
+loop-holds : tie.Need-loop-holds Inv-loop μ-loop
+loop-holds c =
+    let s = c .before .before .before .before .before .before .before in
+    let a = s .args in
+    let z : a .count - 0 ≡ a .count = omega arith in
+    rw (c .new .ensures, c .before .ranges-length .ensures .0, z, ← chosen-start (a .rows .now) (a .ids .now) (a .n) (a .flags .now)) (omega arith, under-start (chosenIn (a .rows .now) (a .ids .now) (a .n) (a .flags .now)) (rangesAt (a .t .now) 0 (a .count)) (a .t .now) (a .b) (a .count) (s .pre .4) refl)
+
+shared-slice-read-if2 : tie.Need-shared-slice-read-if2 Inv-loop μ-loop
+shared-slice-read-if2 c = search needs
+
+pass-requires : tie.Need-pass-requires Inv-loop μ-loop
+pass-requires c κs = search needs
+
+loop-less : tie.Need-loop-less Inv-loop μ-loop
+loop-less c =
+    let l = c .before .before .before .before .before in
+    let s = l .before .before .before .before .before .before .before .before in
+    let a = s .args in
+    let p = l .loop .p in
+    let e : c .pass .result .place ≡ p .place + 1 = ap (λ (x : Page). x .place) (c .pass .ensures) in
+    let i : p .place < a .n = c .before .before .before .if1 .taken in
+    omega arith
+
+loop-again : tie.Need-loop-again Inv-loop μ-loop
+loop-again c =
+    let l = c .before .before .before .before .before in
+    let s = l .before .before .before .before .before .before .before .before in
+    let a = s .args in
+    let p = l .loop .p in
+    let u = l .loop .inv .1 in
+    let i : p .place < a .n = c .before .before .before .if1 .taken in
+    let flagged : a .n ≤ length (a .flags .now) = s .pre .3 in
+    rw (c .pass .ensures) (omega arith, under-pass u (chosen-not (a .rows .now) (a .ids .now) (a .n) (a .flags .now) (p .place) i (omega arith) (c .before .if2 .taken)))
+
+element-at-requires : tie.Need-element-at-requires Inv-loop μ-loop
+element-at-requires c κs = search needs
+
+serial-range-requires : tie.Need-serial-range-requires Inv-loop μ-loop
+serial-range-requires c κs = search needs
+
+price-of-requires : tie.Need-price-of-requires Inv-loop μ-loop
+price-of-requires c κs =
+    let l = c .before .before .before .before .before .before .before in
+    let s = l .before .before .before .before .before .before .before .before in
+    let a = s .args in
+    let p = l .loop .p in
+    let u = l .loop .inv .1 in
+    let cap : p .ranges ≤ a .b .most = u .carried in
+    let most : a .b .most ≤ 512 = s .pre .5 in
+    let long : length (l .loop .t) ≡ length (a .t .now) = u .same-length in
+    let room : 2048 ≤ length (a .t .now) = s .pre .6 in
+    (omega arith, omega arith, u .spelled ∙ ap (λ (r : List Range). length (rangesBytes r)) (sym (u .held)), rw (u .held) (normal-with (take (p .count) _) _ (s .pre .9)))
+
+add-stored : tie.Need-add-stored Inv-loop μ-loop
+unfolding elementOf
+add-stored c =
+    let l = c .before .before .before .before .before .before .before .before .before .before in
+    let s = l .before .before .before .before .before .before .before .before in
+    let a = s .args in
+    let p = l .loop .p in
+    let u = l .loop .inv .1 in
+    let k = c .before .before in
+    let e = k .before .before .before in
+    let x = e .element-at .result in
+    let i : p .place < a .n = e .before .before .before .if1 .taken in
+    let few-elements : a .n ≤ 256 = s .pre .0 in
+    let light : x .length ≤ 2 ^ 24 = rw (e .element-at .ensures) (s .pre .8 (p .place) i) in
+    let small : p .bytes ≤ 2 ^ 24 * p .place = u .small in
+    omega arith
+
+whole-of-requires : tie.Need-whole-of-requires Inv-loop μ-loop
+unfolding elementOf
+whole-of-requires c κs =
+    let l = c .before .before .before .before .before .before .before .before .before .before in
+    let s = l .before .before .before .before .before .before .before .before in
+    let a = s .args in
+    let p = l .loop .p in
+    let u = l .loop .inv .1 in
+    let k = c .before .before in
+    let e = k .before .before .before in
+    let x = e .element-at .result in
+    let i : p .place < a .n = e .before .before .before .if1 .taken in
+    let flagged : a .n ≤ length (a .flags .now) = s .pre .3 in
+    let v = under-same u (chosen-one (a .rows .now) (a .ids .now) (a .n) (a .flags .now) (p .place) i (omega arith) (e .before .if2 .left) (e .element-at .ensures)) in
+    let priced = rw (k .before .serial-range .ensures) at (k .price-of .ensures) in
+    let few-elements : a .n ≤ 256 = s .pre .0 in
+    let light : x .length ≤ 2 ^ 24 = rw (e .element-at .ensures) (s .pre .8 (p .place) i) in
+    let small : p .bytes ≤ 2 ^ 24 * p .place = u .small in
+    let fixed : a .b .fixed ≤ 2 ^ 32 = s .pre .7 in
+    let cap : p .ranges ≤ a .b .most = u .carried in
+    let most : a .b .most ≤ 512 = s .pre .5 in
+    omega (arith, price-most v priced)
+
+add-is-sendable : tie.Need-add-is-sendable Inv-loop μ-loop
+add-is-sendable c =
+    let l = c .before .before .before .before .before .before .before .before .before .before .before .before in
+    let s = l .before .before .before .before .before .before .before .before in
+    let a = s .args in
+    let p = l .loop .p in
+    let u = l .loop .inv .1 in
+    let k = c .before .before .before .before in
+    let e = k .before .before .before in
+    let i : p .place < a .n = e .before .before .before .if1 .taken in
+    let few-elements : a .n ≤ 256 = s .pre .0 in
+    let few : p .count ≤ p .place = u .few in
+    omega arith
+
+is-sendable-requires : tie.Need-is-sendable-requires Inv-loop μ-loop
+is-sendable-requires c κs = search needs
+
+stop-requires : tie.Need-stop-requires Inv-loop μ-loop
+stop-requires c κs =
+    let l = c .before .before .before .before .before .before .before .before .before .before .before .before .before .before in
+    let s = l .before .before .before .before .before .before .before .before in
+    let a = s .args in
+    let p = l .loop .p in
+    let u = l .loop .inv .1 in
+    let k = c .before .before .before .before .before .before in
+    let e = k .before .before .before in
+    let i : p .place < a .n = e .before .before .before .if1 .taken in
+    let few-elements : a .n ≤ 256 = s .pre .0 in
+    let small : p .bytes ≤ 2 ^ 24 * p .place = u .small in
+    let fixed : a .b .fixed ≤ 2 ^ 32 = s .pre .7 in
+    let cap : p .ranges ≤ a .b .most = u .carried in
+    let most : a .b .most ≤ 512 = s .pre .5 in
+    let spelled : p .spelled ≤ 36 * p .ranges = spelled-most u in
+    omega arith
+
+same-length : tie.Need-same-length Inv-loop μ-loop
+same-length c = c .before .before .before .before .before .before .before .before .before .before .before .before .before .before .before .loop .inv .1 .same-length
+
+returns : tie.Need-returns Inv-loop μ-loop
+returns c =
+    let l = c .before .before .before .before .before .before .before .before .before .before .before .before .before .before .before in
+    let s = l .before .before .before .before .before .before .before .before in
+    let a = s .args in
+    let p = l .loop .p in
+    let u = l .loop .inv .1 in
+    let k = c .before .before .before .before .before .before .before in
+    let e = k .before .before .before in
+    let i : p .place < a .n = e .before .before .before .if1 .taken in
+    let flagged : a .n ≤ length (a .flags .now) = s .pre .3 in
+    let v = under-same u (chosen-one (a .rows .now) (a .ids .now) (a .n) (a .flags .now) (p .place) i (omega arith) (e .before .if2 .left) (e .element-at .ensures)) in
+    let priced = rw (k .before .serial-range .ensures) at (k .price-of .ensures) in
+    let f = rw (c .before .before .before .before .whole-of .ensures) at (sym (c .before .before .is-sendable .ensures) ∙ not-true (c .before .before .is-sendable .result) (c .before .if3 .taken)) in
+    under-stop v priced f (rw (c .before .before .before .before .whole-of .ensures) at (c .stop .ensures))
+
+take-requires : tie.Need-take-requires Inv-loop μ-loop
+unfolding elementOf
+take-requires c κs =
+    let l = c .before .before .before .before .before .before .before .before .before .before .before .before .before .before .before in
+    let s = l .before .before .before .before .before .before .before .before in
+    let a = s .args in
+    let p = l .loop .p in
+    let u = l .loop .inv .1 in
+    let k = c .before .before .before .before .before .before .before in
+    let e = k .before .before .before in
+    let x = e .element-at .result in
+    let q = k .price-of .result in
+    let i : p .place < a .n = e .before .before .before .if1 .taken in
+    let few-elements : a .n ≤ 256 = s .pre .0 in
+    let light : x .length ≤ 2 ^ 24 = rw (e .element-at .ensures) (s .pre .8 (p .place) i) in
+    let small : p .bytes ≤ 2 ^ 24 * p .place = u .small in
+    let few : p .count ≤ p .place = u .few in
+    let cap : p .ranges ≤ a .b .most = u .carried in
+    let most : a .b .most ≤ 512 = s .pre .5 in
+    let long : length (l .loop .t) ≡ length (a .t .now) = u .same-length in
+    let room : 2048 ≤ length (a .t .now) = s .pre .6 in
+    let f = rw (c .before .before .before .before .whole-of .ensures) at (sym (c .before .before .is-sendable .ensures) ∙ not-false (c .before .before .is-sendable .result) (c .before .if3 .left)) in
+    let g : q .ranges ≤ a .b .most = sendable-ranges (a .b .most) (a .b .limit) (a .b .room) (p .count + 1) (p .bytes + x .length) (q .ranges) _ f in
+    let priced = rw (k .before .serial-range .ensures) at (k .price-of .ensures) in
+    (omega arith, omega arith, omega arith, omega arith, omega arith, priced)
+
+loop-less-2 : tie.Need-loop-less-2 Inv-loop μ-loop
+loop-less-2 c =
+    let l = c .before .before .before .before .before .before .before .before .before .before .before .before .before .before .before .before .before .before in
+    let s = l .before .before .before .before .before .before .before .before in
+    let a = s .args in
+    let p = l .loop .p in
+    let k = c .before .before .before .before .before .before .before .before .before .before in
+    let e = k .before .before .before in
+    let i : p .place < a .n = e .before .before .before .if1 .taken in
+    let z : c .before .before .take .result .place ≡ p .place + 1 = ap (λ (y : Page). y .place) (c .before .before .take .ensures .0) in
+    omega arith
+
+loop-again-2 : tie.Need-loop-again-2 Inv-loop μ-loop
+unfolding elementOf
+loop-again-2 c =
+    let l = c .before .before .before .before .before .before .before .before .before .before .before .before .before .before .before .before .before .before in
+    let s = l .before .before .before .before .before .before .before .before in
+    let a = s .args in
+    let p = l .loop .p in
+    let u = l .loop .inv .1 in
+    let k = c .before .before .before .before .before .before .before .before .before .before in
+    let e = k .before .before .before in
+    let x = e .element-at .result in
+    let i : p .place < a .n = e .before .before .before .if1 .taken in
+    let flagged : a .n ≤ length (a .flags .now) = s .pre .3 in
+    let v = under-same u (chosen-one (a .rows .now) (a .ids .now) (a .n) (a .flags .now) (p .place) i (omega arith) (e .before .if2 .left) (e .element-at .ensures)) in
+    let priced = rw (k .before .serial-range .ensures) at (k .price-of .ensures) in
+    let light : x .length ≤ 2 ^ 24 = rw (e .element-at .ensures) (s .pre .8 (p .place) i) in
+    let most : a .b .most ≤ 512 = s .pre .5 in
+    let room : 2048 ≤ length (a .t .now) = s .pre .6 in
+    let d = c .before .before in
+    let f = rw (d .before .before .before .before .before .whole-of .ensures) at (sym (d .before .before .before .is-sendable .ensures) ∙ not-false (d .before .before .before .is-sendable .result) (d .before .before .if3 .left)) in
+    rw (d .take .ensures .0) (omega arith, under-take v priced (d .take .last .1 .0) (omega arith) light (d .take .ensures .1) f)
+
+end-requires : tie.Need-end-requires Inv-loop μ-loop
+end-requires c κs =
+    let l = c .before .before in
+    let s = l .before .before .before .before .before .before .before .before in
+    let a = s .args in
+    let p = l .loop .p in
+    let u = l .loop .inv .1 in
+    let few-elements : a .n ≤ 256 = s .pre .0 in
+    let small : p .bytes ≤ 2 ^ 24 * p .place = u .small in
+    let fixed : a .b .fixed ≤ 2 ^ 32 = s .pre .7 in
+    let inside : p .place ≤ a .n = l .loop .inv .0 in
+    let cap : p .ranges ≤ a .b .most = u .carried in
+    let most : a .b .most ≤ 512 = s .pre .5 in
+    let spelled : p .spelled ≤ 36 * p .ranges = spelled-most u in
+    omega arith
+
+same-length-2 : tie.Need-same-length-2 Inv-loop μ-loop
+same-length-2 c = c .before .before .before .loop .inv .1 .same-length
+
+returns-2 : tie.Need-returns-2 Inv-loop μ-loop
+returns-2 c =
+    let l = c .before .before .before in
+    let s = l .before .before .before .before .before .before .before .before in
+    let a = s .args in
+    let p = l .loop .p in
+    let u = l .loop .inv .1 in
+    under-end u (chosen-none (a .rows .now) (a .ids .now) (a .n) (a .flags .now) (p .place) (c .before .if1 .left)) (c .end .ensures)
+
+pub decide-spec : {M : Type 1} → statement M
+decide-spec =
+    tie.close
+    (tie.spec
+    Inv-loop
+    μ-loop
+    ranges-length-requires
+    new-requires
+    loop-holds
+    shared-slice-read-if2
+    pass-requires
+    loop-less
+    loop-again
+    element-at-requires
+    serial-range-requires
+    price-of-requires
+    add-stored
+    whole-of-requires
+    add-is-sendable
+    is-sendable-requires
+    stop-requires
+    same-length
+    returns
+    take-requires
+    loop-less-2
+    loop-again-2
+    end-requires
+    same-length-2
+    returns-2)

@@ -1,0 +1,157 @@
+-- What the answering call answers, for store bytes, request bytes and an output length: the refusal, or the answer's bytes with
+-- the store's elements and the ranges of its knowledge. "Order: 13; the store's faults; the request's; then 9 for a page; then 14."
+-- Assumes nothing.
+use mathlib.Core.Path.{_≡_}
+use Prim.Native.Nat.{ℕ, _*_}
+use mathlib.Core.List.{List, [], _∷_, _++_}
+use lib.ListN.{length, take, drop}
+use lib.Dec.{ltb}
+use Rattle.laws.specs.Pick.{pick}
+use Rattle.numbers.specs.Refusals.{Told, gives, refuses, faultAt, tooShort}
+use Rattle.numbers.specs.declared.refusal.Refusal.{Refusal}
+use Rattle.objects.specs.declared.reading.Reading.{Reading}
+use Rattle.objects.specs.declared.reading.Reading.the-variants as reading
+use Rattle.talk.specs.declared.range.Range.{Range}
+use Rattle.store.specs.KnowledgeWritten.{guidOf}
+use Rattle.store.specs.Store.{storeWalk}
+use Rattle.store.specs.Tables.{rowsOf}
+use Rattle.store.specs.declared.element.Element.{Element}
+use Rattle.request.specs.Message.{filtersOf, requestKnowing, requestIn}
+use Rattle.request.specs.declared.message.Request.{Request}
+use Rattle.request.specs.declared.message.Request.the-variants as request
+use Rattle.pages.specs.Choice.{wantedIn, rangesWith, storedLength, storageIndex}
+use Rattle.pages.specs.Decision.{Measure, mostRanges, decision}
+use Rattle.pages.specs.Written.{answerBytes}
+use Rattle.pages.specs.declared.page.Decided.{Decided}
+use Rattle.pages.specs.declared.page.Decided.the-variants.{Sent, Crowded, Short}
+use Rattle.pages.specs.declared.answer.Answered.{Answered}
+use Rattle.pages.specs.declared.answer.Answered.the-variants as answer
+
+pub data Outcome : Type 0 where
+  refused : Refusal → Outcome
+  answered : List ℕ → List Element → List Range → Outcome
+
+-- the refusal's number: 0 where nothing is refused
+unfoldable pub numberIn : Outcome → ℕ
+numberIn (refused r) = r .number
+numberIn (answered w all l) = 0
+
+-- ---- one page
+
+-- what an answer is made of: the store's bytes and elements, the request's id, limit and ranges, and the wanted elements
+pub record Ask : Type 0 where
+  pub store : List ℕ
+  pub elements : List Element
+  pub id : ℕ
+  pub limit : ℕ
+  pub known : List Range
+  pub wanted : List Element
+
+-- the knowledge of the page of the first j wanted
+unfoldable pub pageRanges : Ask → ℕ → List Range
+pageRanges a j = rangesWith (a .known) (take j (a .wanted))
+
+-- its answer
+unfoldable pub pageBytes : Ask → ℕ → List ℕ
+pageBytes a j =
+    answerBytes (a .store) (a .id) (storageIndex (a .elements)) (take j (a .wanted)) (ltb j (length (a .wanted))) (pageRanges a j)
+
+-- what it asks: its length is the length of the bytes written for it
+unfoldable pub pageMeasure : Ask → Measure
+pageMeasure a =
+    record {
+      stored = λ j. storedLength (take j (a .wanted));
+      ranges = λ j. length (pageRanges a j);
+      whole = λ j. length (pageBytes a j);
+    }
+
+-- 9 "names the store, place 0", and so does 14, which has the needed length
+unfoldable pub onDecided : Ask → Decided → Outcome
+onDecided a (Sent k whole ranges more) = answered (pageBytes a k) (a .elements) (pageRanges a k)
+onDecided a Crowded = refused (faultAt 9 0)
+onDecided a (Short n) = refused (tooShort n)
+
+unfoldable pub pageDecided : Ask → ℕ → Decided
+pageDecided a room = decision mostRanges (a .limit) room (pageMeasure a) (length (a .wanted))
+
+unfoldable pub pageOutcome : Ask → ℕ → Outcome
+pageOutcome a room = onDecided a (pageDecided a room)
+
+-- ---- the request's faults, then the page. What is known does not depend on the working table that the request is read into:
+-- here it is empty
+
+abbrev pub knownIn : List ℕ → List Range
+knownIn q = requestKnowing q [] .ranges
+
+abbrev pub askOf : List ℕ → List Element → List ℕ → ℕ → ℕ → Ask
+askOf s all q id limit =
+    record {
+      store = s;
+      elements = all;
+      id = id;
+      limit = limit;
+      known = knownIn q;
+      wanted = wantedIn (filtersOf q) (knownIn q) all;
+    }
+
+unfoldable pub onRequest : List ℕ → List Element → List ℕ → ℕ → Request → Outcome
+onRequest s all q room (request.Asked id limit place count rows) = pageOutcome (askOf s all q id limit) room
+onRequest s all q room (request.Refused r) = refused r
+
+-- ---- the store's faults, then the request's
+
+unfoldable pub onStore : List ℕ → List Element → List ℕ → ℕ → Reading → Outcome
+onStore s all q room (reading.At e v) = onRequest s all q room (requestIn q [])
+onStore s all q room (reading.Refused r) = refused r
+
+unfoldable pub outcome : List ℕ → List ℕ → ℕ → Outcome
+outcome s q room = onStore s (storeWalk s .elements) q room (storeWalk s .last)
+
+-- 13: "store table under 1,536 numbers or knowledge table under 2,048"
+unfoldable pub answerOf : List ℕ → List ℕ → ℕ → ℕ → ℕ → Outcome
+answerOf s q rows ranges room =
+    pick (ltb rows 1536) (refused (faultAt 13 0)) (pick (ltb ranges 2048) (refused (faultAt 13 0)) (outcome s q room))
+
+-- ---- what the call answers: "The call returns the answer's length and both row counts"
+
+abbrev pub tellAnswered : Answered → Told
+tellAnswered (answer.Sent n rows ranges) = gives (n ∷ rows ∷ ranges ∷ [])
+tellAnswered (answer.Refused r) = refuses r
+
+unfoldable pub told : Outcome → Answered
+told (refused r) = answer.Refused r
+told (answered w all l) = answer.Sent (length w) (length all) (length l)
+
+-- ---- and what the lent buffers then hold: "Later rows, and output past the answer, keep their contents"; on a refusal "Output and
+-- tables stay as they were"
+
+-- "the knowledge table a row per range of the answer (GUID as two little-endian numbers, from, to)"
+abbrev pub rangeRow : Range → List ℕ
+rangeRow x = guidOf x .low ∷ guidOf x .high ∷ x .from ∷ x .to ∷ []
+
+unfoldable pub rangeRows : List Range → List ℕ
+rangeRows [] = []
+rangeRows (x ∷ xs) = rangeRow x ++ rangeRows xs
+
+-- "the store table holds a row per element (place, length, type, serial's GUID as two little-endian numbers, serial's number)"
+unfoldable pub rowsAfter : Outcome → List ℕ → List ℕ
+rowsAfter (refused r) t = t
+rowsAfter (answered w all l) t = rowsOf all ++ drop (length all * 6) t
+
+unfoldable pub rangesAfter : Outcome → List ℕ → List ℕ
+rangesAfter (refused r) t = t
+rangesAfter (answered w all l) t = rangeRows l ++ drop (length l * 4) t
+
+unfoldable pub outputAfter : Outcome → List ℕ → List ℕ
+outputAfter (refused r) out = out
+outputAfter (answered w all l) out = w ++ drop (length w) out
+
+-- what is promised where the outcome is o: the answer, both tables and the output at exit
+abbrev pub Gives : Outcome → Answered → List ℕ → List ℕ → List ℕ → List ℕ → List ℕ → List ℕ → Type 0
+Gives o r rows rows′ ranges ranges′ out out′ =
+    (tellAnswered r ≡ tellAnswered (told o)) × (rows′ ≡ rowsAfter o rows) × (ranges′ ≡ rangesAfter o ranges) × (out′ ≡ outputAfter o out)
+
+-- what the answering call promises
+abbrev pub Answers : List ℕ → List ℕ → Answered → List ℕ → List ℕ → List ℕ → List ℕ → List ℕ → List ℕ → Type 0
+Answers s q r rows rows′ ranges ranges′ out out′ =
+    Gives (answerOf s q (length rows) (length ranges) (length out)) r rows rows′ ranges ranges′ out out′

@@ -1,0 +1,6 @@
+pub mod Choice
+pub mod Decision
+pub mod Written
+pub mod Tables
+pub mod Answer
+pub mod Held

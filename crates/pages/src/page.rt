@@ -1,0 +1,179 @@
+// The page under way, and the longest page: wanted elements are taken in store order until the next page is not sendable. One
+// element more is priced before it is taken.
+ghost use mathlib.Core.Path.{_≡_};
+ghost use Prim.Native.Nat.{ℕ, _+_, _*_, _^_, _≤_, _<_};
+ghost use lib.ListN.{length, getD};
+ghost use Rattle.talk.specs.Ranges.{Normal};
+ghost use Rattle.store.specs.RangeTable.{rangesAt};
+ghost use Rattle.pages.specs.Choice.{serialRange};
+ghost use Rattle.pages.specs.Decision.{isSendable};
+ghost use Rattle.pages.specs.Tables.{stopped, ended, wholeOf, Priced, laidWith, chosenIn, Decides};
+use crate::price::Price;
+use crate::price::price_of;
+use crate::price::serial_range;
+use crate::wanted::element_at;
+use store::element::Element;
+use store::knowledge_write::ranges_length;
+use store::ranges::shift;
+
+// The page of so many elements, so long an answer, so many ranges, and whether a wanted element remains; or 9; or 14 with the
+// needed length.
+pub enum Decided {
+    Sent(usize, usize, usize, bool),
+    Crowded,
+    Short(usize),
+}
+
+// What is asked of a page: at most so many ranges, the limit, the answer's length without elements and ranges, and the output's.
+pub struct Bounds {
+    pub most: usize,
+    pub limit: u64,
+    pub fixed: usize,
+    pub room: usize,
+}
+
+// "A page under way carries its count, its bytes so far and its place"; and the rows of its knowledge, with their bytes.
+pub struct Page {
+    pub count: usize,
+    pub bytes: usize,
+    pub place: usize,
+    pub ranges: usize,
+    pub spelled: usize,
+}
+
+// The answer's length: the first range brings a cell knowledge of 25 bytes. Ruled out (proofs/WrongAnswers): these left out;
+// counted where there is no range.
+pub fn whole_of(fixed: usize, stored: usize, ranges: usize, spelled: usize) -> usize
+    requires { ⌜ fixed + 25 + stored + spelled < 2 ^ 64 ⌝ }
+    ensures { λ r. ⌜ r ≡ wholeOf fixed stored ranges spelled ⌝ }
+{
+    if ranges == 0 {
+        return fixed + stored;
+    }
+    fixed + 25 + stored + spelled
+}
+
+// Whether a page of j that asks so much is sendable. Ruled out (proofs/WrongAnswers): the limit put to a page of 1; a page of 2 over
+// the limit.
+pub fn is_sendable(b: Bounds, j: usize, stored: usize, ranges: usize, whole: usize) -> bool
+    ensures { λ r. ⌜ r ≡ isSendable (b .most) (b .limit) (b .room) j stored ranges whole ⌝ }
+{
+    if b.most < ranges {
+        return false;
+    }
+    if b.room < whole {
+        return false;
+    }
+    if j <= 1 {
+        return true;
+    }
+    stored as u64 <= b.limit
+}
+
+impl Page {
+    // Nothing taken yet.
+    pub fn new(ranges: usize, spelled: usize) -> Page
+        ensures { λ r. ⌜ r ≡ record { count = 0; bytes = 0; place = 0; ranges = ranges; spelled = spelled } ⌝ }
+    {
+        Page {
+            count: 0,
+            bytes: 0,
+            place: 0,
+            ranges,
+            spelled,
+        }
+    }
+
+    // The element at the place is not wanted.
+    pub fn pass(self) -> Page
+        requires { ⌜ self .place < 256 ⌝ }
+        ensures { λ r. ⌜ r ≡ record { count = self .count; bytes = self .bytes; place = self .place + 1; ranges = self .ranges; spelled = self .spelled } ⌝ }
+    {
+        Page {
+            count: self.count,
+            bytes: self.bytes,
+            place: self.place + 1,
+            ranges: self.ranges,
+            spelled: self.spelled,
+        }
+    }
+
+    // Takes the wanted element at the place, whose price is p: its serial number goes into the rows.
+    pub fn take(self, t: &mut [u64], x: Element, p: Price) -> Page
+        requires { ⌜ (self .count < 256) × (self .place < 256) × (self .bytes + x .length < 2 ^ 64) × (self .ranges * 4 ≤ length (now t)) × (p .ranges * 4 ≤ length (now t)) × Priced (now t) (self .ranges) (serialRange x) p ⌝ }
+        ensures { λ r. ⌜ (r ≡ record { count = self .count + 1; bytes = self .bytes + x .length; place = self .place + 1; ranges = p .ranges; spelled = p .spelled }) × (now (t .exit) ≡ laidWith x (rangesAt (now (t .entry)) 0 (self .ranges)) (now (t .entry))) ⌝ }
+    {
+        shift(t, p.at, p.next, self.ranges, p.range);
+        Page {
+            count: self.count + 1,
+            bytes: self.bytes + x.length,
+            place: self.place + 1,
+            ranges: p.ranges,
+            spelled: p.spelled,
+        }
+    }
+
+    // The answer where the next page, of `ranges` and `whole`, is not sendable.
+    pub fn stop(self, b: Bounds, ranges: usize, whole: usize) -> Decided
+        requires { ⌜ b .fixed + 25 + self .bytes + self .spelled < 2 ^ 64 ⌝ }
+        ensures { λ r. ⌜ r ≡ stopped (b .most) (self .count) (wholeOf (b .fixed) (self .bytes) (self .ranges) (self .spelled)) (self .ranges) ranges whole ⌝ }
+    {
+        if self.count == 0 {
+            if b.most < ranges {
+                return Decided::Crowded;
+            }
+            return Decided::Short(whole);
+        }
+        let so_far = whole_of(b.fixed, self.bytes, self.ranges, self.spelled);
+        Decided::Sent(self.count, so_far, self.ranges, true)
+    }
+
+    // The answer where nothing more is wanted.
+    pub fn end(self, b: Bounds) -> Decided
+        requires { ⌜ b .fixed + 25 + self .bytes + self .spelled < 2 ^ 64 ⌝ }
+        ensures { λ r. ⌜ r ≡ ended (b .room) (self .count) (wholeOf (b .fixed) (self .bytes) (self .ranges) (self .spelled)) (self .ranges) ⌝ }
+    {
+        let whole = whole_of(b.fixed, self.bytes, self.ranges, self.spelled);
+        if 0 < self.count {
+            return Decided::Sent(self.count, whole, self.ranges, false);
+        }
+        if b.room < whole {
+            return Decided::Short(whole);
+        }
+        Decided::Sent(self.count, whole, self.ranges, false)
+    }
+}
+
+// The longest page of those of n elements whose flag is not 0, in store order; the table of ranges then holds the serial numbers of
+// those that are sent too. Ruled out (proofs/WrongAnswers), with nothing wanted and no room: a page that is sent; the room as the needed
+// length.
+pub fn decide(
+    rows: &[u64],
+    ids: &[u64],
+    n: usize,
+    flags: &[u8],
+    t: &mut [u64],
+    count: usize,
+    b: Bounds,
+) -> Decided
+    requires { ⌜ (n ≤ 256) × (n * 6 ≤ length (now rows)) × (n * 3 ≤ length (now ids)) × (n ≤ length (now flags)) × (count ≤ b .most) × (b .most ≤ 512) × (2048 ≤ length (now t)) × (b .fixed ≤ 2 ^ 32) × ((i : ℕ) → i < n → getD (now rows) (i * 6 + 1) 0 ≤ 2 ^ 24) × Normal (rangesAt (now t) 0 count) ⌝ }
+    ensures { λ r. ⌜ Decides (chosenIn (now (rows .entry)) (now (ids .entry)) n (now (flags .entry))) (rangesAt (now (t .entry)) 0 count) b r (now (t .entry)) (now (t .exit)) ⌝ }
+{
+    let mut p = Page::new(count, ranges_length(t, 0, count));
+    while p.place < n {
+        let at = p.place;
+        if flags[at] == 0 {
+            p = p.pass();
+            continue;
+        }
+        let x = element_at(rows, ids, at);
+        let q = price_of(t, p.ranges, p.spelled, serial_range(x));
+        let stored = p.bytes + x.length;
+        let whole = whole_of(b.fixed, stored, q.ranges, q.spelled);
+        if !is_sendable(b, p.count + 1, stored, q.ranges, whole) {
+            return p.stop(b, q.ranges, whole);
+        }
+        p = p.take(t, x, q);
+    }
+    p.end(b)
+}

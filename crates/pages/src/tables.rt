@@ -1,0 +1,63 @@
+// What is copied out when nothing is refused any more: bytes of the store, and the rows of both tables.
+ghost use mathlib.Core.Path.{_≡_};
+ghost use mathlib.Core.List.{_++_};
+ghost use Prim.Native.Nat.{_+_, _*_, _≤_};
+ghost use lib.ListN.{length, take, drop};
+ghost use Rattle.laws.specs.Placed.{Lays};
+ghost use Rattle.store.specs.RangeTable.{rangesAt};
+ghost use Rattle.pages.specs.Answer.{rangeRow, rangeRows};
+use numbers::guid::swap;
+use store::ranges::range_at;
+use talk::range::Range;
+
+// All of a part at a place of out. Ruled out (proofs/WrongAnswers): the byte behind it put to 0; its own place answered.
+pub fn lay_part(out: &mut [u8], at: usize, part: &[u8]) -> usize
+    requires { ⌜ at + length (now part) ≤ length (now out) ⌝ }
+    ensures { λ r. ⌜ Lays at (now (part .entry)) (now (out .entry)) r (now (out .exit)) ⌝ }
+{
+    let n = part.len();
+    let mut i = 0;
+    while i < n {
+        out[at + i] = part[i];
+        i += 1;
+    }
+    at + n
+}
+
+// The first n numbers of a table, over the front of another. Ruled out (proofs/WrongAnswers): the later numbers put to 0; nothing
+// copied.
+pub fn copy_numbers(to: &mut [u64], from: &[u64], n: usize)
+    requires { ⌜ (n ≤ length (now to)) × (n ≤ length (now from)) ⌝ }
+    ensures { λ _. ⌜ now (to .exit) ≡ take n (now (from .entry)) ++ drop n (now (to .entry)) ⌝ }
+{
+    let mut i = 0;
+    while i < n {
+        to[i] = from[i];
+        i += 1;
+    }
+}
+
+// A range as row k of the lent table: its GUID as two little-endian numbers.
+fn put_range_row(to: &mut [u64], k: usize, x: Range)
+    requires { ⌜ k * 4 + 4 ≤ length (now to) ⌝ }
+    ensures { λ _. ⌜ now (to .exit) ≡ take (k * 4) (now (to .entry)) ++ (rangeRow x ++ drop (k * 4 + 4) (now (to .entry))) ⌝ }
+{
+    let at = k * 4;
+    to[at] = swap(x.upper);
+    to[at + 1] = swap(x.lower);
+    to[at + 2] = x.from;
+    to[at + 3] = x.to;
+}
+
+// The first rows of the working table of ranges, as rows of the lent table. Ruled out (proofs/WrongAnswers): the GUID's halves as
+// the working table has them; the halves turned.
+pub fn copy_ranges(to: &mut [u64], table: &[u64], rows: usize)
+    requires { ⌜ (rows * 4 ≤ length (now to)) × (rows * 4 ≤ length (now table)) ⌝ }
+    ensures { λ _. ⌜ now (to .exit) ≡ rangeRows (rangesAt (now (table .entry)) 0 rows) ++ drop (rows * 4) (now (to .entry)) ⌝ }
+{
+    let mut k = 0;
+    while k < rows {
+        put_range_row(to, k, range_at(table, k));
+        k += 1;
+    }
+}

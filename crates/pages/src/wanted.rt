@@ -1,0 +1,99 @@
+// Elements of the working tables: those that the ranges know are no longer wanted; and the storage index.
+ghost use mathlib.Core.Path.{_≡_};
+ghost use Prim.Native.Nat.{ℕ, _+_, _*_, _^_, _≤_, _<_};
+ghost use lib.ListN.{length, getD};
+ghost use Rattle.numbers.specs.declared.extended_guid.ExtendedGuid.the-variants.{Named};
+ghost use Rattle.talk.specs.Ranges.{Normal};
+ghost use Rattle.store.specs.RangeTable.{rangesAt};
+ghost use Rattle.store.specs.Written.{guidOf};
+ghost use Rattle.request.specs.Choice.{elementOf, elementsIn, setFlags};
+ghost use Rattle.pages.specs.Choice.{isKnown, storageIndex};
+use numbers::extended_guid::ExtendedGuid;
+use numbers::guid::Guid;
+use store::element::Element;
+use store::element::Key;
+use store::ranges::is_known;
+use store::table::key_at;
+
+// The type of a storage index.
+pub const STORAGE_INDEX: u64 = 1;
+
+pub fn guid_of(k: Key) -> Guid
+    ensures { λ r. ⌜ r ≡ guidOf k ⌝ }
+{
+    Guid {
+        low: k.low,
+        high: k.high,
+    }
+}
+
+// The element of row i.
+pub fn element_at(rows: &[u64], ids: &[u64], i: usize) -> Element
+    requires { ⌜ (i * 6 + 6 ≤ length (now rows)) × (i * 3 + 3 ≤ length (now ids)) ⌝ }
+    ensures { λ r. ⌜ r ≡ elementOf (now (rows .entry)) (now (ids .entry)) i ⌝ }
+{
+    let at = i * 6;
+    Element {
+        place: rows[at] as usize,
+        length: rows[at + 1] as usize,
+        kind: rows[at + 2],
+        id: key_at(ids, i * 3),
+        serial: key_at(rows, at + 3),
+    }
+}
+
+// Whether the first rows of the table of ranges hold an element's serial number.
+fn knows_element(table: &[u64], count: usize, x: Element) -> bool
+    requires { ⌜ (count * 4 ≤ length (now table)) × Normal (rangesAt (now table) 0 count) ⌝ }
+    ensures { λ r. ⌜ r ≡ isKnown (rangesAt (now (table .entry)) 0 count) x ⌝ }
+{
+    let serial = x.serial;
+    is_known(table, count, guid_of(serial), serial.number)
+}
+
+// The flag of each of n elements whose serial number is known is put to 0. Ruled out (proofs/WrongAnswers): a known one that stays
+// wanted; an unknown one that does not.
+pub fn clear_known(
+    rows: &[u64],
+    ids: &[u64],
+    n: usize,
+    table: &[u64],
+    count: usize,
+    flags: &mut [u8],
+)
+    requires { ⌜ (n * 6 ≤ length (now rows)) × (n * 3 ≤ length (now ids)) × (n ≤ length (now flags)) × (count * 4 ≤ length (now table)) × Normal (rangesAt (now table) 0 count) ⌝ }
+    ensures { λ _. ⌜ now (flags .exit) ≡ setFlags (isKnown (rangesAt (now (table .entry)) 0 count)) 0 (elementsIn (now (rows .entry)) (now (ids .entry)) n) (now (flags .entry)) ⌝ }
+{
+    let mut i = 0;
+    while i < n {
+        if knows_element(table, count, element_at(rows, ids, i)) {
+            flags[i] = 0;
+        }
+        i += 1;
+    }
+}
+
+// An id as an extended GUID.
+fn named(k: Key) -> ExtendedGuid
+    requires { ⌜ k .number < 2 ^ 32 ⌝ }
+    ensures { λ r. ⌜ r ≡ Named (guidOf k) (k .number) ⌝ }
+{
+    ExtendedGuid::Named(guid_of(k), k.number as u32)
+}
+
+// The id of the first of n elements that is a storage index; null if none is. Ruled out (proofs/WrongAnswers): null though there is
+// one; the id of the first element, of whatever type.
+pub fn storage_index(rows: &[u64], ids: &[u64], n: usize) -> ExtendedGuid
+    requires { ⌜ (n * 6 ≤ length (now rows)) × (n * 3 ≤ length (now ids)) × ((i : ℕ) → i < n → getD (now ids) (i * 3 + 2) 0 < 2 ^ 32) ⌝ }
+    ensures { λ r. ⌜ r ≡ storageIndex (elementsIn (now (rows .entry)) (now (ids .entry)) n) ⌝ }
+{
+    let mut i = 0;
+    while i < n {
+        let x = element_at(rows, ids, i);
+        if x.kind == STORAGE_INDEX {
+            return named(x.id);
+        }
+        i += 1;
+    }
+    ExtendedGuid::Null
+}

@@ -1,0 +1,217 @@
+// The answer written for a page that was decided: each function lays a part at a place, and answers the place behind it. The
+// whole length was judged before.
+ghost use mathlib.Core.Path.{_≡_};
+ghost use mathlib.Core.List.{_∷_, []};
+ghost use Prim.Native.Nat.{_+_, _*_, _≤_};
+ghost use lib.ListN.{length, take};
+ghost use Rattle.laws.specs.Bytes.{bytes};
+ghost use Rattle.laws.specs.Placed.{Lays};
+ghost use Rattle.numbers.specs.ExtendedGuid.{extendedGuidBytes};
+ghost use Rattle.store.specs.RangeTable.{rangesAt};
+ghost use Rattle.store.specs.KnowledgeWritten.{knowledgeBytes};
+ghost use Rattle.pages.specs.Written.{versionBytes, elementsBytes, subResponseBytes, changesBytes, endsBytes, answerBytes, partialByte};
+ghost use Rattle.pages.specs.Tables.{chosenIn, answerFront, answerMiddle, fixedLength};
+use crate::tables::lay_part;
+use crate::wanted::element_at;
+use numbers::bytes::put_le;
+use numbers::compact::compact_length;
+use numbers::extended_guid::ExtendedGuid;
+use numbers::extended_guid::extended_guid_length;
+use numbers::extended_guid::write_extended_guid;
+use objects::layout::part;
+use store::element::PACKAGE;
+use store::knowledge_write::knowledge_length;
+use store::knowledge_write::write_knowledge;
+use store::lay::lay_end;
+use store::lay::lay_number;
+use store::lay::lay_start;
+
+// The types of the objects.
+pub const RESPONSE: u64 = 0x62;
+
+pub const SUB_RESPONSE: u64 = 0x41;
+
+pub const CHANGES: u64 = 0x5F;
+
+// The signature of an answer.
+pub const SIGNATURE: u64 = 0x9B069439F329CF9D;
+
+// The answer's length without elements and ranges. Ruled out (proofs/WrongAnswers), with id 1 and no storage index: 40, and 45.
+pub fn fixed_length(id: u64, index: ExtendedGuid) -> usize
+    ensures { λ r. ⌜ (r ≡ fixedLength id index) × (r ≤ 69) ⌝ }
+{
+    39 + compact_length(id) + extended_guid_length(index)
+}
+
+// n bytes of a number.
+fn lay_le(out: &mut [u8], at: usize, n: usize, x: u64) -> usize
+    requires { ⌜ at + n ≤ length (now out) ⌝ }
+    ensures { λ r. ⌜ Lays at (bytes n x) (now (out .entry)) r (now (out .exit)) ⌝ }
+{
+    put_le(&mut out[at..], n, x);
+    at + n
+}
+
+// One byte.
+fn lay_byte(out: &mut [u8], at: usize, b: u8) -> usize
+    requires { ⌜ at + 1 ≤ length (now out) ⌝ }
+    ensures { λ r. ⌜ Lays at (b ∷ []) (now (out .entry)) r (now (out .exit)) ⌝ }
+{
+    out[at] = b;
+    at + 1
+}
+
+fn lay_extended_guid(out: &mut [u8], at: usize, x: ExtendedGuid) -> usize
+    requires { ⌜ at + length (extendedGuidBytes x) ≤ length (now out) ⌝ }
+    ensures { λ r. ⌜ Lays at (extendedGuidBytes x) (now (out .entry)) r (now (out .exit)) ⌝ }
+{
+    write_extended_guid(&mut out[at..], x);
+    at + extended_guid_length(x)
+}
+
+fn lay_versions(out: &mut [u8], at: usize) -> usize
+    requires { ⌜ at + length versionBytes ≤ length (now out) ⌝ }
+    ensures { λ r. ⌜ Lays at versionBytes (now (out .entry)) r (now (out .exit)) ⌝ }
+{
+    let behind_version = lay_le(out, at, 2, 12);
+    let behind_minimum = lay_le(out, behind_version, 2, 11);
+    lay_le(out, behind_minimum, 8, SIGNATURE)
+}
+
+// Up to the first element.
+fn lay_front(out: &mut [u8], at: usize) -> usize
+    requires { ⌜ at + length answerFront ≤ length (now out) ⌝ }
+    ensures { λ r. ⌜ Lays at answerFront (now (out .entry)) r (now (out .exit)) ⌝ }
+{
+    let behind_versions = lay_versions(out, at);
+    let behind_start = lay_start(out, behind_versions, RESPONSE, true, 1);
+    let behind_response = lay_byte(out, behind_start, 0);
+    let behind_package = lay_start(out, behind_response, PACKAGE, true, 1);
+    lay_byte(out, behind_package, 0)
+}
+
+// The stored bytes of the first k elements whose flag is not 0.
+fn lay_elements(
+    out: &mut [u8],
+    at: usize,
+    store: &[u8],
+    rows: &[u64],
+    ids: &[u64],
+    n: usize,
+    flags: &[u8],
+    k: usize,
+) -> usize
+    requires { ⌜ (n * 6 ≤ length (now rows)) × (n * 3 ≤ length (now ids)) × (n ≤ length (now flags)) × (at + length (elementsBytes (now store) (take k (chosenIn (now rows) (now ids) n (now flags)))) ≤ length (now out)) ⌝ }
+    ensures { λ r. ⌜ Lays at (elementsBytes (now (store .entry)) (take k (chosenIn (now (rows .entry)) (now (ids .entry)) n (now (flags .entry))))) (now (out .entry)) r (now (out .exit)) ⌝ }
+{
+    let mut p = at;
+    let mut left = k;
+    let mut i = 0;
+    while i < n {
+        if left == 0 {
+            return p;
+        }
+        if flags[i] == 0 {
+            i += 1;
+            continue;
+        }
+        let x = element_at(rows, ids, i);
+        p = lay_part(out, p, part(store, x.place, x.length as u64));
+        left -= 1;
+        i += 1;
+    }
+    p
+}
+
+// The id, the type 2 and a zero byte.
+fn lay_sub_response(out: &mut [u8], at: usize, id: u64) -> usize
+    requires { ⌜ at + length (subResponseBytes id) ≤ length (now out) ⌝ }
+    ensures { λ r. ⌜ Lays at (subResponseBytes id) (now (out .entry)) r (now (out .exit)) ⌝ }
+{
+    let n = compact_length(id) + 2;
+    let behind_start = lay_start(out, at, SUB_RESPONSE, true, n as u64);
+    let behind_id = lay_number(out, behind_start, id);
+    let behind_type = lay_number(out, behind_id, 2);
+    lay_byte(out, behind_type, 0)
+}
+
+// The partial byte.
+fn partial_byte(partial: bool) -> u8
+    ensures { λ r. ⌜ r ≡ partialByte partial ⌝ }
+{
+    if partial {
+        return 1;
+    }
+    0
+}
+
+// The storage index and the partial byte.
+fn lay_changes(out: &mut [u8], at: usize, index: ExtendedGuid, partial: bool) -> usize
+    requires { ⌜ at + length (changesBytes index partial) ≤ length (now out) ⌝ }
+    ensures { λ r. ⌜ Lays at (changesBytes index partial) (now (out .entry)) r (now (out .exit)) ⌝ }
+{
+    let n = extended_guid_length(index) + 1;
+    let behind_start = lay_start(out, at, CHANGES, false, n as u64);
+    let behind_index = lay_extended_guid(out, behind_start, index);
+    lay_byte(out, behind_index, partial_byte(partial))
+}
+
+// From the package's end to the knowledge.
+fn lay_middle(out: &mut [u8], at: usize, id: u64, index: ExtendedGuid, partial: bool) -> usize
+    requires { ⌜ at + length (answerMiddle id index partial) ≤ length (now out) ⌝ }
+    ensures { λ r. ⌜ Lays at (answerMiddle id index partial) (now (out .entry)) r (now (out .exit)) ⌝ }
+{
+    let behind_package = lay_end(out, at, PACKAGE);
+    let behind_sub_response = lay_sub_response(out, behind_package, id);
+    lay_changes(out, behind_sub_response, index, partial)
+}
+
+// The knowledge of the first rows.
+fn lay_knowledge(out: &mut [u8], at: usize, table: &[u64], ranges: usize) -> usize
+    requires { ⌜ (ranges ≤ 512) × (ranges * 4 ≤ length (now table)) × (at + length (knowledgeBytes (rangesAt (now table) 0 ranges)) ≤ length (now out)) ⌝ }
+    ensures { λ r. ⌜ Lays at (knowledgeBytes (rangesAt (now (table .entry)) 0 ranges)) (now (out .entry)) r (now (out .exit)) ⌝ }
+{
+    write_knowledge(&mut out[at..], table, ranges);
+    at + knowledge_length(table, ranges)
+}
+
+// The ends.
+fn lay_back(out: &mut [u8], at: usize) -> usize
+    requires { ⌜ at + length endsBytes ≤ length (now out) ⌝ }
+    ensures { λ r. ⌜ Lays at endsBytes (now (out .entry)) r (now (out .exit)) ⌝ }
+{
+    let behind_sub_response = lay_end(out, at, SUB_RESPONSE);
+    lay_end(out, behind_sub_response, RESPONSE)
+}
+
+// What is sent: how many elements, the id as asked, the storage index, whether a wanted element remains, and how many ranges.
+pub struct Sending {
+    pub count: usize,
+    pub id: u64,
+    pub index: ExtendedGuid,
+    pub partial: bool,
+    pub ranges: usize,
+}
+
+// The answer: the first elements whose flag is not 0, and the knowledge of the first rows of the table. Ruled out
+// (proofs/WrongAnswers): a partial answer that is not marked; another type of sub-request in it.
+pub fn write_answer(
+    out: &mut [u8],
+    store: &[u8],
+    rows: &[u64],
+    ids: &[u64],
+    n: usize,
+    flags: &[u8],
+    page: Sending,
+    table: &[u64],
+) -> usize
+    requires { ⌜ (n * 6 ≤ length (now rows)) × (n * 3 ≤ length (now ids)) × (n ≤ length (now flags)) × (page .ranges ≤ 512) × (page .ranges * 4 ≤ length (now table)) × (length (answerBytes (now store) (page .id) (page .index) (take (page .count) (chosenIn (now rows) (now ids) n (now flags))) (page .partial) (rangesAt (now table) 0 (page .ranges))) ≤ length (now out)) ⌝ }
+    ensures { λ r. ⌜ Lays 0 (answerBytes (now (store .entry)) (page .id) (page .index) (take (page .count) (chosenIn (now (rows .entry)) (now (ids .entry)) n (now (flags .entry)))) (page .partial) (rangesAt (now (table .entry)) 0 (page .ranges))) (now (out .entry)) r (now (out .exit)) ⌝ }
+{
+    let behind_front = lay_front(out, 0);
+    let behind_elements = lay_elements(out, behind_front, store, rows, ids, n, flags, page.count);
+    let index = page.index;
+    let behind_middle = lay_middle(out, behind_elements, page.id, index, page.partial);
+    let behind_knowledge = lay_knowledge(out, behind_middle, table, page.ranges);
+    lay_back(out, behind_knowledge)
+}
