@@ -1,5 +1,6 @@
 // A filter for tests: each line of the input is one case, and gives one line of output (README.md says which). It shows the
 // calls of the libraries from outside, so that a run can be compared with what another program makes of the same cases.
+mod answers;
 mod headers;
 mod items;
 mod knowledges;
@@ -105,6 +106,15 @@ fn five_words(line: &[u8], out: &mut [u8]) {
     say::bad()
 }
 
+// `answer STOREHEX REQUESTHEX OUTLEN STORETABLELEN KNOWTABLELEN`
+fn six_words(line: &[u8], space: &mut [u8]) {
+    let mode = words::word(line, 0);
+    if check::same(mode, b"answer") {
+        return answers::answered(line, space);
+    }
+    say::bad()
+}
+
 // The modes go by how many words a case has, so that a word too many or too few is told.
 fn one_case(line: &[u8], space: &mut [u8], out: &mut [u8]) {
     match words::count(line) {
@@ -112,6 +122,7 @@ fn one_case(line: &[u8], space: &mut [u8], out: &mut [u8]) {
         3 => three_words(line, space, out),
         4 => four_words(line, space, out),
         5 => five_words(line, out),
+        6 => six_words(line, space),
         _ => say::bad(),
     }
 }

@@ -43,7 +43,7 @@ fn row(mark: &[u8], t: &[u64], at: usize)
 }
 
 // The first n rows of the table.
-fn every_row(t: &[u64], n: usize)
+pub(crate) fn every_row(t: &[u64], n: usize)
     requires { ⌜ n * 6 ≤ length (now t) ⌝ }
 {
     if n == 0 {

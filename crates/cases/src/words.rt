@@ -157,13 +157,13 @@ pub(crate) fn bytes(text: &[u8], space: &mut [u8]) -> Front
     Front { good, count: n }
 }
 
-// How many bytes of out a word lends.
-pub(crate) fn lent(text: &[u8], out: &[u8]) -> Front
-    ensures { λ r. ⌜ r .count ≤ length (now (out .entry)) ⌝ }
+// The number that a word spells, if it is at most so large.
+pub(crate) fn at_most(text: &[u8], most: usize) -> Front
+    ensures { λ r. ⌜ r .count ≤ most ⌝ }
 {
     let n = number(text);
     let value = n.value as usize;
-    if out.len() < value {
+    if most < value {
         return Front {
             good: false,
             count: 0,
@@ -173,6 +173,13 @@ pub(crate) fn lent(text: &[u8], out: &[u8]) -> Front
         good: n.good,
         count: value,
     }
+}
+
+// How many bytes of out a word lends.
+pub(crate) fn lent(text: &[u8], out: &[u8]) -> Front
+    ensures { λ r. ⌜ r .count ≤ length (now (out .entry)) ⌝ }
+{
+    at_most(text, out.len())
 }
 
 // Four bytes as a number, the lowest first.
