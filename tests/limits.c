@@ -1,0 +1,267 @@
+/* The numbers of document 01 that are run, put to the call exported to C: lengths, pages, whole talks, ranges, 2^64-1, inputs of
+   16,777,216 bytes and one more, reports of every kind, and empty slices. A line for each; the exit status is 1 if one of
+   them is not as document 01 has it. */
+#include "../include/hub.h"
+#include "build.h"
+#include "lent.h"
+
+#include <stdio.h>
+#include <stdlib.h>
+#include <string.h>
+
+#define SERIALS 0x22u /* the GUID of the serial numbers */
+#define OTHERS 0x70u  /* the GUID of the other ranges; it comes behind */
+#define LONGEST ((size_t)HUB_LONGEST_INPUT)
+
+static int failures = 0;
+
+static void tell(const char *what, int good) {
+    printf("%s: %s\n", good ? "ok" : "NOT OK", what);
+    failures += !good;
+}
+
+/* Whether a call with this much output gives the number and the report, and leaves alone all else. Where there is an answer, it
+   is to be the bytes of `answer`. */
+static int gives(struct text store, struct text request, size_t room, uint64_t number, uint64_t input, uint64_t place,
+                 uint64_t length, const struct text *answer) {
+    struct lent out = lend(room), report = lend(HUB_REPORT_BYTES);
+    uint64_t got = hub_answer(store.at, store.length, request.at, request.length, front_of(out), room, front_of(report),
+                              HUB_REPORT_BYTES);
+    const uint8_t *told = front_of(report);
+    int good = got == number && number_in(told) == input && number_in(told + 8) == place && number_in(told + 16) == length;
+    good = good && kept_behind(report, HUB_REPORT_BYTES) && kept_behind(out, answer == NULL ? 0 : answer->length);
+    if (good && answer != NULL) {
+        good = answer->length == length && memcmp(front_of(out), answer->at, answer->length) == 0;
+    }
+    give_back(out);
+    give_back(report);
+    return good;
+}
+
+static int sends(struct text store, struct text request, size_t room, struct text answer) {
+    return gives(store, request, room, HUB_ANSWERED, 0, 0, answer.length, &answer);
+}
+
+static int refuses(struct text store, struct text request, size_t room, uint64_t number, uint64_t input, uint64_t place,
+                   uint64_t needed) {
+    return gives(store, request, room, number, input, place, needed, NULL);
+}
+
+/* A store of n elements whose serial numbers count up. */
+static struct text store_of(uint64_t serial, unsigned n) {
+    struct text elements = {0}, store = {0};
+    add_elements(&elements, 1, SERIALS, serial, n);
+    add_package(&store, elements);
+    return store;
+}
+
+static struct text request_of(uint64_t limit, const struct range *r, size_t n) {
+    struct text request = {0};
+    add_request(&request, limit, r, n, 0);
+    return request;
+}
+
+/* An answer with n elements from the one with this id and this serial number on. */
+static struct text answer_of(unsigned id, uint64_t serial, unsigned n, unsigned partial, const struct range *r, size_t ranges) {
+    struct text elements = {0}, answer = {0};
+    add_elements(&elements, id, SERIALS, serial, n);
+    add_answer(&answer, elements, partial, r, ranges);
+    return answer;
+}
+
+/* ---- lengths */
+
+static void lengths(void) {
+    struct range seven[1] = {{SERIALS, 7, 7}};
+    struct text none = store_of(7, 0), one = store_of(7, 1), request = request_of(NO_LIMIT, NULL, 0);
+    struct text first = answer_of(1, 7, 0, 0, NULL, 0), second = answer_of(1, 7, 1, 0, seven, 1);
+    tell("an empty store: 41 bytes", first.length == 41 && sends(none, request, 41, first));
+    tell("with room to spare", sends(none, request, 42, first) && sends(none, request, 4096, first));
+    tell("room for 40 is refused, needed 41", refuses(none, request, 40, HUB_OUTPUT_TOO_SHORT, 0, 0, 41));
+    tell("no room at all too", refuses(none, request, 0, HUB_OUTPUT_TOO_SHORT, 0, 0, 41));
+    tell("one element: 132 bytes", second.length == 132 && sends(one, request, 132, second));
+    tell("room for 131 is refused, needed 132", refuses(one, request, 131, HUB_OUTPUT_TOO_SHORT, 0, 0, 132));
+}
+
+/* ---- whole talks */
+
+/* Asks with a knowledge of the first `known` of three elements, and awaits `page` more. */
+static int one_ask(uint64_t limit, unsigned known, unsigned page) {
+    struct range before[1] = {{SERIALS, 7, 6 + known}}, after[1] = {{SERIALS, 7, 6 + known + page}};
+    unsigned sent = known + page;
+    struct text store = store_of(7, 3), request = request_of(limit, before, known > 0);
+    struct text answer = answer_of(1 + known, 7 + known, page, sent < 3, after, sent > 0);
+    int good = sends(store, request, 4096, answer);
+    free(store.at);
+    free(request.at);
+    free(answer.at);
+    return good;
+}
+
+/* Asks until all three are sent, and once more. The answer's knowledge is what the next ask knows. */
+static void talk(uint64_t limit, const unsigned *pages, const char *what) {
+    unsigned known = 0;
+    int good = 1;
+    while (known < 3) {
+        good = good && one_ask(limit, known, *pages);
+        known += *pages++;
+    }
+    tell(what, good && one_ask(limit, 3, 0));
+}
+
+static void talks(void) {
+    static const unsigned singly[3] = {1, 1, 1}, two_first[2] = {2, 1}, at_once[1] = {3};
+    talk(0, singly, "limit 0: pages of 1, 1, 1");
+    talk(46, singly, "limit 46: pages of 1, 1, 1");
+    talk(91, singly, "limit 91: pages of 1, 1, 1");
+    talk(92, two_first, "limit 92: pages of 2, 1");
+    talk(137, two_first, "limit 137: pages of 2, 1");
+    talk(138, at_once, "limit 138: a page of 3");
+    talk(NO_LIMIT, at_once, "limit 2^64-1: a page of 3");
+}
+
+/* ---- 512 ranges */
+
+/* Every second number, so that no two ranges touch. */
+static void spread(struct range *r, size_t n) {
+    for (size_t i = 0; i < n; i++) {
+        struct range x = {OTHERS, 2 * i, 2 * i};
+        r[i] = x;
+    }
+}
+
+static void many_ranges(void) {
+    struct range known[513], after[513] = {{SERIALS, 7, 7}};
+    spread(known, 513);
+    spread(after + 1, 512);
+    struct text none = store_of(7, 0), one = store_of(7, 1);
+    struct text before = request_of(NO_LIMIT, known, 511), full = request_of(NO_LIMIT, known, 512);
+    struct text over = request_of(NO_LIMIT, known, 513);
+    struct text page = answer_of(1, 7, 1, 0, after, 512), same = answer_of(1, 7, 0, 0, known, 512);
+    tell("a page of 1 with 512 ranges", sends(one, before, page.length, page));
+    tell("a page of 1 that needs 513 ranges", refuses(one, full, 1 << 20, HUB_TOO_MANY, 0, 0, 0));
+    tell("the same with no room", refuses(one, full, 0, HUB_TOO_MANY, 0, 0, 0));
+    tell("512 ranges and nothing wanted", sends(none, full, same.length, same));
+    tell("no room for them", refuses(none, full, same.length - 1, HUB_OUTPUT_TOO_SHORT, 0, 0, same.length));
+    /* the 513th range stands before the four ends behind it: 1 + 2 + 1 + 2 + 2 bytes, and is 22 bytes long */
+    tell("513 ranges known", refuses(one, over, 1 << 20, HUB_TOO_MANY, 1, over.length - 8 - 22, 0));
+}
+
+/* ---- 2^64-1 */
+
+static void greatest(void) {
+    struct range all[1] = {{SERIALS, 0, UINT64_MAX}}, below[1] = {{SERIALS, 0, UINT64_MAX - 1}};
+    struct range last[1] = {{SERIALS, UINT64_MAX, UINT64_MAX}}, two[2] = {{SERIALS, 0, 0}, {SERIALS, UINT64_MAX, UINT64_MAX}};
+    struct text top = store_of(UINT64_MAX, 1), zero = store_of(0, 1);
+    struct text fresh = request_of(NO_LIMIT, NULL, 0), most = request_of(NO_LIMIT, below, 1);
+    struct text every = request_of(NO_LIMIT, all, 1), end = request_of(NO_LIMIT, last, 1);
+    tell("serial number 2^64-1", sends(top, fresh, 4096, answer_of(1, UINT64_MAX, 1, 0, last, 1)));
+    tell("2^64-1 joined to all before", sends(top, most, 4096, answer_of(1, UINT64_MAX, 1, 0, all, 1)));
+    tell("all numbers known", sends(top, every, 4096, answer_of(1, 0, 0, 0, all, 1)));
+    tell("0 does not follow 2^64-1", sends(zero, end, 4096, answer_of(1, 0, 1, 0, two, 2)));
+}
+
+/* ---- the longest inputs */
+
+/* A store of exactly n bytes: its one element has a long object inside. 52 bytes and 4 of the true length are around it. */
+static struct text long_store(size_t n) {
+    struct text elements = {0}, store = {0};
+    add_element(&elements, 1, SERIALS, 7, n - 58);
+    add_package(&store, elements);
+    return store;
+}
+
+static struct text long_request(size_t n) {
+    struct text request = {0}, empty = request_of(NO_LIMIT, NULL, 0);
+    add_request(&request, NO_LIMIT, NULL, 0, n - empty.length - 8);
+    free(empty.at);
+    return request;
+}
+
+static struct text long_answer(size_t n) {
+    struct range seven[1] = {{SERIALS, 7, 7}};
+    struct text elements = {0}, answer = {0};
+    add_element(&elements, 1, SERIALS, 7, n - 58);
+    add_answer(&answer, elements, 0, seven, 1);
+    return answer;
+}
+
+static void longest_store(void) {
+    struct text store = long_store(LONGEST), over = long_store(LONGEST + 1), noise = {0}, nothing = {0};
+    struct text request = request_of(NO_LIMIT, NULL, 0), answer = long_answer(LONGEST);
+    add_like(&noise, LONGEST + 1, 0xFF);
+    tell("they are as long as they should be", store.length == LONGEST && over.length == LONGEST + 1);
+    tell("a store of 16,777,216 bytes", sends(store, request, answer.length, answer));
+    tell("no room for it", refuses(store, request, answer.length - 1, HUB_OUTPUT_TOO_SHORT, 0, 0, answer.length));
+    tell("a store of 16,777,217 bytes", refuses(over, request, 4096, HUB_INPUT_TOO_LONG, 0, LONGEST, 0));
+    tell("before the store's other faults", refuses(noise, request, 4096, HUB_INPUT_TOO_LONG, 0, LONGEST, 0));
+    tell("and before the request's", refuses(over, nothing, 0, HUB_INPUT_TOO_LONG, 0, LONGEST, 0));
+    tell("and before the request is too long", refuses(over, noise, 0, HUB_INPUT_TOO_LONG, 0, LONGEST, 0));
+    free(store.at);
+    free(over.at);
+    free(noise.at);
+    free(answer.at);
+}
+
+static void longest_request(void) {
+    struct text request = long_request(LONGEST), over = long_request(LONGEST + 1), noise = {0}, nothing = {0};
+    struct text store = store_of(7, 0), answer = answer_of(1, 7, 0, 0, NULL, 0);
+    add_like(&noise, LONGEST + 1, 0xFF);
+    tell("they are as long as they should be", request.length == LONGEST && over.length == LONGEST + 1);
+    tell("a request of 16,777,216 bytes", sends(store, request, 41, answer));
+    tell("a request of 16,777,217 bytes", refuses(store, over, 4096, HUB_INPUT_TOO_LONG, 1, LONGEST, 0));
+    tell("before the request's other faults", refuses(store, noise, 0, HUB_INPUT_TOO_LONG, 1, LONGEST, 0));
+    tell("and behind the store's", refuses(nothing, over, 4096, HUB_RUNS_PAST, 0, 0, 0));
+    free(request.at);
+    free(over.at);
+    free(noise.at);
+}
+
+/* ---- reports, and empty slices */
+
+/* Whether a report of this length takes its first 24 bytes if it has them, and the number and the output are the same. */
+static int reported(struct text store, struct text request, size_t room, size_t length, struct text answer, uint64_t number) {
+    struct lent out = lend(room), report = lend(length);
+    uint64_t got = hub_answer(store.at, store.length, request.at, request.length, front_of(out), room, front_of(report), length);
+    size_t written = number == 0 ? answer.length : 0, told = length < HUB_REPORT_BYTES ? 0 : HUB_REPORT_BYTES;
+    int good = got == number && kept_behind(out, written) && kept_behind(report, told);
+    good = good && (written == 0 || memcmp(front_of(out), answer.at, written) == 0);
+    if (told > 0) {
+        const uint8_t *p = front_of(report);
+        good = good && number_in(p) == 0 && number_in(p + 8) == 0 && number_in(p + 16) == answer.length;
+    }
+    give_back(out);
+    give_back(report);
+    return good;
+}
+
+static void reports(void) {
+    static const size_t sizes[4] = {0, 23, HUB_REPORT_BYTES, 40};
+    static const char *const names[4] = {"no report", "a report of 23 bytes", "a report of 24 bytes", "a report of 40 bytes"};
+    struct text store = store_of(7, 0), request = request_of(NO_LIMIT, NULL, 0), answer = answer_of(1, 7, 0, 0, NULL, 0);
+    for (int i = 0; i < 4; i++) {
+        int sent = reported(store, request, 64, sizes[i], answer, HUB_ANSWERED);
+        tell(names[i], sent && reported(store, request, 40, sizes[i], answer, HUB_OUTPUT_TOO_SHORT));
+    }
+}
+
+static void empty_slices(void) {
+    struct text nothing = {0}, store = store_of(7, 1), request = request_of(NO_LIMIT, NULL, 0);
+    tell("four null pointers", hub_answer(NULL, 0, NULL, 0, NULL, 0, NULL, 0) == HUB_RUNS_PAST);
+    tell("no store", refuses(nothing, request, 4096, HUB_RUNS_PAST, 0, 0, 0));
+    tell("no request", refuses(store, nothing, 4096, HUB_RUNS_PAST, 1, 0, 0));
+    tell("no output", refuses(store, request, 0, HUB_OUTPUT_TOO_SHORT, 0, 0, 132));
+}
+
+int main(void) {
+    lengths();
+    talks();
+    many_ranges();
+    greatest();
+    longest_store();
+    longest_request();
+    reports();
+    empty_slices();
+    printf("%d not ok\n", failures);
+    return failures > 0;
+}
