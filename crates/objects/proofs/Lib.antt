@@ -18,6 +18,7 @@ pub mod HeadersRead
 pub mod Types
 pub mod Written
 pub mod ObjectsWritten
+pub mod StepsCarry
 pub mod Telling
 pub mod OneAnswers
 pub mod WrongAnswers

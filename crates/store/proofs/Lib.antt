@@ -25,4 +25,5 @@ pub mod KnowledgeWrongAnswers
 pub mod KnowledgeBack
 pub mod KnowledgeFits
 pub mod TableFree
+pub mod KnowledgeCarry
 pub mod ElementFits
