@@ -6,3 +6,7 @@ pub mod Bounds
 pub mod PageRule
 pub mod WrongAnswers
 pub mod Things
+pub mod Series
+pub mod Delivery
+pub mod Counts
+pub mod WrongSeries
