@@ -23,12 +23,16 @@ use Rattle.store.specs.declared.element.Element.{Element}
 use Rattle.store.proofs.ElementWritten.{compact-most, named-most}
 use Rattle.store.proofs.KnowledgeLengths as knowledge
 use Rattle.pages.specs.Choice.{storedLength}
-use Rattle.pages.specs.Written.{versionBytes, responseBytes, storedBytes, elementsBytes, subResponseData, subResponseBytes, changesData, changesBytes, endsBytes, answerBytes, partialByte, packageOf}
+use Rattle.pages.specs.Written.{versionBytes, answerSignature, responseBytes, storedBytes, elementsBytes, subResponseData, subResponseBytes, changesData, changesBytes, endsBytes, answerBytes, partialByte, packageOf}
 use Rattle.pages.specs.Tables.{answerFront, answerMiddle, wholeOf, fixedLength}
 
 -- ---- what is the same in each answer
 
-pub length-front : (length versionBytes ≡ 12) × (length (startBytes 0x62 true 1) ≡ 4) × (length (startBytes 0x15 true 1) ≡ 2) × (length answerFront ≡ 20)
+pub length-versions : (signature : ℕ) → length (versionBytes signature) ≡ 12
+unfolding versionBytes bytes
+length-versions signature = refl
+
+pub length-front : (length (versionBytes answerSignature) ≡ 12) × (length (startBytes 0x62 true 1) ≡ 4) × (length (startBytes 0x15 true 1) ≡ 2) × (length answerFront ≡ 20)
 unfolding answerFront versionBytes responseBytes packageFront startBytes longStart bytes
 length-front = (refl, refl, refl, refl)
 
@@ -60,7 +64,7 @@ length-sub id =
 
 -- ---- the storage index
 
-extended-most : (x : ExtendedGuid) → length (extendedGuidBytes x) ≤ 21
+pub extended-most : (x : ExtendedGuid) → length (extendedGuidBytes x) ≤ 21
 unfolding extendedGuidBytes
 extended-most Null = omega arith
 extended-most (Named g x) = named-most g x

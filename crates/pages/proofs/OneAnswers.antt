@@ -24,7 +24,7 @@ answer-telling (answer.Sent a b c) (answer.Refused r) q = let v = values-of _ _ 
 answer-telling (answer.Refused r) (answer.Sent d e f) q = let v = values-of _ _ q in impossible (cc)
 answer-telling (answer.Refused r) (answer.Refused t) q = ap answer.Refused (refuses-telling r t q)
 
-mark-telling : (a b : Bool) → _≡_ {A = ℕ} (pick a 1 0) (pick b 1 0) → a ≡ b
+pub mark-telling : (a b : Bool) → _≡_ {A = ℕ} (pick a 1 0) (pick b 1 0) → a ≡ b
 mark-telling true true e = refl
 mark-telling true false e = absurd (omega arith)
 mark-telling false true e = absurd (omega arith)

@@ -4,19 +4,23 @@
 use mathlib.Core.Path.{_≡_, sym, ap, _∙_}
 use mathlib.Core.Bool.{true, false}
 use mathlib.Core.List.{List, [], _∷_, _++_}
-use Prim.Native.Nat.{ℕ, zero, suc, _+_, _-_, _*_, _≤_, _<_}
+use Prim.Native.Nat.{ℕ, zero, suc, _+_, _-_, _*_, _^_, _≤_, _<_}
 use native.Mathlib.Omega.{arith}
 use lib.ListN.{length, take, drop, length-append}
 use lib.Seq.{drop-at}
 use borrow.Author.Tests.{le-leb}
 use Rattle.laws.proofs.Cases.{impossible}
-use Rattle.talk.specs.Ranges.{absorb, insert, Normal}
+use Rattle.talk.specs.Each.{Each}
+use Rattle.talk.specs.Ranges.{absorb, insert, Normal, AllFit}
 use Rattle.talk.specs.declared.range.Range.{Range}
+use Rattle.talk.proofs.Bounds.{insert-fits}
 use Rattle.talk.proofs.Insertion.{normal-insert}
 use Rattle.store.specs.Knowledge.{rangeOf}
 use Rattle.store.specs.RangeTable.{FirstNotBefore, rangeAt, rangesAt, numbersOf, laidRanges, laidIn}
 use Rattle.store.specs.KnowledgeWritten.{rangeBytes, rangesBytes}
+use Rattle.store.specs.Written.{guidOf}
 use Rattle.store.specs.declared.element.Element.{Element}
+use Rattle.store.proofs.KnowledgeFits.{range-fits}
 use Rattle.store.proofs.RangeRows.{insert-at, length-rows, add-done, laid-rows}
 use Rattle.store.proofs.KnowledgeLengths.{data-most, range-is}
 use Rattle.pages.specs.Choice.{serialRange, rangesWith}
@@ -141,6 +145,14 @@ pub normal-with : (xs : List Element) (l : List Range) → Normal l → Normal (
 unfolding rangesWith
 normal-with [] l n = n
 normal-with (x ∷ xs) l n = normal-with xs (insert (serialRange x) l) (normal-insert (serialRange x) l (serial-some x) n)
+
+-- where the serial numbers are of 64 bits, so are the ranges with them
+pub fit-with : (xs : List Element) (l : List Range) → Each (λ (x : Element). x .serial .number < 2 ^ 64) xs → AllFit l → AllFit (rangesWith l xs)
+unfolding rangesWith serialRange
+fit-with [] l h f = f
+fit-with (x ∷ xs) l h f =
+    fit-with xs (insert (serialRange x) l) (h .1)
+    (insert-fits (serialRange x) l (range-fits (guidOf (x .serial)) (x .serial .number) (x .serial .number) (h .0) (h .0)) f)
 
 -- the table's rows hold the ranges
 pub rows-laid : (xs : List Element) (l : List Range) (t : List ℕ) → rangesAt t 0 (length l) ≡ l

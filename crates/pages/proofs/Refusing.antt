@@ -203,3 +203,12 @@ page-sends a room w all l h = sends-on a room (decision 512 (a .limit) room (pag
 pub call-sends : (s q : List ℕ) (room : ℕ) (a : Ask) → Asks s q a → (w : List ℕ) (all : List Element) (l : List Range) → outcome s q room ≡ answered w all l
     → Sends a room w all l
 call-sends s q room a x w all l h = page-sends a room w all l (sym (asked-outcome s q a room x) ∙ h)
+
+-- and where something was answered, both inputs read
+asked-on : (s q : List ℕ) (room : ℕ) (o : Outcome) → Course s q room o → (w : List ℕ) (all : List Element) (l : List Range) → o ≡ answered w all l → (a : Ask) × Asks s q a
+asked-on s q room _ (store-fault r e) w all l h = impossible (cc (h))
+asked-on s q room _ (request-fault r g e) w all l h = impossible (cc (h))
+asked-on s q room _ (page a x) w all l h = (a, x)
+
+pub answered-asks : (s q : List ℕ) (room : ℕ) (w : List ℕ) (all : List Element) (l : List Range) → outcome s q room ≡ answered w all l → (a : Ask) × Asks s q a
+answered-asks s q room w all l h = asked-on s q room (outcome s q room) (course s q room) w all l h

@@ -7,7 +7,6 @@ use Prim.Native.Nat.{ℕ, _+_}
 use native.Mathlib.Omega.{arith}
 use lib.ListN.{length, getD, take, drop, length-append}
 use Rattle.laws.specs.Bytes.{bytes, be}
-use Rattle.laws.specs.Placed.{Lays}
 use Rattle.laws.proofs.Cases.{impossible}
 use Rattle.numbers.specs.Compact.{compactBytes, sizeOf, formOf, formFrom, marked}
 use Rattle.numbers.specs.ExtendedGuid.{extendedGuidBytes}
@@ -143,14 +142,6 @@ null-forgotten h = omega arith
 ends-twice : 45 ≡ fixedLength 1 Null → ⊥
 unfolding fixedLength compactBytes sizeOf formOf formFrom bytes extendedGuidBytes
 ends-twice h = omega arith
-
--- ---- lay_part, of one byte: the byte behind it put to 0; the place of its front answered
-
-byte-behind : Lays 1 (5 ∷ []) (7 ∷ 8 ∷ 9 ∷ []) 2 (7 ∷ 5 ∷ 0 ∷ []) → ⊥
-byte-behind h = impossible (cc (h .1))
-
-front-answered : Lays 1 (5 ∷ []) (7 ∷ 8 ∷ 9 ∷ []) 1 (7 ∷ 5 ∷ 9 ∷ []) → ⊥
-front-answered h = let z = h .0 in omega arith
 
 -- ---- copy_numbers, of one number: the later number put to 0; nothing copied
 

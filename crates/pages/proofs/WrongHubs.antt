@@ -42,7 +42,7 @@ use Rattle.request.specs.Message.{versions, userAgent, subRequestFields, subReq
 use Rattle.request.specs.declared.message.Request.the-variants as request
 use Rattle.pages.specs.Choice.{knowsKey, wantedIn, serialRange, rangesWith, storedLength, storageIndex}
 use Rattle.pages.specs.Decision.{Measure, isSendable, decision}
-use Rattle.pages.specs.Written.{versionBytes, responseBytes, elementsBytes, packageOf, subResponseData, subResponseBytes, partialByte, changesData, changesBytes, endsBytes, answerBytes}
+use Rattle.pages.specs.Written.{versionBytes, answerSignature, responseBytes, elementsBytes, packageOf, subResponseData, subResponseBytes, partialByte, changesData, changesBytes, endsBytes, answerBytes}
 use Rattle.pages.specs.Tables.{wholeOf, fixedLength, takenIn}
 use Rattle.pages.specs.Answer.{Ask, Outcome, refused, answered, numberIn, pageRanges, pageBytes, pageMeasure, pageDecided, pageOutcome, askOf, answerOf, told, outputAfter, Answers}
 use Rattle.pages.specs.declared.page.Decided.the-variants.{Sent}
@@ -189,10 +189,10 @@ marks-differ s id index page l h =
     let e : length (extendedGuidBytes index ++ (1 ∷ [])) ≡ length (extendedGuidBytes index ++ (0 ∷ [])) = simp length-append in
     let behind = knowledgeBytes l ++ endsBytes in
     let start = startBytes 0x5F false (length (extendedGuidBytes index ++ (0 ∷ []))) in
-    let g : versionBytes ++ (responseBytes ++ (packageOf s page ++ (subResponseBytes id ++ ((start ++ (extendedGuidBytes index ++ (1 ∷ []))) ++ behind))))
-    ≡ versionBytes ++ (responseBytes ++ (packageOf s page ++ (subResponseBytes id ++ ((start ++ (extendedGuidBytes index ++ (0 ∷ []))) ++ behind)))) = rw e at h in
+    let g : versionBytes answerSignature ++ (responseBytes ++ (packageOf s page ++ (subResponseBytes id ++ ((start ++ (extendedGuidBytes index ++ (1 ∷ []))) ++ behind))))
+    ≡ versionBytes answerSignature ++ (responseBytes ++ (packageOf s page ++ (subResponseBytes id ++ ((start ++ (extendedGuidBytes index ++ (0 ∷ []))) ++ behind)))) = rw e at h in
     let z : (1 ∷ behind) ≡ (0 ∷ behind) =
-    behind-same (extendedGuidBytes index) (behind-same start (simp append-assoc at (behind-same (subResponseBytes id) (behind-same (packageOf s page) (behind-same responseBytes (behind-same versionBytes g)))))) in
+    behind-same (extendedGuidBytes index) (behind-same start (simp append-assoc at (behind-same (subResponseBytes id) (behind-same (packageOf s page) (behind-same responseBytes (behind-same (versionBytes answerSignature) g)))))) in
     impossible (cc)
 
 pub unmarked-rest : (a : Ask) (k : ℕ) → k < length (a .wanted)

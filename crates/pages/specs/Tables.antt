@@ -24,7 +24,7 @@ use Rattle.store.specs.declared.element.Element.{Element}
 use Rattle.request.specs.Choice.{elementsIn}
 use Rattle.pages.specs.Choice.{serialRange, rangesWith, storedLength}
 use Rattle.pages.specs.Decision.{Measure, decision}
-use Rattle.pages.specs.Written.{versionBytes, responseBytes, subResponseBytes, changesBytes}
+use Rattle.pages.specs.Written.{versionBytes, answerSignature, responseBytes, subResponseBytes, changesBytes}
 use Rattle.pages.specs.declared.page.Bounds.{Bounds}
 use Rattle.pages.specs.declared.page.Decided.{Decided}
 use Rattle.pages.specs.declared.page.Decided.the-variants.{Sent, Crowded, Short}
@@ -113,7 +113,7 @@ Decides w l b r t t′ =
 -- ---- an answer as it is laid: up to the first element, from behind the last to the knowledge, and the ends
 
 unfoldable pub answerFront : List ℕ
-answerFront = versionBytes ++ (responseBytes ++ packageFront)
+answerFront = versionBytes answerSignature ++ (responseBytes ++ packageFront)
 
 unfoldable pub answerMiddle : ℕ → ExtendedGuid → Bool → List ℕ
 answerMiddle id index partial = endBytes 0x15 ++ (subResponseBytes id ++ changesBytes index partial)

@@ -17,9 +17,13 @@ use Rattle.store.specs.Written.{packageFront}
 use Rattle.store.specs.KnowledgeWritten.{knowledgeBytes}
 use Rattle.store.specs.declared.element.Element.{Element}
 
--- "version 12, minimum 11, the signature of 000, 2.2.3"
-unfoldable pub versionBytes : List ℕ
-versionBytes = bytes 2 12 ++ (bytes 2 11 ++ bytes 8 0x9B069439F329CF9D)
+-- "version 12, minimum 11", and a signature
+unfoldable pub versionBytes : ℕ → List ℕ
+versionBytes signature = bytes 2 12 ++ (bytes 2 11 ++ bytes 8 signature)
+
+-- "the signature of 000, 2.2.3"
+abbrev pub answerSignature : ℕ
+answerSignature = 0x9B069439F329CF9D
 
 -- "response start (length 1) and a zero byte"
 unfoldable pub responseBytes : List ℕ
@@ -61,6 +65,6 @@ endsBytes = endBytes 0x41 ++ endBytes 0x62
 -- the whole, in the order of the sentence
 unfoldable pub answerBytes : List ℕ → ℕ → ExtendedGuid → List Element → Bool → List Range → List ℕ
 answerBytes s id index page partial l =
-    versionBytes
+    versionBytes answerSignature
     ++ (responseBytes
     ++ (packageOf s page ++ (subResponseBytes id ++ (changesBytes index partial ++ (knowledgeBytes l ++ endsBytes)))))

@@ -113,15 +113,8 @@ fn answer_page(
     let mut flags = [0u8; 256];
     mark_wanted(request, a, elements, ids, n, known, &mut flags);
     let index = storage_index(elements, ids, n);
-    match decide(
-        elements,
-        ids,
-        n,
-        &flags,
-        known,
-        a.known,
-        bounds_of(a, index, out.len()),
-    ) {
+    let bounds = bounds_of(a, index, out.len());
+    match decide(elements, ids, n, &flags, known, a.known, bounds) {
         Decided::Crowded => Answered::Refused(at_place(9, 0)),
         Decided::Short(needed) => Answered::Refused(too_short(needed)),
         Decided::Sent(k, whole, count, partial) => {

@@ -1,28 +1,13 @@
-// What is copied out when nothing is refused any more: bytes of the store, and the rows of both tables.
+// What is copied out when nothing is refused any more: the rows of both tables.
 ghost use mathlib.Core.Path.{_≡_};
 ghost use mathlib.Core.List.{_++_};
 ghost use Prim.Native.Nat.{_+_, _*_, _≤_};
 ghost use lib.ListN.{length, take, drop};
-ghost use Rattle.laws.specs.Placed.{Lays};
 ghost use Rattle.store.specs.RangeTable.{rangesAt};
 ghost use Rattle.pages.specs.Answer.{rangeRow, rangeRows};
 use numbers::guid::swap;
 use store::ranges::range_at;
 use talk::range::Range;
-
-// All of a part at a place of out. Ruled out (proofs/WrongAnswers): the byte behind it put to 0; its own place answered.
-pub fn lay_part(out: &mut [u8], at: usize, part: &[u8]) -> usize
-    requires { ⌜ at + length (now part) ≤ length (now out) ⌝ }
-    ensures { λ r. ⌜ Lays at (now (part .entry)) (now (out .entry)) r (now (out .exit)) ⌝ }
-{
-    let n = part.len();
-    let mut i = 0;
-    while i < n {
-        out[at + i] = part[i];
-        i += 1;
-    }
-    at + n
-}
 
 // The first n numbers of a table, over the front of another. Ruled out (proofs/WrongAnswers): the later numbers put to 0; nothing
 // copied.

@@ -1,29 +1,27 @@
 // The answer written for a page that was decided: each function lays a part at a place, and answers the place behind it. The
 // whole length was judged before.
 ghost use mathlib.Core.Path.{_≡_};
-ghost use mathlib.Core.List.{_∷_, []};
 ghost use Prim.Native.Nat.{_+_, _*_, _≤_};
 ghost use lib.ListN.{length, take};
-ghost use Rattle.laws.specs.Bytes.{bytes};
 ghost use Rattle.laws.specs.Placed.{Lays};
-ghost use Rattle.numbers.specs.ExtendedGuid.{extendedGuidBytes};
 ghost use Rattle.store.specs.RangeTable.{rangesAt};
 ghost use Rattle.store.specs.KnowledgeWritten.{knowledgeBytes};
 ghost use Rattle.pages.specs.Written.{versionBytes, elementsBytes, subResponseBytes, changesBytes, endsBytes, answerBytes, partialByte};
 ghost use Rattle.pages.specs.Tables.{chosenIn, answerFront, answerMiddle, fixedLength};
-use crate::tables::lay_part;
 use crate::wanted::element_at;
-use numbers::bytes::put_le;
 use numbers::compact::compact_length;
 use numbers::extended_guid::ExtendedGuid;
 use numbers::extended_guid::extended_guid_length;
-use numbers::extended_guid::write_extended_guid;
 use objects::layout::part;
 use store::element::PACKAGE;
 use store::knowledge_write::knowledge_length;
 use store::knowledge_write::write_knowledge;
+use store::lay::lay_byte;
 use store::lay::lay_end;
+use store::lay::lay_extended_guid;
+use store::lay::lay_le;
 use store::lay::lay_number;
+use store::lay::lay_part;
 use store::lay::lay_start;
 
 // The types of the objects.
@@ -43,39 +41,14 @@ pub fn fixed_length(id: u64, index: ExtendedGuid) -> usize
     39 + compact_length(id) + extended_guid_length(index)
 }
 
-// n bytes of a number.
-fn lay_le(out: &mut [u8], at: usize, n: usize, x: u64) -> usize
-    requires { ⌜ at + n ≤ length (now out) ⌝ }
-    ensures { λ r. ⌜ Lays at (bytes n x) (now (out .entry)) r (now (out .exit)) ⌝ }
-{
-    put_le(&mut out[at..], n, x);
-    at + n
-}
-
-// One byte.
-fn lay_byte(out: &mut [u8], at: usize, b: u8) -> usize
-    requires { ⌜ at + 1 ≤ length (now out) ⌝ }
-    ensures { λ r. ⌜ Lays at (b ∷ []) (now (out .entry)) r (now (out .exit)) ⌝ }
-{
-    out[at] = b;
-    at + 1
-}
-
-fn lay_extended_guid(out: &mut [u8], at: usize, x: ExtendedGuid) -> usize
-    requires { ⌜ at + length (extendedGuidBytes x) ≤ length (now out) ⌝ }
-    ensures { λ r. ⌜ Lays at (extendedGuidBytes x) (now (out .entry)) r (now (out .exit)) ⌝ }
-{
-    write_extended_guid(&mut out[at..], x);
-    at + extended_guid_length(x)
-}
-
-fn lay_versions(out: &mut [u8], at: usize) -> usize
-    requires { ⌜ at + length versionBytes ≤ length (now out) ⌝ }
-    ensures { λ r. ⌜ Lays at versionBytes (now (out .entry)) r (now (out .exit)) ⌝ }
+// The versions, and this signature.
+pub fn lay_versions(out: &mut [u8], at: usize, signature: u64) -> usize
+    requires { ⌜ at + length (versionBytes signature) ≤ length (now out) ⌝ }
+    ensures { λ r. ⌜ Lays at (versionBytes signature) (now (out .entry)) r (now (out .exit)) ⌝ }
 {
     let behind_version = lay_le(out, at, 2, 12);
     let behind_minimum = lay_le(out, behind_version, 2, 11);
-    lay_le(out, behind_minimum, 8, SIGNATURE)
+    lay_le(out, behind_minimum, 8, signature)
 }
 
 // Up to the first element.
@@ -83,7 +56,7 @@ fn lay_front(out: &mut [u8], at: usize) -> usize
     requires { ⌜ at + length answerFront ≤ length (now out) ⌝ }
     ensures { λ r. ⌜ Lays at answerFront (now (out .entry)) r (now (out .exit)) ⌝ }
 {
-    let behind_versions = lay_versions(out, at);
+    let behind_versions = lay_versions(out, at, SIGNATURE);
     let behind_start = lay_start(out, behind_versions, RESPONSE, true, 1);
     let behind_response = lay_byte(out, behind_start, 0);
     let behind_package = lay_start(out, behind_response, PACKAGE, true, 1);

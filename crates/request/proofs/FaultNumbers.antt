@@ -19,7 +19,7 @@ use Rattle.objects.proofs.FaultNumbers.{Numbered, numbered-valued, numbered-nee
 use Rattle.store.specs.Knowledge.{Knowing}
 use Rattle.store.proofs.FaultNumbers.{numbered-knowledge}
 use Rattle.request.specs.Filter.{kindTaken, kindByte, kindField, filterFields, oneNumber, typePart, idStep, idsFrom, idsField, idsPart, kindPart, filterStart, filterKind, filterOpened, filterAt, filtersFrom}
-use Rattle.request.specs.Message.{versions, userAgent, subRequestFields, subRequest, queryChanges, argumentFields, arguments, constraint, knowledgePart, packagePart, identified, constrainedFrom, constrained, filtered, ended, requestKnowing, inRequest, requestAnswer, requestIn}
+use Rattle.request.specs.Message.{versions, requestSignature, userAgent, subRequestFields, subRequest, queryChanges, argumentFields, arguments, constraint, knowledgePart, packagePart, identified, constrainedFrom, constrained, filtered, ended, requestKnowing, inRequest, requestAnswer, requestIn}
 use Rattle.request.specs.declared.message.Request.{Request}
 use Rattle.request.specs.declared.message.Request.the-variants as request
 
@@ -81,7 +81,7 @@ numbered-filter s c g =
     (numbered-kind-part s (filterKind s c) _
     (numbered-closed s o (filterFields (runHere s o) .last) (numbered-start s 0x42 0x47 true true c g) (numbered-filter-fields (runHere s o))))
 
-numbered-filters : (left : ℕ) (s : List ℕ) (c : Reading) → Numbered c → Numbered (filtersFrom left s c)
+pub numbered-filters : (left : ℕ) (s : List ℕ) (c : Reading) → Numbered c → Numbered (filtersFrom left s c)
 unfolding filtersFrom
 numbered-filters zero s c g =
     pick-all Numbered (nextIs s 0x47 c) _ _ (λ e. numbered-start s 0x42 0x47 true false c g) (λ e. numbered-valued 16 c g)
@@ -90,10 +90,10 @@ numbered-filters (suc left) s c g =
 
 -- ---- the parts
 
-numbered-versions : (s : List ℕ) → Numbered (versions s)
+pub numbered-versions : (signature : ℕ) (s : List ℕ) → Numbered (versions signature s)
 unfolding versions
-numbered-versions s =
-    numbered-fixed s 8 0x9B069439F329CF9C 0x9B069439F329CF9C 7 _ (omega arith)
+numbered-versions signature s =
+    numbered-fixed s 8 signature signature 7 _ (omega arith)
     (numbered-fixed s 2 0 12 7 _ (omega arith) (numbered-fixed s 2 12 0xFFFF 7 (At 0 0) (omega arith) tt))
 
 numbered-user-agent : (s : List ℕ) (c : Reading) → Numbered c → Numbered (userAgent s c)
@@ -118,7 +118,7 @@ numbered-filtered : (s : List ℕ) → Numbered (filtered s)
 unfolding identified
 numbered-filtered s =
     numbered-filters 16 s (constrained s)
-    (numbered-constrained-from s (identified s) (numbered-sub-request s _ (numbered-user-agent s _ (numbered-versions s))))
+    (numbered-constrained-from s (identified s) (numbered-sub-request s _ (numbered-user-agent s _ (numbered-versions requestSignature s))))
 
 numbered-knowledge-part : (s t : List ℕ) (c : Reading) → Numbered c → Numbered (knowledgePart s t c .last)
 unfolding knowledgePart

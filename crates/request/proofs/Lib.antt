@@ -1,6 +1,7 @@
 pub mod Inside
 pub mod Turns
 pub mod Whole
+pub mod RequestFits
 pub mod FiltersCarry
 pub mod Places
 pub mod FaultNumbers

@@ -18,7 +18,7 @@ use Rattle.objects.proofs.Keep.{good-front, good-place, good-fixed, good-valued
 use Rattle.store.specs.Knowledge.{Knowing}
 use Rattle.store.proofs.KnowledgeHeld.{knowledge-good}
 use Rattle.request.specs.Filter.{filterFields, oneNumber, typePart, idsField, idsPart, kindPart, filterStart, filterKind, filterOpened, filterAt, filtersFrom}
-use Rattle.request.specs.Message.{versions, userAgent, subRequestFields, subRequest, queryChanges, argumentFields, arguments, constraint, knowledgePart, packagePart, identified, constrainedFrom, constrained, filtered, ended, requestKnowing, inRequest, requestAnswer, requestIn}
+use Rattle.request.specs.Message.{versions, requestSignature, userAgent, subRequestFields, subRequest, queryChanges, argumentFields, arguments, constraint, knowledgePart, packagePart, identified, constrainedFrom, constrained, filtered, ended, requestKnowing, inRequest, requestAnswer, requestIn}
 use Rattle.request.specs.declared.message.Request.the-variants as request
 use Rattle.request.proofs.Inside.{good-one-number, good-sub-request-fields, good-argument-fields, good-filter-fields, good-ids-field}
 
@@ -41,7 +41,7 @@ good-filter s c g =
     let o = filterStart s c in
     good-end s 0x47 _ (good-kind-part s (filterKind s c) _ (good-closed s o (filterFields (runHere s o) .last) (good-start s 0x42 0x47 true true c g) (good-filter-fields (runHere s o))))
 
-good-filters : (left : ℕ) (s : List ℕ) (c : Reading) → Good s c → Good s (filtersFrom left s c)
+pub good-filters : (left : ℕ) (s : List ℕ) (c : Reading) → Good s c → Good s (filtersFrom left s c)
 unfolding filtersFrom
 good-filters zero s c g = pick-all (Good s) (nextIs s 0x47 c) _ _ (λ e. good-start s 0x42 0x47 true false c g) (λ e. good-valued s 16 c g)
 good-filters (suc left) s c g =
@@ -49,10 +49,10 @@ good-filters (suc left) s c g =
 
 -- ---- the parts
 
-good-versions : (s : List ℕ) → Good s (versions s)
+pub good-versions : (signature : ℕ) (s : List ℕ) → Good s (versions signature s)
 unfolding versions
-good-versions s =
-    good-fixed s 8 0x9B069439F329CF9C 0x9B069439F329CF9C 7 _ (good-fixed s 2 0 12 7 _ (good-fixed s 2 12 0xFFFF 7 (At 0 0) (good-front s 0)))
+good-versions signature s =
+    good-fixed s 8 signature signature 7 _ (good-fixed s 2 0 12 7 _ (good-fixed s 2 12 0xFFFF 7 (At 0 0) (good-front s 0)))
 
 good-user-agent : (s : List ℕ) (c : Reading) → Good s c → Good s (userAgent s c)
 unfolding userAgent
@@ -74,7 +74,7 @@ good-constrained-from s c g =
 
 good-constrained : (s : List ℕ) → Good s (constrained s)
 unfolding identified
-good-constrained s = good-constrained-from s (identified s) (good-sub-request s _ (good-user-agent s _ (good-versions s)))
+good-constrained s = good-constrained-from s (identified s) (good-sub-request s _ (good-user-agent s _ (good-versions requestSignature s)))
 
 good-filtered : (s : List ℕ) → Good s (filtered s)
 good-filtered s = good-filters 16 s (constrained s) (good-constrained s)

@@ -100,13 +100,13 @@ from-place s (At q v) = filters-from (valueOf (filtersFrom 16 s (At q v))) s q 0
 from-place s (Refused r) = rw (none-after s r)
 
 asked-parts : (c : Reading) (a b p n m a′ b′ p′ n′ m′ : ℕ) → requestAnswer c a b p n m ≡ request.Asked a′ b′ p′ n′ m′
-    → (p ≡ p′) × (n ≡ n′) × (m ≡ m′)
+    → (p ≡ p′) × (n ≡ n′) × (m ≡ m′) × (a ≡ a′)
 unfolding requestAnswer
-asked-parts (At e v) a b p n m a′ b′ p′ n′ m′ h = (cc, cc, cc)
+asked-parts (At e v) a b p n m a′ b′ p′ n′ m′ h = (cc, cc, cc, cc)
 asked-parts (Refused r) a b p n m a′ b′ p′ n′ m′ h = impossible (cc)
 
 module _ (s t : List ℕ) (a b p n m : ℕ) (h : requestIn s t ≡ request.Asked a b p n m) where
-  told-parts : (placeOf (constrained s) ≡ p) × (valueOf (filtered s) ≡ n) × (length (requestKnowing s t .ranges) ≡ m)
+  told-parts : (placeOf (constrained s) ≡ p) × (valueOf (filtered s) ≡ n) × (length (requestKnowing s t .ranges) ≡ m) × (valueOf (identified s) ≡ a)
   unfolding requestIn
   told-parts =
       asked-parts (ended s (requestKnowing s t .last)) (valueOf (identified s)) (valueOf (constrained s)) (placeOf (constrained s)) (valueOf (filtered s)) (length (requestKnowing s t .ranges)) a b p n m h
@@ -118,3 +118,7 @@ module _ (s t : List ℕ) (a b p n m : ℕ) (h : requestIn s t ≡ request.Asked
   -- as many ranges are known as are told
   pub asked-known : length (requestKnowing s t .ranges) ≡ m
   asked-known = told-parts .2
+
+  -- the id that is told stands in the sub-request
+  pub asked-id : valueOf (identified s) ≡ a
+  asked-id = told-parts .3

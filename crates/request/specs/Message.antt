@@ -23,10 +23,12 @@ use Rattle.request.specs.Meaning.{Filter, filtersRead}
 use Rattle.request.specs.declared.message.Request.{Request}
 use Rattle.request.specs.declared.message.Request.the-variants as request
 
--- "version at least 12, minimum version at most 12, signature 0x9B069439F329CF9C"
-unfoldable pub versions : List ℕ → Reading
-versions s =
-    At 0 0 ▹ fixedIn s 2 12 0xFFFF 7 ▹ fixedIn s 2 0 12 7 ▹ fixedIn s 8 0x9B069439F329CF9C 0x9B069439F329CF9C 7
+-- "version at least 12, minimum version at most 12", and a signature: a request has its own, and so has an answer
+unfoldable pub versions : ℕ → List ℕ → Reading
+versions signature s = At 0 0 ▹ fixedIn s 2 12 0xFFFF 7 ▹ fixedIn s 2 0 12 7 ▹ fixedIn s 8 signature signature 7
+
+abbrev pub requestSignature : ℕ
+requestSignature = 0x9B069439F329CF9C
 
 -- "request start; user agent, contents only nested": fourteen levels are left inside these two
 unfoldable pub userAgent : List ℕ → Reading → Reading
@@ -69,7 +71,7 @@ packagePart s c = pick (nextIs s 0x15 c) (c ▹ startOfLength s 0x40 0x15 true t
 
 -- up to the sub-request's fields; the number is the id
 unfoldable pub identified : List ℕ → Reading
-identified s = versions s ▹ userAgent s ▹ subRequest s
+identified s = versions requestSignature s ▹ userAgent s ▹ subRequest s
 
 -- from there to the constraint; the number is the limit, and the filters stand here
 unfoldable pub constrainedFrom : List ℕ → Reading → Reading

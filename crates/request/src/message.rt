@@ -37,7 +37,7 @@ pub const NO_LIMIT: u64 = 0xFFFFFFFFFFFFFFFF;
 // Levels left inside the user agent and the package, and inside a specialized knowledge of another kind.
 const LEVELS_INSIDE: usize = 14;
 
-const KNOWLEDGE_LEVELS: usize = 12;
+pub const KNOWLEDGE_LEVELS: usize = 12;
 
 // What was asked: the id, the limit, where the filters stand, how many they are, and how many ranges are known.
 pub enum Request {
@@ -45,14 +45,14 @@ pub enum Request {
     Refused(Refusal),
 }
 
-// The versions and the signature.
-fn versions(s: &[u8]) -> Reading
-    ensures { λ r. ⌜ r ≡ versions (now (s .entry)) ⌝ }
+// The versions, and this signature.
+pub fn versions(s: &[u8], signature: u64) -> Reading
+    ensures { λ r. ⌜ r ≡ versions signature (now (s .entry)) ⌝ }
 {
     Reading::At(0, 0)
         .fixed_in(s, 2, 12, 0xFFFF, 7)
         .fixed_in(s, 2, 0, 12, 7)
-        .fixed_in(s, 8, SIGNATURE, SIGNATURE, 7)
+        .fixed_in(s, 8, signature, signature, 7)
 }
 
 // The start of the request, and the user agent.
@@ -131,7 +131,7 @@ fn package_part(s: &[u8], c: Reading) -> Reading
 fn identified(s: &[u8]) -> Reading
     ensures { λ r. ⌜ r ≡ identified (now (s .entry)) ⌝ }
 {
-    sub_request(s, user_agent(s, versions(s)))
+    sub_request(s, user_agent(s, versions(s, SIGNATURE)))
 }
 
 // From there to the constraint.
@@ -151,7 +151,7 @@ fn ended(s: &[u8], c: Reading) -> Reading
 }
 
 // On from behind the knowledge.
-fn on_knowledge(k: ReadKnowledge) -> Reading
+pub fn on_knowledge(k: ReadKnowledge) -> Reading
     ensures { λ r. ⌜ r ≡ onKnowledge k ⌝ }
 {
     match k {
@@ -182,7 +182,7 @@ fn knowledge_part(s: &[u8], c: Reading, table: &mut [u64]) -> ReadKnowledge
 }
 
 // A fault of the second input.
-fn in_request(r: Refusal) -> Refusal
+pub fn in_request(r: Refusal) -> Refusal
     ensures { λ q. ⌜ q ≡ inRequest r ⌝ }
 {
     Refusal {

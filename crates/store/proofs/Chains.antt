@@ -1,5 +1,5 @@
 -- What a walk that ends well has read: its elements are a chain from the package's start to its end, which tile it, and no id
--- and no serial number stands twice among them.
+-- and no serial number stands twice among them; and such a chain is walked to its end.
 -- Assumes nothing.
 use mathlib.Core.Path.{_≡_, refl, sym, subst, ap, _∙_}
 use mathlib.Core.Bool.{true, false}
@@ -10,17 +10,17 @@ use lib.ListN.{length}
 use lib.Dec.{eqb}
 use borrow.Author.Tests.{lt-ltb, le-ltb}
 use Rattle.laws.specs.Once.{once}
-use Rattle.laws.proofs.Cases.{by-bool, by-lt, pick-all, impossible}
+use Rattle.laws.proofs.Cases.{by-bool, by-lt, pick-all, impossible, eqb-turn}
 use Rattle.laws.proofs.Twice.{once-more}
 use Rattle.numbers.specs.Refusals.{longestInput}
-use Rattle.objects.specs.Steps.{_▹_, no, sameBit, placeOf, startOn, startHere, endHere, nextIs, finish, Behind, insideOn, inside}
+use Rattle.objects.specs.Steps.{_▹_, no, sameBit, nothingOpen, placeOf, skip, startOn, startOfLength, startHere, endOn, endHere, startIs, nextIs, finish, Behind, insideOn, inside}
 use Rattle.objects.specs.Header.{headerAt}
 use Rattle.objects.specs.declared.header.Header.{Header}
 use Rattle.objects.specs.declared.header.Header.the-variants as header
 use Rattle.objects.specs.declared.reading.Reading.{Reading}
 use Rattle.objects.specs.declared.reading.Reading.the-variants as reading
 use Rattle.store.specs.Element.{sameKey, elementAt, dataOf, idsIn, serialsIn}
-use Rattle.store.specs.Store.{packageStart, Walk, closing, onElement, walkFrom, storeWalk}
+use Rattle.store.specs.Store.{packageStart, Walk, walked, closing, onElement, walkFrom, packageWalk, finished, storeWalk}
 use Rattle.store.specs.Chain.{Chain, Fresh, Tiles}
 use Rattle.store.specs.declared.element.Key.{Key}
 use Rattle.store.specs.declared.element.Element.{Element}
@@ -31,19 +31,20 @@ use Rattle.objects.specs.declared.nesting.Passed.{Passed}
 use Rattle.objects.specs.declared.nesting.Passed.the-variants as passed
 use Rattle.objects.proofs.Ahead.{run-next}
 use Rattle.store.proofs.Fields.{element-parts, data-at-least}
-use Rattle.store.proofs.PackageWritten.{same-turn}
+use Rattle.store.proofs.ElementCarry.{element-made}
 use Rattle.store.proofs.Taken.{Stands, element-unseen}
+use Rattle.store.proofs.Walks.{walk-ends, walk-element}
 
 -- ---- the walk
 
--- what a walk from a place has read, if no fault stands at its end: a chain, and behind it the package's end and nothing more
+-- what a walk from a place has read, if no fault stands at its end: a chain, and behind it the package's end
 pub record Read (s : List ℕ) (done : List Element) (at : ℕ) (w : Walk) : Type 0 where
   pub elements : List Element
   pub end : ℕ
   pub value : ℕ
   pub split : w .elements ≡ done ++ elements
   pub chain : Chain s done at elements end
-  pub ends : w .last ≡ (reading.At end value ▹ endHere s 0x15 ▹ finish s)
+  pub ends : w .last ≡ (reading.At end value ▹ endHere s 0x15)
 
 -- the number that a state carries does not matter
 any-value : (s : List ℕ) (done : List Element) (at v : ℕ)
@@ -146,7 +147,11 @@ chain-serials s done [] at e c = tt
 chain-serials s done (x ∷ xs) at e c =
     (element-unseen 14 (idsIn done) (serialsIn done) s (reading.At at 0) x (c .0) .1, chain-serials s (done ++ (x ∷ [])) xs (x .place + x .length) e (c .1))
 
--- so none stands twice
+-- so none stands twice; to be the same key does not care for the order
+pub same-turn : (a b : Key) → sameKey a b ≡ sameKey b a
+unfolding sameKey
+same-turn a b = rw (eqb-turn (a .low) (b .low), eqb-turn (a .high) (b .high), eqb-turn (a .number) (b .number))
+
 once-fresh : (key : Element → Key) (done xs : List Element) → once sameKey (map key done) ≡ true → Fresh key done xs
     → once sameKey (map key (done ++ xs)) ≡ true
 once-fresh key done [] h f = rw (append-nil done) h
@@ -155,52 +160,166 @@ once-fresh key done (x ∷ xs) h f =
     ap (once sameKey) (map-append key done (x ∷ [])) ∙ once-more sameKey same-turn (key x) (map key done) ∙ rw (h, f .0) in
     rw (← append-assoc done (x ∷ []) xs) (once-fresh key (done ++ (x ∷ [])) xs e (f .1))
 
+pub chain-ids-once : (s : List ℕ) (xs : List Element) (at e : ℕ) → Chain s [] at xs e → once sameKey (map (λ (x : Element). x .id) xs) ≡ true
+unfolding once
+chain-ids-once s xs at e c = once-fresh (λ x. x .id) [] xs refl (chain-ids s [] xs at e c)
+
+pub chain-serials-once : (s : List ℕ) (xs : List Element) (at e : ℕ) → Chain s [] at xs e → once sameKey (map (λ (x : Element). x .serial) xs) ≡ true
+unfolding once
+chain-serials-once s xs at e c = once-fresh (λ x. x .serial) [] xs refl (chain-serials s [] xs at e c)
+
+-- ---- a chain is walked
+
+-- where an end was read, no start stands
+end-on-no-start : (kind other at q u : ℕ) (h : Header) → endOn kind at h ≡ reading.At q u → startIs other h ≡ false
+end-on-no-start kind other at q u (header.Refused r) e = refl
+end-on-no-start kind other at q u (header.End k n) e = refl
+end-on-no-start kind other at q u (header.Start k b n m) e = impossible (cc)
+
+end-no-start : (s : List ℕ) (kind other at v q u : ℕ) → endHere s kind (reading.At at v) ≡ reading.At q u → nextIs s other (reading.At at v) ≡ false
+unfolding endHere nextIs
+end-no-start s kind other at v q u e = end-on-no-start kind other at q u (headerAt s at) e
+
+-- where an element was read, its start stands
+element-next : (depth : ℕ) (ids serials : List Key) (s : List ℕ) (at v : ℕ) (x : Element) → elementAt depth ids serials s (reading.At at v) ≡ element.Is x
+    → nextIs s 0x01 (reading.At at v) ≡ true
+unfolding nextIs
+element-next depth ids serials s at v x h = rw (element-made depth ids serials s at v x h .stands .start)
+
+any-end : (s : List ℕ) (kind at v : ℕ) → endHere s kind (reading.At at 0) ≡ endHere s kind (reading.At at v)
+unfolding endHere
+any-end s kind at v = refl
+
+pub chain-walked : (left : ℕ) (s : List ℕ) (done xs : List Element) (at v e q u : ℕ) → Chain s done at xs e → length xs ≤ left
+    → endHere s 0x15 (reading.At e 0) ≡ reading.At q u → walkFrom left s done (reading.At at v) ≡ walked (done ++ xs) (reading.At q u)
+chain-walked left s done [] at v e q u c l h =
+    let d : endHere s 0x15 (reading.At at v) ≡ reading.At q u = sym (any-end s 0x15 at v) ∙ rw c h in
+    walk-ends left s done (reading.At at v) (end-no-start s 0x15 0x01 at v q u d) ∙ rw (d, append-nil done)
+chain-walked zero s done (x ∷ xs) at v e q u c l h = absurd (omega arith)
+chain-walked (suc left) s done (x ∷ xs) at v e q u c l h =
+    let i : elementAt 14 (idsIn done) (serialsIn done) s (reading.At at v) ≡ element.Is x = sym (any-value s done at v) ∙ c .0 in
+    walk-element left s done (reading.At at v) (element-next 14 (idsIn done) (serialsIn done) s at v x i) (element.Is x) i
+    ∙ chain-walked left s (done ++ (x ∷ [])) xs (x .place + x .length) 0 e q u (c .1) (omega arith) h
+    ∙ rw (append-assoc done (x ∷ []) xs)
+
+pub package-walked : (outer : ℕ) (s : List ℕ) (c : Reading) (first v : ℕ) (xs : List Element) (e q u : ℕ)
+    → packageStart outer s c ≡ reading.At first v → Chain s [] first xs e → length xs ≤ 256 → endHere s 0x15 (reading.At e 0) ≡ reading.At q u
+    → packageWalk outer s c ≡ walked xs (reading.At q u)
+package-walked outer s c first v xs e q u h chain l ends =
+    ap (walkFrom 256 s []) h ∙ chain-walked 256 s [] xs first v e q u chain l ends
+
+-- ---- a package that is read
+
+-- from its first element's place, behind the package's start and reserved byte, to the place behind its end
+pub record PackageRead (outer : ℕ) (s : List ℕ) (c : Reading) : Type 0 where
+  pub first : ℕ
+  pub end : ℕ
+  pub behind : ℕ
+  pub start : packageStart outer s c ≡ reading.At first 0
+  pub chain : Chain s [] first (packageWalk outer s c .elements) end
+  pub ends : endHere s 0x15 (reading.At end 0) ≡ reading.At behind 0
+  pub last : packageWalk outer s c .last ≡ reading.At behind 0
+
+-- no step that ends here carries a number on
+skip-zero : (s : List ℕ) (n : ℕ) (c : Reading) (p v : ℕ) → skip s n c ≡ reading.At p v → v ≡ 0
+unfolding skip
+skip-zero s n (reading.At at u) p v e =
+    by-lt (length s - at) n
+    (λ l. let z : no 2 at ≡ reading.At p v = rw (lt-ltb (length s - at) n l) at e in impossible (cc))
+    (λ l. let z : reading.At (at + n) 0 ≡ reading.At p v = rw (le-ltb (length s - at) n l) at e in cc)
+skip-zero s n (reading.Refused r) p v e = impossible (cc)
+
+start-zero : (outer : ℕ) (s : List ℕ) (c : Reading) (p v : ℕ) → packageStart outer s c ≡ reading.At p v → v ≡ 0
+unfolding packageStart
+start-zero outer s c p v e = skip-zero s 1 (startOfLength s outer 0x15 true true 1 c) p v e
+
+end-zero-on : (kind at q u : ℕ) (h : Header) → endOn kind at h ≡ reading.At q u → u ≡ 0
+end-zero-on kind at q u (header.Refused r) e = impossible (cc)
+end-zero-on kind at q u (header.End k n) e =
+    by-bool (eqb k kind) (λ b. let z : reading.At (at + n) 0 ≡ reading.At q u = rw b at e in cc)
+    (λ b. let z : no 4 at ≡ reading.At q u = rw b at e in impossible (cc))
+end-zero-on kind at q u (header.Start k b n m) e = impossible (cc)
+
+end-zero : (s : List ℕ) (kind at v q u : ℕ) → endHere s kind (reading.At at v) ≡ reading.At q u → u ≡ 0
+unfolding endHere
+end-zero s kind at v q u e = end-zero-on kind at q u (headerAt s at) e
+
+package-ended : (outer : ℕ) (s : List ℕ) (c : Reading) (at v : ℕ) → packageStart outer s c ≡ reading.At at v → (r : Read s [] at (packageWalk outer s c))
+    → (e : Reading) → packageWalk outer s c .last ≡ e → Stands e → PackageRead outer s c
+package-ended outer s c at v b r (reading.At q u) h k =
+    let y : v ≡ 0 = start-zero outer s c at v b in
+    let d : endHere s 0x15 (reading.At (r .end) (r .value)) ≡ reading.At q u = sym (r .ends) ∙ h in
+    let z : u ≡ 0 = end-zero s 0x15 (r .end) (r .value) q u d in
+    record {
+      first = at;
+      end = r .end;
+      behind = q;
+      start = rw y at b;
+      chain = subst (λ (xs : List Element). Chain s [] at xs (r .end)) (sym (r .split)) (r .chain);
+      ends = any-end s 0x15 (r .end) (r .value) ∙ rw z at d;
+      last = rw z at h;
+    }
+package-ended outer s c at v b r (reading.Refused q) h k = absurd k
+
+package-begun : (outer : ℕ) (s : List ℕ) (c d : Reading) → packageStart outer s c ≡ d → Stands (packageWalk outer s c .last) → PackageRead outer s c
+unfolding nextIs endHere
+package-begun outer s c (reading.At at v) b h =
+    let w : packageWalk outer s c ≡ walkFrom 256 s [] (reading.At at v) = ap (walkFrom 256 s []) b in
+    let r : Read s [] at (packageWalk outer s c) = rw w (walk-read 256 s [] at v (rw w at h)) in
+    package-ended outer s c at v b r (packageWalk outer s c .last) refl h
+package-begun outer s c (reading.Refused q) b h =
+    let w : packageWalk outer s c ≡ walked [] (reading.Refused q) = ap (walkFrom 256 s []) b ∙ walk-ends 256 s [] (reading.Refused q) refl in
+    absurd (rw w at h)
+
+pub package-read : (outer : ℕ) (s : List ℕ) (c : Reading) → Stands (packageWalk outer s c .last) → PackageRead outer s c
+package-read outer s c h = package-begun outer s c (packageStart outer s c) refl h
+
 -- ---- a store that is read
 
--- from its first element's place, behind the package's start and reserved byte
 pub record StoreRead (s : List ℕ) : Type 0 where
   pub first : ℕ
   pub end : ℕ
   pub value : ℕ
-  pub start : placeOf (packageStart s) ≡ first
+  pub start : placeOf (packageStart nothingOpen s (reading.At 0 0)) ≡ first
   pub chain : Chain s [] first (storeWalk s .elements) end
   pub ends : storeWalk s .last ≡ (reading.At end value ▹ endHere s 0x15 ▹ finish s)
-
-package-read : (s : List ℕ) (c : Reading) → packageStart s ≡ c → Stands (walkFrom 256 s [] c .last) → length s ≤ longestInput → StoreRead s
-unfolding storeWalk walkFrom endHere finish nextIs placeOf
-package-read s (reading.At at v) e h l =
-    let r = walk-read 256 s [] at v h in
-    let w : storeWalk s ≡ walkFrom 256 s [] (reading.At at v) = rw (le-ltb longestInput (length s) l, e) in
-    record {
-      first = at;
-      end = r .end;
-      value = r .value;
-      start = ap placeOf e;
-      chain = subst (λ (xs : List Element). Chain s [] at xs (r .end)) (sym (ap (λ (x : Walk). x .elements) w ∙ r .split)) (r .chain);
-      ends = ap (λ (x : Walk). x .last) w ∙ r .ends;
-    }
-package-read s (reading.Refused r) e h l = absurd h
 
 pub over-long : (s : List ℕ) → longestInput < length s → Stands (storeWalk s .last) → ⊥
 unfolding storeWalk
 over-long s h = rw (lt-ltb longestInput (length s) h) (λ z. z)
 
-within-limit : (s : List ℕ) → length s ≤ longestInput → Stands (storeWalk s .last) → Stands (walkFrom 256 s [] (packageStart s) .last)
+within-limit : (s : List ℕ) → length s ≤ longestInput → storeWalk s ≡ finished s (packageWalk nothingOpen s (reading.At 0 0))
 unfolding storeWalk
-within-limit s h = rw (le-ltb longestInput (length s) h) (λ z. z)
+within-limit s h = rw (le-ltb longestInput (length s) h)
+
+stands-finish : (s : List ℕ) (c : Reading) → Stands (finish s c) → Stands c
+unfolding finish
+stands-finish s (reading.At p v) h = tt
+stands-finish s (reading.Refused r) h = h
+
+store-within : (s : List ℕ) → length s ≤ longestInput → Stands (storeWalk s .last) → StoreRead s
+unfolding placeOf
+store-within s l h =
+    let w = within-limit s l in
+    let r = package-read nothingOpen s (reading.At 0 0) (stands-finish s (packageWalk nothingOpen s (reading.At 0 0) .last) (rw w at h)) in
+    record {
+      first = r .first;
+      end = r .end;
+      value = 0;
+      start = ap placeOf (r .start);
+      chain = subst (λ (xs : List Element). Chain s [] (r .first) xs (r .end)) (sym (ap (λ (x : Walk). x .elements) w)) (r .chain);
+      ends = ap (λ (x : Walk). x .last) w ∙ ap (finish s) (r .last ∙ sym (r .ends));
+    }
 
 pub store-read : (s : List ℕ) → Stands (storeWalk s .last) → StoreRead s
-store-read s h =
-    by-lt longestInput (length s) (λ l. absurd (over-long s l h)) (λ l. package-read s (packageStart s) refl (within-limit s l h) l)
+store-read s h = by-lt longestInput (length s) (λ l. absurd (over-long s l h)) (λ l. store-within s l h)
 
 -- places and lengths tile the package; "no id twice, no serial twice in a store"
 pub store-tiles : (s : List ℕ) (r : StoreRead s) → Tiles (r .first) (storeWalk s .elements) (r .end)
 store-tiles s r = chain-tiles s [] (storeWalk s .elements) (r .first) (r .end) (r .chain)
 
 pub ids-once : (s : List ℕ) → StoreRead s → once sameKey (map (λ (x : Element). x .id) (storeWalk s .elements)) ≡ true
-unfolding once
-ids-once s r = once-fresh (λ x. x .id) [] (storeWalk s .elements) refl (chain-ids s [] (storeWalk s .elements) (r .first) (r .end) (r .chain))
+ids-once s r = chain-ids-once s (storeWalk s .elements) (r .first) (r .end) (r .chain)
 
 pub serials-once : (s : List ℕ) → StoreRead s → once sameKey (map (λ (x : Element). x .serial) (storeWalk s .elements)) ≡ true
-unfolding once
-serials-once s r = once-fresh (λ x. x .serial) [] (storeWalk s .elements) refl (chain-serials s [] (storeWalk s .elements) (r .first) (r .end) (r .chain))
+serials-once s r = chain-serials-once s (storeWalk s .elements) (r .first) (r .end) (r .chain)

@@ -1,6 +1,7 @@
--- The elements of a store that was read from bytes: each lies within the store, and the number of its id is one of 32 bits.
+-- The elements of a package that was read from bytes: each lies within the input, and its id and its serial number can be written;
+-- so the number of its id is one of 32 bits.
 -- Assumes nothing.
-use mathlib.Core.Path.{_≡_, refl}
+use mathlib.Core.Path.{_≡_, refl, subst}
 use mathlib.Core.Bool.{Bool, true, false}
 use mathlib.Core.List.{List, [], _∷_, _++_}
 use Prim.Native.Nat.{ℕ, _+_, _^_, _≤_, _<_}
@@ -9,18 +10,26 @@ use lib.ListN.{length, drop}
 use Rattle.laws.specs.Bytes.{AllBytes}
 use Rattle.laws.specs.Once.{seen}
 use Rattle.laws.proofs.Numbers.{drop-bytes}
-use Rattle.numbers.specs.ExtendedGuid.{readExtendedGuid}
+use Rattle.numbers.specs.ExtendedGuid.{readExtendedGuid, ExtendedGuidFits}
+use Rattle.numbers.specs.Serial.{readSerial, SerialFits}
 use Rattle.numbers.specs.declared.extended_guid.ExtendedGuid.the-variants as id
 use Rattle.numbers.specs.declared.extended_guid.ReadExtendedGuid.{ReadExtendedGuid}
 use Rattle.numbers.specs.declared.extended_guid.ReadExtendedGuid.the-variants as extended
+use Rattle.numbers.specs.declared.serial.Serial.the-variants as number
+use Rattle.numbers.specs.declared.serial.ReadSerial.{ReadSerial}
+use Rattle.numbers.specs.declared.serial.ReadSerial.the-variants as serial
 use Rattle.numbers.proofs.ExtendedGuids.{extended-guid-written-read}
-use Rattle.objects.specs.Steps.{idOn, idHere, runHere}
+use Rattle.numbers.proofs.Serials.{serial-written-read}
+use Rattle.objects.specs.Steps.{nothingOpen, placeOf, idOn, idHere, serialOn, serialHere, runHere, Good}
+use Rattle.objects.specs.declared.reading.Reading.{Reading}
 use Rattle.objects.specs.declared.reading.Reading.the-variants as reading
-use Rattle.objects.proofs.Keep.{good-place}
+use Rattle.objects.proofs.Keep.{good-front, good-place}
 use Rattle.talk.specs.Each.{Each}
+use Rattle.talk.proofs.Things.{each-so}
 use Rattle.store.specs.Chain.{Chain}
-use Rattle.store.specs.Element.{sameKey, idsIn, serialsIn, namedKey, freshKey, keyHere, idField, fieldsOf, opened}
-use Rattle.store.specs.Store.{packageStart, storeWalk}
+use Rattle.store.specs.Element.{sameKey, idsIn, serialsIn, namedKey, numberedKey, freshKey, keyHere, onKey, idField, serialField, fieldsOf, opened}
+use Rattle.store.specs.Store.{packageStart, packageWalk, storeWalk}
+use Rattle.store.specs.Written.{guidOf}
 use Rattle.store.specs.declared.element.Key.{Key}
 use Rattle.store.specs.declared.element.Element.{Element}
 use Rattle.store.specs.declared.element.ReadingKey.{ReadingKey}
@@ -28,44 +37,96 @@ use Rattle.store.specs.declared.element.ReadingKey.the-variants.{At, Ref
 use Rattle.store.proofs.Fields.{element-parts, element-within}
 use Rattle.store.proofs.KnowledgeFits.{run-bytes}
 use Rattle.store.proofs.Walks.{good-package}
-use Rattle.store.proofs.Chains.{StoreRead}
+use Rattle.store.proofs.Chains.{PackageRead, StoreRead}
 
--- ---- the number of an id
+-- ---- the keys
 
-named-fits : (d : List ℕ) (r : ReadExtendedGuid) → AllBytes d → readExtendedGuid (drop 0 d) ≡ r → keyHere (namedKey 0 (idOn 0 r)) .number < 2 ^ 32
+-- an id that can be written, and a serial number
+abbrev pub NamedFits : Key → Type 0
+NamedFits k = ExtendedGuidFits (id.Named (guidOf k) (k .number))
+
+abbrev pub NumberedFits : Key → Type 0
+NumberedFits k = SerialFits (number.Numbered (guidOf k) (k .number))
+
+named-fits : (d : List ℕ) (r : ReadExtendedGuid) → AllBytes d → readExtendedGuid (drop 0 d) ≡ r → NamedFits (keyHere (namedKey 0 (idOn 0 r)))
 unfolding namedKey keyHere
-named-fits d (extended.Value id.Null n) b e = omega arith
-named-fits d (extended.Value (id.Named g x) n) b e = extended-guid-written-read (drop 0 d) (id.Named g x) n (drop-bytes 0 d b) e .1 .1
-named-fits d (extended.Refused r) b e = omega arith
+named-fits d (extended.Value id.Null n) b e = ((omega arith, omega arith), omega arith)
+named-fits d (extended.Value (id.Named g x) n) b e = extended-guid-written-read (drop 0 d) (id.Named g x) n (drop-bytes 0 d b) e .1
+named-fits d (extended.Refused r) b e = ((omega arith, omega arith), omega arith)
 
-judged-fits : (p : ℕ) (was : Bool) (c : ReadingKey) → keyHere c .number < 2 ^ 32 → keyHere (freshKey p was c) .number < 2 ^ 32
+numbered-fits : (d : List ℕ) (p at : ℕ) (r : ReadSerial) → AllBytes d → readSerial (drop at d) ≡ r → NumberedFits (keyHere (numberedKey p (serialOn at r)))
+unfolding numberedKey keyHere
+numbered-fits d p at (serial.Value number.Null n) b e = ((omega arith, omega arith), omega arith)
+numbered-fits d p at (serial.Value (number.Numbered g x) n) b e = serial-written-read (drop at d) (number.Numbered g x) n (drop-bytes at d b) e .1
+numbered-fits d p at (serial.Refused r) b e = ((omega arith, omega arith), omega arith)
+
+-- what a key that was read keeps, it keeps where it was judged; after a fault it is made of zeros
+judged-fits : (P : Key → Type 0) (p : ℕ) (was : Bool) (c : ReadingKey) → P (record { low = 0; high = 0; number = 0 }) → P (keyHere c) → P (keyHere (freshKey p was c))
 unfolding freshKey keyHere
-judged-fits p true (At q k) h = omega arith
-judged-fits p false (At q k) h = h
-judged-fits p was (Refused r) h = omega arith
+judged-fits P p true (At q k) z h = z
+judged-fits P p false (At q k) z h = h
+judged-fits P p was (Refused r) z h = z
 
-id-fits : (ids serials : List Key) (d : List ℕ) → AllBytes d → fieldsOf ids serials d .id .number < 2 ^ 32
+id-fits : (ids serials : List Key) (d : List ℕ) → AllBytes d → NamedFits (fieldsOf ids serials d .id)
 unfolding fieldsOf idField idHere
 id-fits ids serials d b =
-    judged-fits 0 (seen sameKey (keyHere (namedKey 0 (idOn 0 (readExtendedGuid (drop 0 d))))) ids) (namedKey 0 (idOn 0 (readExtendedGuid (drop 0 d))))
-    (named-fits d (readExtendedGuid (drop 0 d)) b refl)
+    judged-fits NamedFits 0 (seen sameKey (keyHere (namedKey 0 (idOn 0 (readExtendedGuid (drop 0 d))))) ids) (namedKey 0 (idOn 0 (readExtendedGuid (drop 0 d))))
+    ((omega arith, omega arith), omega arith) (named-fits d (readExtendedGuid (drop 0 d)) b refl)
 
--- ---- each element of a store
+serial-here-fits : (d : List ℕ) (c : Reading) → AllBytes d → NumberedFits (keyHere (numberedKey (placeOf c) (serialHere d c)))
+unfolding serialHere numberedKey keyHere
+serial-here-fits d (reading.At at v) b = numbered-fits d (placeOf (reading.At at v)) at (readSerial (drop at d)) b refl
+serial-here-fits d (reading.Refused r) b = ((omega arith, omega arith), omega arith)
+
+serial-fits : (ids serials : List Key) (d : List ℕ) → AllBytes d → NumberedFits (fieldsOf ids serials d .serial)
+unfolding fieldsOf serialField
+serial-fits ids serials d b =
+    let c = onKey (idField ids d) in
+    let k = numberedKey (placeOf c) (serialHere d c) in
+    judged-fits NumberedFits (placeOf c) (seen sameKey (keyHere k) serials) k ((omega arith, omega arith), omega arith) (serial-here-fits d c b)
+
+-- ---- each element of a package
 
 abbrev pub ElementFits : List ℕ → Element → Type 0
 ElementFits s x = (x .place + x .length ≤ length s) × (x .id .number < 2 ^ 32)
 
-chain-fits : (s : List ℕ) (done xs : List Element) (at e : ℕ) → AllBytes s → at ≤ length s → Chain s done at xs e → Each (ElementFits s) xs
+abbrev pub KeysFit : Element → Type 0
+KeysFit x = NamedFits (x .id) × NumberedFits (x .serial)
+
+-- where it lies, and its keys
+abbrev Fits : List ℕ → Element → Type 0
+Fits s x = (x .place + x .length ≤ length s) × KeysFit x
+
+chain-fits : (s : List ℕ) (done xs : List Element) (at e : ℕ) → AllBytes s → at ≤ length s → Chain s done at xs e → Each (Fits s) xs
 chain-fits s done [] at e b h c = tt
 chain-fits s done (x ∷ xs) at e b h c =
     let o = opened s (reading.At at 0) in
     let p = element-parts 14 (idsIn done) (serialsIn done) s (reading.At at 0) x (c .0) in
     let w = element-within 14 (idsIn done) (serialsIn done) s (reading.At at 0) x (c .0) h in
-    let i : x .id .number < 2 ^ 32 = rw (p .id) (id-fits (idsIn done) (serialsIn done) (runHere s o) (run-bytes s o b)) in
-    ((w .1, i), chain-fits s (done ++ (x ∷ [])) xs (x .place + x .length) e b (w .1) (c .1))
+    let i : NamedFits (x .id) = rw (p .id) (id-fits (idsIn done) (serialsIn done) (runHere s o) (run-bytes s o b)) in
+    let n : NumberedFits (x .serial) = rw (p .serial) (serial-fits (idsIn done) (serialsIn done) (runHere s o) (run-bytes s o b)) in
+    ((w .1, (i, n)), chain-fits s (done ++ (x ∷ [])) xs (x .place + x .length) e b (w .1) (c .1))
+
+each-fits : (s : List ℕ) (xs : List Element) → Each (Fits s) xs → Each (ElementFits s) xs
+each-fits s xs f = each-so (Fits s) (ElementFits s) xs (λ x h. (h .0, h .1 .0 .1)) f
+
+pub package-fits : (outer : ℕ) (s : List ℕ) (c : Reading) → AllBytes s → Good s c → PackageRead outer s c → Each (ElementFits s) (packageWalk outer s c .elements)
+package-fits outer s c b g r =
+    each-fits s (packageWalk outer s c .elements)
+    (chain-fits s [] (packageWalk outer s c .elements) (r .first) (r .end) b (subst (Good s) (r .start) (good-package outer s c g)) (r .chain))
+
+-- a store's elements begin within it
+pub store-front : (s : List ℕ) (r : StoreRead s) → r .first ≤ length s
+store-front s r =
+    let g = good-place s (packageStart nothingOpen s (reading.At 0 0)) (good-package nothingOpen s (reading.At 0 0) (good-front s 0)) in
+    let e = r .start in
+    omega arith
+
+store-fits : (s : List ℕ) → AllBytes s → (r : StoreRead s) → Each (Fits s) (storeWalk s .elements)
+store-fits s b r = chain-fits s [] (storeWalk s .elements) (r .first) (r .end) b (store-front s r) (r .chain)
 
 pub elements-fit : (s : List ℕ) → AllBytes s → StoreRead s → Each (ElementFits s) (storeWalk s .elements)
-elements-fit s b r =
-    let g = good-place s (packageStart s) (good-package s) in
-    let e = r .start in
-    chain-fits s [] (storeWalk s .elements) (r .first) (r .end) b (omega arith) (r .chain)
+elements-fit s b r = each-fits s (storeWalk s .elements) (store-fits s b r)
+
+pub keys-fit : (s : List ℕ) → AllBytes s → StoreRead s → Each KeysFit (storeWalk s .elements)
+keys-fit s b r = each-so (Fits s) KeysFit (storeWalk s .elements) (λ x h. h .1) (store-fits s b r)

@@ -1,4 +1,4 @@
--- Which faults a store and a knowledge give: their number is from 2 to 12, they are of the first input, and they need no
+-- Which faults a package, a store and a knowledge give: their number is from 2 to 12, they are of the first input, and they need no
 -- length; and an over-long store gives 1.
 -- Assumes nothing.
 use mathlib.Core.Path.{_≡_, refl, subst}
@@ -15,7 +15,7 @@ use Rattle.numbers.specs.Refusals.{longestInput, overLong}
 use Rattle.numbers.specs.declared.refusal.Refusal.{Refusal}
 use Rattle.numbers.specs.declared.extended_guid.ExtendedGuid.the-variants as id
 use Rattle.numbers.specs.declared.serial.Serial.the-variants as number
-use Rattle.objects.specs.Steps.{nothingOpen, placeOf, idHere, onId, serialHere, onSerial, onGuid, startOfLength, runHere, endHere, nextIs, inside}
+use Rattle.objects.specs.Steps.{nothingOpen, placeOf, idHere, onId, serialHere, onSerial, onGuid, startOfLength, runHere, nextIs, inside}
 use Rattle.objects.specs.declared.reading.Reading.{Reading}
 use Rattle.objects.specs.declared.reading.Reading.the-variants as reading
 use Rattle.objects.specs.declared.reading.ReadingId.{ReadingId}
@@ -24,7 +24,7 @@ use Rattle.objects.specs.declared.reading.ReadingSerial.{ReadingSerial}
 use Rattle.objects.specs.declared.reading.ReadingSerial.the-variants as serial′
 use Rattle.objects.proofs.FaultNumbers.{NumberedFault, Numbered, numbered-fault, numbered-need, numbered-number, numbered-guid, numbered-id, numbered-serial, numbered-skip, numbered-start, numbered-start-of-length, numbered-end, numbered-inside, numbered-finish, numbered-closed}
 use Rattle.store.specs.Element.{sameKey, namedKey, numberedKey, freshKey, keyHere, onKey, idField, serialField, fieldsOf, opened, dataOf, elementOn, elementAt, idsIn, serialsIn}
-use Rattle.store.specs.Store.{packageStart, Walk, onElement, walkFrom, storeWalk}
+use Rattle.store.specs.Store.{packageStart, Walk, onElement, walkFrom, packageWalk, finished, storeWalk}
 use Rattle.store.specs.Knowledge.{fromField, toField, rangeFields, rangeStart, entryStart, entrySerial, itemKind, itemAt, onItem, Knowing, knowing, itemsFrom, isCell, specializedGuid, cellFrom, specializedFrom, knowledgeTurn, toGo, unreached, knowledgeFrom, knowledgeAt}
 use Rattle.store.specs.declared.element.Key.{Key}
 use Rattle.store.specs.declared.element.Fields.{Fields}
@@ -109,27 +109,34 @@ numbered-walk : (left : ℕ) (s : List ℕ) (done : List Element) (c : Reading) 
 unfolding walkFrom
 numbered-walk zero s done c g =
     pick-all (λ (w : Walk). Numbered (w .last)) (nextIs s 0x01 c) _ _ (λ e. numbered-start s 0x15 0x01 true false c g)
-    (λ e. numbered-finish s (endHere s 0x15 c) (numbered-end s 0x15 c g))
+    (λ e. numbered-end s 0x15 c g)
 numbered-walk (suc left) s done c g =
     pick-all (λ (w : Walk). Numbered (w .last)) (nextIs s 0x01 c) _ _
     (λ e.
     numbered-on-element (λ more e. walkFrom left s more e) done (elementAt 14 (idsIn done) (serialsIn done) s c)
     (numbered-element 14 (idsIn done) (serialsIn done) s c g)
     (λ x. numbered-walk left s (done ++ (x ∷ [])) (reading.At (x .place + x .length) 0) tt))
-    (λ e. numbered-finish s (endHere s 0x15 c) (numbered-end s 0x15 c g))
+    (λ e. numbered-end s 0x15 c g)
 
-numbered-package : (s : List ℕ) → Numbered (packageStart s)
+numbered-package-start : (outer : ℕ) (s : List ℕ) (c : Reading) → Numbered c → Numbered (packageStart outer s c)
 unfolding packageStart
-numbered-package s =
-    numbered-skip s 1 (startOfLength s nothingOpen 0x15 true true 1 (reading.At 0 0)) (numbered-start-of-length s nothingOpen 0x15 true true 1 (reading.At 0 0) tt)
+numbered-package-start outer s c g =
+    numbered-skip s 1 (startOfLength s outer 0x15 true true 1 c) (numbered-start-of-length s outer 0x15 true true 1 c g)
+
+pub numbered-package : (outer : ℕ) (s : List ℕ) (c : Reading) → Numbered c → Numbered (packageWalk outer s c .last)
+numbered-package outer s c g = numbered-walk 256 s [] (packageStart outer s c) (numbered-package-start outer s c g)
+
+pub package-number : (outer : ℕ) (s : List ℕ) (c : Reading) (r : Refusal) → Numbered c → packageWalk outer s c .last ≡ reading.Refused r → NumberedFault r
+package-number outer s c r g h = subst Numbered h (numbered-package outer s c g)
 
 -- ---- the store
 
 store-within : (s : List ℕ) (r : Refusal) → storeWalk s .last ≡ reading.Refused r → length s ≤ longestInput → NumberedFault r
 unfolding storeWalk
 store-within s r h l =
-    let e : walkFrom 256 s [] (packageStart s) .last ≡ reading.Refused r = rw (le-ltb longestInput (length s) l) at h in
-    subst Numbered e (numbered-walk 256 s [] (packageStart s) (numbered-package s))
+    let w = packageWalk nothingOpen s (reading.At 0 0) in
+    let e : finished s w .last ≡ reading.Refused r = rw (le-ltb longestInput (length s) l) at h in
+    subst Numbered e (numbered-finish s (w .last) (numbered-package nothingOpen s (reading.At 0 0) tt))
 
 store-over : (s : List ℕ) (r : Refusal) → storeWalk s .last ≡ reading.Refused r → longestInput < length s → r ≡ overLong
 unfolding storeWalk

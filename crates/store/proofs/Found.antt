@@ -9,12 +9,12 @@ use lib.Seq.{getD-append-add}
 use lib.Dec.{ltb}
 use Rattle.laws.proofs.Cases.{pick-all, impossible}
 use Rattle.numbers.specs.Refusals.{faultAt, longestInput}
-use Rattle.objects.specs.Steps.{nextIs}
+use Rattle.objects.specs.Steps.{nothingOpen, nextIs}
 use Rattle.objects.specs.declared.reading.Reading.{Reading}
 use Rattle.objects.specs.declared.reading.Reading.the-variants as reading
 use Rattle.store.specs.Element.{elementAt}
 use Rattle.store.specs.Tables.{rowOf, flat, rowsOf}
-use Rattle.store.specs.Store.{Walk, onElement, walkFrom, storeWalk, packageStart, storedOf, storeAnswer}
+use Rattle.store.specs.Store.{Walk, onElement, walkFrom, packageStart, packageWalk, storeWalk, storedOf, storeAnswer}
 use Rattle.store.specs.Accessor.{elementIn, foundOn, foundIn}
 use Rattle.store.specs.declared.element.Element.{Element}
 use Rattle.store.specs.declared.element.ReadElement.{ReadElement}
@@ -60,11 +60,14 @@ walk-most (suc left) s done c =
     (λ x d. let l = length-append done (x ∷ []) in let m = walk-most left s (done ++ (x ∷ [])) d in omega arith))
     (λ e. omega arith)
 
+pub package-most : (outer : ℕ) (s : List ℕ) (c : Reading) → length (packageWalk outer s c .elements) ≤ 256
+package-most outer s c = let m = walk-most 256 s [] (packageStart outer s c) in omega arith
+
 pub store-most : (s : List ℕ) → length (storeWalk s .elements) ≤ 256
 unfolding storeWalk
 store-most s =
     pick-all (λ (w : Walk). length (w .elements) ≤ 256) (ltb longestInput (length s)) _ _ (λ e. omega arith)
-    (λ e. let m = walk-most 256 s [] (packageStart s) in omega arith)
+    (λ e. package-most nothingOpen s (reading.At 0 0))
 
 -- ---- what the answer says of the walk
 

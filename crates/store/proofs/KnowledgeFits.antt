@@ -38,12 +38,12 @@ unfolding valueOf
 number-on d at (compact.Value v n) b e = written-read (drop at d) v n (drop-bytes at d b) e .1
 number-on d at (compact.Refused r) b e = omega arith
 
-number-fits : (d : List ℕ) (c : Reading) → AllBytes d → valueOf (steps.number d c) < 2 ^ 64
+pub number-fits : (d : List ℕ) (c : Reading) → AllBytes d → valueOf (steps.number d c) < 2 ^ 64
 unfolding steps.number valueOf
 number-fits d (At at v) b = number-on d at (readCompact (drop at d)) b refl
 number-fits d (Refused r) b = omega arith
 
-range-fits : (g : Guid) (a b : ℕ) → a < 2 ^ 64 → b < 2 ^ 64 → RangeFits (rangeOf g a b)
+pub range-fits : (g : Guid) (a b : ℕ) → a < 2 ^ 64 → b < 2 ^ 64 → RangeFits (rangeOf g a b)
 unfolding rangeOf
 range-fits g a b h k = (swapped-fits (g .low), swapped-fits (g .high), h, k)
 

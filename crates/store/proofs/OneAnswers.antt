@@ -1,4 +1,4 @@
--- The calls on a store and on a knowledge determine their answers: what is told is known by what tells it, and any two answers allowed are equal.
+-- The calls on a package, on a store and on a knowledge determine their answers: what is told is known by what tells it, and any two answers allowed are equal.
 -- Assumes nothing.
 use mathlib.Core.Path.{_≡_, refl, sym, ap, _∙_}
 use Prim.Native.Nat.{ℕ}
@@ -11,8 +11,10 @@ use Rattle.store.specs.declared.element.Key.{Key}
 use Rattle.store.specs.declared.element.Element.{Element}
 use Rattle.store.specs.declared.element.ReadingKey.the-variants as key
 use Rattle.store.specs.declared.element.ReadElement.the-variants as element
-use Rattle.store.specs.Store.{Walk, WalkedTo, tellStored}
+use Rattle.store.specs.Store.{Walk, PackageTo, WalkedTo, tellPackaged, tellStored}
 use Rattle.store.specs.Accessor.{tellFound, FindsElement, elementBytes}
+use Rattle.store.specs.declared.package.Packaged.{Packaged}
+use Rattle.store.specs.declared.package.Packaged.the-variants as packaged
 use Rattle.store.specs.declared.package.Stored.{Stored}
 use Rattle.store.specs.declared.package.Stored.the-variants as stored
 use Rattle.store.specs.RangeTable.{addedTo, laidIn, tellAdded}
@@ -32,6 +34,12 @@ found-telling (found.At p n) (found.At q m) e = let v = values-of _ _ e in cc
 found-telling (found.At p n) (found.Refused q) e = let v = values-of _ _ e in impossible (cc)
 found-telling (found.Refused r) (found.At q m) e = let v = values-of _ _ e in impossible (cc)
 found-telling (found.Refused r) (found.Refused q) e = ap found.Refused (refuses-telling r q e)
+
+pub packaged-telling : Telling tellPackaged
+packaged-telling (packaged.Holds n p) (packaged.Holds m q) e = let v = values-of _ _ e in cc
+packaged-telling (packaged.Holds n p) (packaged.Refused q) e = let v = values-of _ _ e in impossible (cc)
+packaged-telling (packaged.Refused r) (packaged.Holds m q) e = let v = values-of _ _ e in impossible (cc)
+packaged-telling (packaged.Refused r) (packaged.Refused q) e = ap packaged.Refused (refuses-telling r q e)
 
 pub stored-telling : Telling tellStored
 stored-telling (stored.Holds n) (stored.Holds m) e = let v = values-of _ _ e in cc
@@ -75,6 +83,10 @@ pub element-bytes-one : (s : List ℕ) (i : ℕ) (r q : List ℕ) → r ≡ elem
 element-bytes-one s i r q a b = a ∙ sym b
 
 -- the answer of a walk, and both tables at its exit
+pub package-one : (w : Walk) (r q : Packaged) (rows x y ids u v : List ℕ) → PackageTo w r rows x ids u → PackageTo w q rows y ids v
+    → (r ≡ q) × (x ≡ y) × (u ≡ v)
+package-one w r q rows x y ids u v a b = (a .0 ∙ sym (b .0), a .1 ∙ sym (b .1), a .2 ∙ sym (b .2))
+
 pub walked-one : (w : Walk) (r q : Stored) (rows x y ids u v : List ℕ) → WalkedTo w r rows x ids u → WalkedTo w q rows y ids v
     → (r ≡ q) × (x ≡ y) × (u ≡ v)
 walked-one w r q rows x y ids u v a b = (a .0 ∙ sym (b .0), a .1 ∙ sym (b .1), a .2 ∙ sym (b .2))

@@ -1,39 +1,34 @@
--- What was written for a store is read with no refusal, as exactly the elements that were written, each behind the one before.
+-- What was written for a package is read with no refusal wherever it stands, as exactly the elements that were written, each
+-- behind the one before; and so is a store.
 -- Assumes nothing.
-use mathlib.Core.Path.{_≡_, refl, sym, ap, _∙_}
-use mathlib.Core.Bool.{true, false}
+use mathlib.Core.Path.{_≡_, refl, sym, subst, ap, _∙_}
+use mathlib.Core.Bool.{true}
 use mathlib.Core.List.{List, [], _∷_, _++_, map, map-append, append-assoc, append-nil}
-use Prim.Native.Nat.{ℕ, zero, suc, _+_, _≤_}
+use Prim.Native.Nat.{ℕ, suc, _+_, _≤_}
 use native.Mathlib.Nat.{zero-add}
 use native.Mathlib.Omega.{arith}
 use lib.ListN.{length, drop, length-append}
-use lib.Seq.{drop-append-seam}
+use lib.Seq.{drop-length}
 use borrow.Author.Tests.{le-ltb}
 use Rattle.laws.specs.Once.{once}
-use Rattle.laws.proofs.Cases.{eqb-turn}
 use Rattle.laws.proofs.Twice.{once-before}
 use Rattle.numbers.specs.Refusals.{longestInput}
-use Rattle.objects.specs.Header.{startBytes, endBytes}
-use Rattle.objects.specs.Steps.{nothingOpen, endHere, nextIs}
+use Rattle.objects.specs.Header.{endBytes}
+use Rattle.objects.specs.Steps.{nothingOpen, endHere}
 use Rattle.objects.specs.declared.reading.Reading.the-variants.{At}
 use Rattle.objects.proofs.Written.{behind, reads-then, reads-skip, finish-written}
-use Rattle.objects.proofs.ObjectsWritten.{reads-start-of-length, reads-end, next-start, next-end}
+use Rattle.objects.proofs.ObjectsWritten.{reads-start-of-length, reads-end}
 use Rattle.store.specs.Element.{sameKey, elementAt}
-use Rattle.store.specs.Store.{packageStart, Walk, walked, walkFrom, storeWalk}
-use Rattle.store.specs.Written.{Content, fieldBytes, writtenElement, writtenElements, packageFront, packageBytes, AllFit, elementOf, elementsFrom}
+use Rattle.store.specs.Store.{packageStart, Walk, walked, packageWalk, storeWalk}
+use Rattle.store.specs.Chain.{Chain}
+use Rattle.store.specs.Written.{Content, writtenElement, writtenElements, packageFront, packageBytes, AllFit, elementOf, elementsFrom}
 use Rattle.store.specs.declared.element.Key.{Key}
 use Rattle.store.specs.declared.element.Element.{Element}
 use Rattle.store.specs.declared.element.ReadElement.the-variants.{Is}
-use Rattle.store.proofs.ElementWritten.{fields-most, element-written}
-use Rattle.store.proofs.Walks.{walk-ends, walk-element}
+use Rattle.store.proofs.ElementWritten.{element-written}
+use Rattle.store.proofs.Chains.{same-turn, package-walked}
 
--- ---- the keys
-
-pub same-turn : (a b : Key) → sameKey a b ≡ sameKey b a
-unfolding sameKey
-same-turn a b = rw (eqb-turn (a .low) (b .low), eqb-turn (a .high) (b .high), eqb-turn (a .number) (b .number))
-
--- ---- the walk
+-- ---- the elements
 
 abbrev ids : List Element → List Key
 ids done = map (λ (x : Element). x .id) done
@@ -46,64 +41,87 @@ keys-more : (key : Element → Key) (done : List Element) (x : Element) (rest : 
     → map key (done ++ (x ∷ [])) ++ rest ≡ map key done ++ (key x ∷ rest)
 keys-more key done x rest = rw (map-append key done (x ∷ []), append-assoc)
 
-next-element : (s : List ℕ) (at u : ℕ) (c : Content) (t : List ℕ) → drop at s ≡ writtenElement c ++ t → nextIs s 0x01 (At at u) ≡ true
-unfolding writtenElement
-next-element s at u c t h =
-    next-start s at u 0x01 true (length (fieldBytes c)) ((fieldBytes c ++ c .inner) ++ t) (omega arith) (let m = fields-most c in omega arith)
-    (h ∙ append-assoc (startBytes 0x01 true (length (fieldBytes c))) (fieldBytes c ++ c .inner) t)
-
-walk-written : (left : ℕ) (s : List ℕ) (at u : ℕ) (done : List Element) (cs : List Content) → length cs ≤ left → AllFit 14 cs
+-- written one behind the other, they are a chain
+written-chain : (s : List ℕ) (at : ℕ) (done : List Element) (cs : List Content) (t : List ℕ) → AllFit 14 cs
     → once sameKey (ids done ++ map (λ (c : Content). c .id) cs) ≡ true
-    → once sameKey (serials done ++ map (λ (c : Content). c .serial) cs) ≡ true → drop at s ≡ writtenElements cs ++ endBytes 0x15
-    → walkFrom left s done (At at u) ≡ walked (done ++ elementsFrom at cs) (At (at + length (writtenElements cs ++ endBytes 0x15)) 0)
+    → once sameKey (serials done ++ map (λ (c : Content). c .serial) cs) ≡ true → drop at s ≡ writtenElements cs ++ t
+    → Chain s done at (elementsFrom at cs) (at + length (writtenElements cs))
 unfolding writtenElements elementsFrom
-walk-written left s at u done [] l f a b h =
-    let h′ : drop at s ≡ endBytes 0x15 ++ [] = h ∙ sym (append-nil (endBytes 0x15)) in
-    let e : nextIs s 0x01 (At at u) ≡ false = next-end s at u 0x01 0x15 [] (omega arith) h′ in
-    let c : endHere s 0x15 (At at u) ≡ At (at + length (endBytes 0x15)) 0 = reads-end u 0x15 (omega arith) .here s at [] h′ in
-    let d : drop (at + length (endBytes 0x15)) s ≡ [] = behind s at (endBytes 0x15) [] h′ in
-    walk-ends left s done (At at u) e ∙ rw (c, finish-written s (at + length (endBytes 0x15)) 0 d, append-nil done)
-walk-written zero s at u done (c ∷ cs) l f a b h = absurd (omega arith)
-walk-written (suc left) s at u done (c ∷ cs) l f a b h =
+written-chain s at done [] t f a b h = omega arith
+written-chain s at done (c ∷ cs) t f a b h =
     let w = writtenElement c in
     let x = elementOf at c in
-    let rest = writtenElements cs ++ endBytes 0x15 in
-    let h′ : drop at s ≡ w ++ rest = h ∙ append-assoc w (writtenElements cs) (endBytes 0x15) in
-    let e = next-element s at u c rest h′ in
-    let r : elementAt 14 (ids done) (serials done) s (At at u) ≡ Is x =
-    element-written 14 (ids done) (serials done) s at u c rest (f .0) h′
+    let h′ : drop at s ≡ w ++ (writtenElements cs ++ t) = h ∙ append-assoc w (writtenElements cs) t in
+    let r : elementAt 14 (ids done) (serials done) s (At at 0) ≡ Is x =
+    element-written 14 (ids done) (serials done) s at 0 c (writtenElements cs ++ t) (f .0) h′
     (once-before sameKey same-turn (c .id) (ids done) (map (λ (c : Content). c .id) cs) a)
     (once-before sameKey same-turn (c .serial) (serials done) (map (λ (c : Content). c .serial) cs) b) in
-    let i = walk-written left s (at + length w) 0 (done ++ (x ∷ [])) cs (omega arith) (f .1)
+    let i = written-chain s (at + length w) (done ++ (x ∷ [])) cs t (f .1)
     (rw (keys-more (λ (y : Element). y .id) done x (map (λ (y : Content). y .id) cs)) a)
-    (rw (keys-more (λ (y : Element). y .serial) done x (map (λ (y : Content). y .serial) cs)) b) (behind s at w rest h′) in
-    let n : at + length w + length rest ≡ at + length ((w ++ writtenElements cs) ++ endBytes 0x15) =
-    rw append-assoc (let m = length-append w rest in omega arith) in
-    walk-element left s done (At at u) e (Is x) r ∙ i ∙ rw (append-assoc done (x ∷ []) (elementsFrom (at + length w) cs), n)
+    (rw (keys-more (λ (y : Element). y .serial) done x (map (λ (y : Content). y .serial) cs)) b) (behind s at w (writtenElements cs ++ t) h′) in
+    let n : at + length w + length (writtenElements cs) ≡ at + length (w ++ writtenElements cs) =
+    let m = length-append w (writtenElements cs) in omega arith in
+    (r, subst (λ (e : ℕ). Chain s (done ++ (x ∷ [])) (at + length w) (elementsFrom (at + length w) cs) e) n i)
+
+elements-count : (at : ℕ) (cs : List Content) → length (elementsFrom at cs) ≡ length cs
+unfolding elementsFrom
+elements-count at [] = refl
+elements-count at (c ∷ cs) = ap suc (elements-count (at + length (writtenElement c)) cs)
+
+-- ---- the package, wherever it stands
+
+module _ (outer : ℕ) (s : List ℕ) (at u : ℕ) (cs : List Content) (t : List ℕ) (h : drop at s ≡ packageBytes cs ++ t) where
+  abbrev inner : List ℕ
+  inner = writtenElements cs ++ (endBytes 0x15 ++ t)
+
+  front-stands : drop at s ≡ packageFront ++ inner
+  unfolding packageBytes
+  front-stands =
+      h ∙ append-assoc packageFront (writtenElements cs ++ endBytes 0x15) t
+      ∙ ap (λ (l : List ℕ). packageFront ++ l) (append-assoc (writtenElements cs) (endBytes 0x15) t)
+
+  start-written : packageStart outer s (At at u) ≡ At (at + length packageFront) 0
+  unfolding packageStart packageFront
+  start-written =
+      reads-then (reads-start-of-length u outer 0x15 true 1 (omega arith) (omega arith)) (reads-skip 1 (0 ∷ []))
+      .here s at inner front-stands
+
+  elements-stand : drop (at + length packageFront) s ≡ inner
+  elements-stand = behind s at packageFront inner front-stands
+
+  abbrev end : ℕ
+  end = at + length packageFront + length (writtenElements cs)
+
+  end-stands : endHere s 0x15 (At end 0) ≡ At (end + length (endBytes 0x15)) 0
+  end-stands =
+      reads-end 0 0x15 (omega arith) .here s end t
+      (behind s (at + length packageFront) (writtenElements cs) (endBytes 0x15 ++ t) elements-stand)
+
+  total-length : end + length (endBytes 0x15) ≡ at + length (packageBytes cs)
+  unfolding packageBytes
+  total-length =
+      let a = length-append packageFront (writtenElements cs ++ endBytes 0x15) in
+      let b = length-append (writtenElements cs) (endBytes 0x15) in
+      omega arith
+
+  pub package-reads : length cs ≤ 256 → AllFit 14 cs → once sameKey (map (λ (c : Content). c .id) cs) ≡ true
+      → once sameKey (map (λ (c : Content). c .serial) cs) ≡ true
+      → packageWalk outer s (At at u) ≡ walked (elementsFrom (at + length packageFront) cs) (At (at + length (packageBytes cs)) 0)
+  package-reads l f a b =
+      let n = elements-count (at + length packageFront) cs in
+      package-walked outer s (At at u) (at + length packageFront) 0 (elementsFrom (at + length packageFront) cs) end
+      (at + length (packageBytes cs)) 0 start-written
+      (written-chain s (at + length packageFront) [] cs (endBytes 0x15 ++ t) f a b elements-stand) (omega arith) (end-stands ∙ rw total-length)
 
 -- ---- the store
-
-start-written : (cs : List Content) → packageStart (packageBytes cs) ≡ At (length packageFront) 0
-unfolding packageStart packageBytes packageFront
-start-written cs =
-    reads-then (reads-start-of-length 0 nothingOpen 0x15 true 1 (omega arith) (omega arith)) (reads-skip 1 (0 ∷ []))
-    .here (packageBytes cs) 0 (writtenElements cs ++ endBytes 0x15) refl
-    ∙ rw zero-add
-
-front-past : (cs : List Content) → drop (length packageFront) (packageBytes cs) ≡ writtenElements cs ++ endBytes 0x15
-unfolding packageBytes
-front-past cs = drop-append-seam packageFront (writtenElements cs ++ endBytes 0x15)
-
-total-length : (cs : List Content) → length packageFront + length (writtenElements cs ++ endBytes 0x15) ≡ length (packageBytes cs)
-unfolding packageBytes
-total-length cs = sym (length-append packageFront (writtenElements cs ++ endBytes 0x15))
 
 pub package-walk : (cs : List Content) → length cs ≤ 256 → AllFit 14 cs → once sameKey (map (λ (c : Content). c .id) cs) ≡ true
     → once sameKey (map (λ (c : Content). c .serial) cs) ≡ true → length (packageBytes cs) ≤ longestInput
     → storeWalk (packageBytes cs) ≡ walked (elementsFrom (length packageFront) cs) (At (length (packageBytes cs)) 0)
 unfolding storeWalk
 package-walk cs l f a b m =
-    rw (le-ltb _ _ m, start-written cs) (walk-written 256 (packageBytes cs) (length packageFront) 0 [] cs l f a b (front-past cs) ∙ rw (total-length cs))
+    let w = package-reads nothingOpen (packageBytes cs) 0 0 cs [] (sym (append-nil (packageBytes cs))) l f a b in
+    rw (le-ltb _ _ m, w, zero-add (length packageFront), zero-add (length (packageBytes cs)), finish-written (packageBytes cs) (length (packageBytes cs)) 0 (drop-length (packageBytes cs)))
 
 pub package-written : (cs : List Content) → length cs ≤ 256 → AllFit 14 cs → once sameKey (map (λ (c : Content). c .id) cs) ≡ true
     → once sameKey (map (λ (c : Content). c .serial) cs) ≡ true → length (packageBytes cs) ≤ longestInput

@@ -1,21 +1,21 @@
--- A fault's place lies within the store, and a store that is read ends with its package's end.
+-- A fault's place lies within the input, and a store that is read ends with its package's end.
 -- Assumes nothing.
-use mathlib.Core.Path.{_≡_, refl, sym, subst}
+use mathlib.Core.Path.{_≡_, refl, subst}
 use mathlib.Core.Bool.{true, false}
 use mathlib.Core.List.{List, [], _∷_, _++_}
-use Prim.Native.Nat.{ℕ, zero, suc, _+_, _≤_, _<_}
+use Prim.Native.Nat.{ℕ, zero, suc, _+_, _≤_}
 use native.Mathlib.Omega.{arith}
 use lib.ListN.{length}
 use borrow.Author.Tests.{lt-ltb, le-ltb}
 use Rattle.laws.proofs.Cases.{by-bool, by-lt, impossible}
 use Rattle.numbers.specs.Refusals.{longestInput}
 use Rattle.numbers.specs.declared.refusal.Refusal.{Refusal}
-use Rattle.objects.specs.Steps.{placeOf, endHere, finish, nextIs, inside, Good}
+use Rattle.objects.specs.Steps.{nothingOpen, placeOf, endHere, finish, nextIs, inside, Good}
 use Rattle.objects.specs.declared.reading.Reading.{Reading}
 use Rattle.objects.specs.declared.reading.Reading.the-variants as reading
-use Rattle.objects.proofs.Keep.{good-start, good-end, good-inside, good-finish}
+use Rattle.objects.proofs.Keep.{good-front, good-start, good-end, good-inside, good-finish}
 use Rattle.store.specs.Element.{dataOf, elementOn, elementAt, idsIn, serialsIn}
-use Rattle.store.specs.Store.{packageStart, onElement, walkFrom, storeWalk}
+use Rattle.store.specs.Store.{packageStart, onElement, walkFrom, packageWalk, storeWalk}
 use Rattle.store.specs.declared.element.Key.{Key}
 use Rattle.store.specs.declared.element.Fields.{Fields}
 use Rattle.store.specs.declared.element.Element.{Element}
@@ -49,20 +49,25 @@ element-good left s done c (element.Refused r) q more g = element-fault 14 (idsI
 walk-good : (left : ℕ) (s : List ℕ) (done : List Element) (c : Reading) → Good s c → Good s (walkFrom left s done c .last)
 walk-good zero s done c g =
     by-bool (nextIs s 0x01 c) (λ e. rw (walk-over s done c e) (good-start s 0x15 0x01 true false c g))
-    (λ e. rw (walk-ends 0 s done c e) (good-finish s (endHere s 0x15 c) (good-end s 0x15 c g)))
+    (λ e. rw (walk-ends 0 s done c e) (good-end s 0x15 c g))
 walk-good (suc left) s done c g =
     by-bool (nextIs s 0x01 c)
     (λ e.
     rw (walk-element left s done c e (elementAt 14 (idsIn done) (serialsIn done) s c) refl)
     (element-good left s done c (elementAt 14 (idsIn done) (serialsIn done) s c) refl
     (λ x w. walk-good left s (done ++ (x ∷ [])) (reading.At (x .place + x .length) 0) w) g))
-    (λ e. rw (walk-ends (suc left) s done c e) (good-finish s (endHere s 0x15 c) (good-end s 0x15 c g)))
+    (λ e. rw (walk-ends (suc left) s done c e) (good-end s 0x15 c g))
+
+pub package-good : (outer : ℕ) (s : List ℕ) (c : Reading) → Good s c → Good s (packageWalk outer s c .last)
+package-good outer s c g = walk-good 256 s [] (packageStart outer s c) (good-package outer s c g)
 
 pub store-good : (s : List ℕ) → Good s (storeWalk s .last)
 unfolding storeWalk
 store-good s =
     by-lt longestInput (length s) (λ l. rw (lt-ltb longestInput (length s) l) (omega arith))
-    (λ l. rw (le-ltb longestInput (length s) l) (walk-good 256 s [] (packageStart s) (good-package s)))
+    (λ l.
+    rw (le-ltb longestInput (length s) l)
+    (good-finish s (packageWalk nothingOpen s (reading.At 0 0) .last) (package-good nothingOpen s (reading.At 0 0) (good-front s 0))))
 
 pub store-fault : (s : List ℕ) (r : Refusal) → storeWalk s .last ≡ reading.Refused r → r .place ≤ length s
 store-fault s r h = subst (Good s) h (store-good s)

@@ -9,23 +9,24 @@ use native.Mathlib.Omega.{arith}
 use lib.ListN.{length, getD, take, drop, length-append, set}
 use lib.Seq.{getD-append-add, getD-set-same, getD-set-other}
 use lib.Dec.{eqb}
-use borrow.Author.Tests.{eq-eqb, ne-eqb, eqb-true}
+use borrow.Author.Tests.{lt-ltb, le-ltb, eq-eqb, ne-eqb, eqb-true}
 use Rattle.numbers.specs.declared.refusal.Refusal.{Refusal}
-use Rattle.objects.specs.Steps.{_▹_, nothingOpen, startOfLength, startHere, endHere, nextIs, finish, Good}
+use Rattle.objects.specs.Steps.{_▹_, startOfLength, startHere, endHere, nextIs, finish, Good}
 use Rattle.objects.specs.declared.reading.Reading.{Reading}
 use Rattle.objects.specs.declared.reading.Reading.the-variants.{At, Refused}
-use Rattle.objects.proofs.Keep.{good-front, good-start-of-length, good-skip}
+use Rattle.objects.proofs.Keep.{good-start-of-length, good-skip}
 use Rattle.laws.specs.Once.{seen}
-use Rattle.laws.proofs.Cases.{by-bool, by-eq, impossible}
+use Rattle.laws.proofs.Cases.{by-bool, by-lt, by-eq, impossible}
 use Rattle.laws.proofs.Twice.{seen-append}
 use Rattle.store.specs.Element.{sameKey, elementAt, idsIn, serialsIn}
 use Rattle.store.specs.Tables.{markOf, Marked, Lent, keyAt, idKeys, serialKeys, rowOf, idOf, flat, rowsOf, idsOf}
-use Rattle.store.specs.Store.{packageStart, Walk, walked, onElement, walkFrom, storedOf, WalkedTo}
+use Rattle.store.specs.Store.{packageStart, Walk, walked, onElement, walkFrom, packagedOf, storedOf, PackageTo}
 use Rattle.store.specs.declared.element.Key.{Key}
 use Rattle.store.specs.declared.element.Element.{Element}
 use Rattle.store.specs.declared.element.ReadElement.{ReadElement}
 use Rattle.store.specs.declared.element.ReadElement.the-variants as element
-use Rattle.store.specs.declared.package.Stored.{Stored}
+use Rattle.store.specs.declared.package.Packaged.{Packaged}
+use Rattle.store.specs.declared.package.Packaged.the-variants as packaged
 use Rattle.store.specs.declared.package.Stored.the-variants as stored
 use Rattle.store.proofs.Rows.{put-more, keys-flat}
 use Rattle.store.proofs.Fields.{element-within}
@@ -57,9 +58,9 @@ pub ids-held : (done : List Element) (t : List ℕ) → idKeys (idsOf done ++ t)
 ids-held done t =
     keys-flat idRow 3 id-wide (λ x. x .id) 0 (λ x pre u. key-stands (x .id) pre u (idRow x ++ u) 0 refl refl refl) done t
 
--- ---- what holds whenever the loop's test is reached
+-- ---- what holds whenever the loop's test is reached, on a walk that began at c
 
-pub record Held (s rows₀ ids₀ rows rowmarks ids idmarks : List ℕ) (at : Reading) (n : ℕ) : Type 0 where
+pub record Held (s : List ℕ) (c : Reading) (rows₀ ids₀ rows rowmarks ids idmarks : List ℕ) (at : Reading) (n : ℕ) : Type 0 where
   pub done : List Element
   pub many : length done ≡ n
   pub most : n ≤ 256
@@ -68,25 +69,25 @@ pub record Held (s rows₀ ids₀ rows rowmarks ids idmarks : List ℕ) (at : Re
   pub ids-hold : ids ≡ idsOf done ++ drop (n * 3) ids₀
   pub serials-marked : Marked rowmarks (serialsIn done)
   pub ids-marked : Marked idmarks (idsIn done)
-  pub walk : walkFrom 256 s [] (packageStart s) ≡ walkFrom (256 - n) s done at
+  pub walk : walkFrom 256 s [] c ≡ walkFrom (256 - n) s done at
 
-pub good-package : (s : List ℕ) → Good s (packageStart s)
+pub good-package : (outer : ℕ) (s : List ℕ) (c : Reading) → Good s c → Good s (packageStart outer s c)
 unfolding packageStart
-good-package s =
-    good-skip s 1 (startOfLength s nothingOpen 0x15 true true 1 (At 0 0)) (good-start-of-length s nothingOpen 0x15 true true 1 (At 0 0) (good-front s 0))
+good-package outer s c g =
+    good-skip s 1 (startOfLength s outer 0x15 true true 1 c) (good-start-of-length s outer 0x15 true true 1 c g)
 
 none-marked : (marks : List ℕ) → Marked marks []
 unfolding seen
 none-marked marks k e = refl
 
-pub held-start : (s rows rowmarks ids idmarks : List ℕ) → Held s rows ids rows rowmarks ids idmarks (packageStart s) 0
+pub held-start : (s : List ℕ) (c : Reading) (rows rowmarks ids idmarks : List ℕ) → Good s c → Held s c rows ids rows rowmarks ids idmarks c 0
 unfolding flat
-held-start s rows rowmarks ids idmarks =
+held-start s c rows rowmarks ids idmarks g =
     record {
       done = [];
       many = refl;
       most = omega arith;
-      good = good-package s;
+      good = g;
       rows-hold = refl;
       ids-hold = refl;
       serials-marked = none-marked rowmarks;
@@ -126,7 +127,7 @@ marked-more marks keys x l h k e =
 -- ---- the walk at a place
 
 pub walk-ends : (left : ℕ) (s : List ℕ) (done : List Element) (c : Reading) → nextIs s 0x01 c ≡ false
-    → walkFrom left s done c ≡ walked done (c ▹ endHere s 0x15 ▹ finish s)
+    → walkFrom left s done c ≡ walked done (c ▹ endHere s 0x15)
 unfolding walkFrom
 walk-ends zero s done c e = rw e
 walk-ends (suc left) s done c e = rw e
@@ -142,9 +143,10 @@ pub walk-element : (left : ℕ) (s : List ℕ) (done : List Element) (c : Readin
 unfolding walkFrom
 walk-element left s done c e r q = rw (e, q)
 
-module _ {s rows₀ ids₀ rows rowmarks ids idmarks : List ℕ} {at : Reading} {n : ℕ} (h : Held s rows₀ ids₀ rows rowmarks ids idmarks at n) where
+module _ {s : List ℕ} {c : Reading} {rows₀ ids₀ rows rowmarks ids idmarks : List ℕ} {at : Reading} {n : ℕ}
+    (h : Held s c rows₀ ids₀ rows rowmarks ids idmarks at n) where
   abbrev told : Walk
-  told = walkFrom 256 s [] (packageStart s)
+  told = walkFrom 256 s [] c
 
   -- the keys that the tables hold are those of the elements
   held-serials : serialKeys rows n ≡ map (λ (x : Element). x .serial) (h .done)
@@ -155,22 +157,22 @@ module _ {s rows₀ ids₀ rows rowmarks ids idmarks : List ℕ} {at : Reading} 
 
   -- what is lent to the reading of the next element
   pub held-lent : n * 6 ≤ length rows → n * 3 ≤ length ids → 4096 ≤ length rowmarks → 4096 ≤ length idmarks → Lent rows rowmarks ids idmarks n
-  held-lent a b c d =
+  held-lent a b d e =
       record {
         row-room = a;
         id-room = b;
-        serial-mark-room = c;
-        id-mark-room = d;
+        serial-mark-room = d;
+        id-mark-room = e;
         serials-marked = rw held-serials (h .serials-marked);
         ids-marked = rw held-ids (h .ids-marked);
       }
 
   -- the answer, where the walk ends with these elements
-  pub held-answer : (c : Reading) (r : Stored) → told ≡ walked (h .done) c → r ≡ storedOf n c → WalkedTo told r rows₀ rows ids₀ ids
-  held-answer c r e q = rw e (q ∙ ap (λ (m : ℕ). storedOf m c) (sym (h .many)), rw (h .many) (h .rows-hold), rw (h .many) (h .ids-hold))
+  pub held-answer : (d : Reading) (r : Packaged) → told ≡ walked (h .done) d → r ≡ packagedOf n d → PackageTo told r rows₀ rows ids₀ ids
+  held-answer d r e q = rw e (q ∙ ap (λ (m : ℕ). packagedOf m d) (sym (h .many)), rw (h .many) (h .rows-hold), rw (h .many) (h .ids-hold))
 
   -- no more elements
-  pub held-end : nextIs s 0x01 at ≡ false → told ≡ walked (h .done) (at ▹ endHere s 0x15 ▹ finish s)
+  pub held-end : nextIs s 0x01 at ≡ false → told ≡ walked (h .done) (at ▹ endHere s 0x15)
   held-end e = h .walk ∙ walk-ends (256 - n) s (h .done) at e
 
   -- one too many
@@ -187,7 +189,7 @@ module _ {s rows₀ ids₀ rows rowmarks ids idmarks : List ℕ} {at : Reading} 
 
   -- an element more
   pub held-more : nextIs s 0x01 at ≡ true → (n ≡ 256 → ⊥) → 4096 ≤ length rowmarks → 4096 ≤ length idmarks → (x : Element) → elementAt 14 (idKeys ids n) (serialKeys rows n) s at ≡ element.Is x
-      → Held s rows₀ ids₀ (take (n * 6) rows ++ (rowOf x ++ drop (n * 6 + 6) rows)) (set rowmarks (markOf (x .serial)) 1)
+      → Held s c rows₀ ids₀ (take (n * 6) rows ++ (rowOf x ++ drop (n * 6 + 6) rows)) (set rowmarks (markOf (x .serial)) 1)
       (take (n * 3) ids ++ (idOf (x .id) ++ drop (n * 3 + 3) ids)) (set idmarks (markOf (x .id)) 1)
       (At (x .place + x .length) 0) (n + 1)
   held-more e d lr li x q =
@@ -206,6 +208,21 @@ module _ {s rows₀ ids₀ rows rowmarks ids idmarks : List ℕ} {at : Reading} 
         walk = h .walk ∙ rw z (walk-element (256 - (n + 1)) s (h .done) at e (element.Is x) f);
       }
 
-pub stored-refused : (n : ℕ) (r : Refusal) → stored.Refused r ≡ storedOf n (Refused r)
-unfolding storedOf
-stored-refused n r = refl
+pub packaged-refused : (n : ℕ) (r : Refusal) → packaged.Refused r ≡ packagedOf n (Refused r)
+unfolding packagedOf
+packaged-refused n r = refl
+
+-- ---- a store's answer is that of its package, and nothing after it
+
+pub finished-holds : (m n e : ℕ) (s : List ℕ) (c : Reading) → packaged.Holds n e ≡ packagedOf m c → storedOf n (finish s (At e 0)) ≡ storedOf m (finish s c)
+unfolding packagedOf storedOf finish
+finished-holds m n e s (At p v) h =
+    let a : n ≡ m = cc in
+    let b : e ≡ p = cc in
+    rw (a, b) (by-lt p (length s) (λ l. rw (lt-ltb p (length s) l)) (λ l. rw (le-ltb p (length s) l)))
+finished-holds m n e s (Refused r) h = impossible (cc)
+
+pub finished-refused : (m : ℕ) (q : Refusal) (s : List ℕ) (c : Reading) → packaged.Refused q ≡ packagedOf m c → stored.Refused q ≡ storedOf m (finish s c)
+unfolding packagedOf storedOf finish
+finished-refused m q s (At p v) h = impossible (cc)
+finished-refused m q s (Refused r) h = cc

@@ -1,4 +1,5 @@
--- For read_store, find_element and element_bytes, wrong answers that their promises rule out, each tried on a named input.
+-- For read_package, read_store, find_element, element_bytes and lay_part, wrong answers that their promises rule out, each
+-- tried on a named input.
 -- Assumes nothing.
 use mathlib.Core.Path.{_≡_, refl, ap}
 use Prim.Native.Nat.{ℕ, _≤_}
@@ -8,6 +9,7 @@ use native.Mathlib.Omega.{arith}
 use Rattle.laws.specs.Bytes.{le, bytes}
 use Rattle.laws.specs.Loop.{turns, iterate}
 use Rattle.laws.specs.Once.{once, seen}
+use Rattle.laws.specs.Placed.{Lays}
 use Rattle.laws.proofs.Cases.{impossible}
 use Rattle.numbers.specs.Refusals.{Told, longestInput, faultAt}
 use Rattle.numbers.specs.Compact.{compactBytes, formOf, formFrom, sizeOf}
@@ -16,11 +18,12 @@ use Rattle.numbers.specs.ExtendedGuid.{extendedGuidBytes, namedBytes, shortByte
 use Rattle.numbers.specs.Serial.{serialBytes}
 use Rattle.objects.specs.Header.{startBytes, endBytes, startOf, endOf, sized, headerOf, headerAt, lengthAt}
 use Rattle.objects.specs.Steps.{placeOf, startHere, lengthIs, startOfLength, skip, endHere, nextIs, finish}
-use Rattle.store.specs.Store.{packageStart, walkFrom, storeWalk, storedOf, WalkedTo}
+use Rattle.store.specs.Store.{packageStart, Walk, walkFrom, packageWalk, storeWalk, packagedOf, storedOf, PackageTo, WalkedTo}
 use Rattle.store.specs.Tables.{flat}
 use Rattle.store.specs.Written.{Content, AllFit, fieldBytes, writtenElement, writtenElements, packageFront, packageBytes, elementsFrom}
 use Rattle.store.specs.Accessor.{elementIn, foundIn, FindsElement, elementBytes}
 use Rattle.store.specs.declared.accessor.Found.the-variants as found
+use Rattle.store.specs.declared.package.Packaged.the-variants as packaged
 use Rattle.store.specs.declared.package.Stored.the-variants as stored
 use Rattle.objects.specs.declared.reading.Reading.the-variants as reading
 use Rattle.objects.specs.Nesting.{objectAt, runAt}
@@ -49,6 +52,21 @@ one-held h = impossible (cc)
 rows-cleared : WalkedTo (storeWalk (0xAC ∷ 0x02 ∷ 0x00 ∷ 0x55 ∷ [])) (stored.Holds 0) (7 ∷ []) (0 ∷ []) (8 ∷ []) (8 ∷ []) → ⊥
 unfolding flat storedOf storeWalk packageStart startOfLength lengthIs placeOf startHere skip walkFrom nextIs endHere finish headerAt headerOf sized startOf endOf lengthAt le
 rows-cleared h = impossible (cc)
+
+-- ---- read_package, on the same bytes inside the object of a response, with one byte before them and one behind
+
+abbrev inResponse : Walk
+inResponse = packageWalk 0x62 (0x07 ∷ 0xAC ∷ 0x02 ∷ 0x00 ∷ 0x55 ∷ 0x08 ∷ []) (reading.At 1 0)
+
+-- it holds no element, and not one
+one-packaged : PackageTo inResponse (packaged.Holds 1 5) (7 ∷ []) (7 ∷ []) (8 ∷ []) (8 ∷ []) → ⊥
+unfolding packagedOf packageStart startOfLength lengthIs placeOf startHere skip walkFrom nextIs endHere headerAt headerOf sized startOf endOf lengthAt le
+one-packaged h = impossible (cc)
+
+-- the place behind its end, and not that of its end
+place-of-end : PackageTo inResponse (packaged.Holds 0 4) (7 ∷ []) (7 ∷ []) (8 ∷ []) (8 ∷ []) → ⊥
+unfolding packagedOf packageStart startOfLength lengthIs placeOf startHere skip walkFrom nextIs endHere headerAt headerOf sized startOf endOf lengthAt le
+place-of-end h = let z : _≡_ {A = ℕ} 4 5 = cc in omega arith
 
 -- ---- element_bytes
 
@@ -112,3 +130,11 @@ none-held rows ids h = let e : stored.Holds 0 ≡ stored.Holds 1 = rw (one-read 
 nothing-written : (ids : List ℕ) → WalkedTo (storeWalk (packageBytes (one ∷ []))) (stored.Holds 1) (0 ∷ 0 ∷ 0 ∷ []) (0 ∷ 0 ∷ 0 ∷ []) ids ids → ⊥
 unfolding flat elementsFrom
 nothing-written ids h = let e = rw (one-read .0) at (h .1) in impossible (cc)
+
+-- ---- lay_part, of one byte: the byte behind it put to 0; the place of its front answered
+
+byte-behind : Lays 1 (5 ∷ []) (7 ∷ 8 ∷ 9 ∷ []) 2 (7 ∷ 5 ∷ 0 ∷ []) → ⊥
+byte-behind h = impossible (cc (h .1))
+
+front-answered : Lays 1 (5 ∷ []) (7 ∷ 8 ∷ 9 ∷ []) 1 (7 ∷ 5 ∷ 9 ∷ []) → ⊥
+front-answered h = let z = h .0 in omega arith

@@ -1,4 +1,5 @@
--- "A store: one data element package, and nothing after it." Its elements are read from left to right; a fault ends the walk
+-- "A store: one data element package, and nothing after it." A package stands in an answer too, inside the response; in both, fourteen
+-- levels are left inside an element (16 less 2, and 17 less 3). Its elements are read from left to right, and a fault ends the walk
 -- with the elements before it.
 -- Assumes nothing.
 use mathlib.Core.Path.{_≡_}
@@ -17,12 +18,14 @@ use Rattle.store.specs.Tables.{rowsOf, idsOf}
 use Rattle.store.specs.declared.element.Element.{Element}
 use Rattle.store.specs.declared.element.ReadElement.{ReadElement}
 use Rattle.store.specs.declared.element.ReadElement.the-variants as element
+use Rattle.store.specs.declared.package.Packaged.{Packaged}
+use Rattle.store.specs.declared.package.Packaged.the-variants as packaged
 use Rattle.store.specs.declared.package.Stored.{Stored}
 use Rattle.store.specs.declared.package.Stored.the-variants as stored
 
--- "package 1": one data byte, "reserved: ignored when read"
-unfoldable pub packageStart : List ℕ → Reading
-packageStart s = At 0 0 ▹ startOfLength s nothingOpen 0x15 true true 1 ▹ skip s 1
+-- "package 1": one data byte, "reserved: ignored when read"; it stands inside an open object of type `outer`
+unfoldable pub packageStart : ℕ → List ℕ → Reading → Reading
+packageStart outer s c = c ▹ startOfLength s outer 0x15 true true 1 ▹ skip s 1
 
 -- the elements that were read, and where the walk ended
 pub record Walk : Type 0 where
@@ -32,9 +35,9 @@ pub record Walk : Type 0 where
 abbrev pub walked : List Element → Reading → Walk
 walked done c = record { elements = done; last = c }
 
--- the package's end. "After the last end any byte is 5"
+-- the package's end
 abbrev pub closing : List ℕ → List Element → Reading → Walk
-closing s done c = walked done (c ▹ endHere s 0x15 ▹ finish s)
+closing s done c = walked done (c ▹ endHere s 0x15)
 
 -- an element more, and on from behind it
 abbrev pub onElement : (List Element → Reading → Walk) → List Element → ReadElement → Walk
@@ -51,15 +54,32 @@ walkFrom (suc left) s done c =
     (elementAt 14 (idsIn done) (serialsIn done) s c))
     (closing s done c)
 
--- 9, "over 256 elements"; an over-long store is 1 first
-unfoldable pub storeWalk : List ℕ → Walk
-storeWalk s = pick (ltb longestInput (length s)) (walked [] (Refused overLong)) (walkFrom 256 s [] (packageStart s))
+-- 9, "over 256 elements"
+abbrev pub packageWalk : ℕ → List ℕ → Reading → Walk
+packageWalk outer s c = walkFrom 256 s [] (packageStart outer s c)
 
--- ---- what reading a store answers, and what the tables then hold
+-- "After the last end any byte is 5"
+abbrev pub finished : List ℕ → Walk → Walk
+finished s w = walked (w .elements) (finish s (w .last))
+
+-- an over-long store is 1 first
+unfoldable pub storeWalk : List ℕ → Walk
+storeWalk s =
+    pick (ltb longestInput (length s)) (walked [] (Refused overLong)) (finished s (packageWalk nothingOpen s (At 0 0)))
+
+-- ---- what reading a package and a store answers, and what the tables then hold
+
+-- how many elements, and the place behind the package's end
+unfoldable pub packagedOf : ℕ → Reading → Packaged
+packagedOf n (At e v) = packaged.Holds n e
+packagedOf n (Refused r) = packaged.Refused r
 
 unfoldable pub storedOf : ℕ → Reading → Stored
 storedOf n (At e v) = stored.Holds n
 storedOf n (Refused r) = stored.Refused r
+
+abbrev pub packageAnswer : Walk → Packaged
+packageAnswer w = packagedOf (length (w .elements)) (w .last)
 
 abbrev pub storeAnswer : Walk → Stored
 storeAnswer w = storedOf (length (w .elements)) (w .last)
@@ -72,8 +92,16 @@ abbrev pub laidIds : Walk → List ℕ → List ℕ
 laidIds w t = idsOf (w .elements) ++ drop (length (w .elements) * 3) t
 
 -- what reading promises: the answer, and both tables at exit
+abbrev pub PackageTo : Walk → Packaged → List ℕ → List ℕ → List ℕ → List ℕ → Type 0
+PackageTo w r rows rowsExit ids idsExit = (r ≡ packageAnswer w) × (rowsExit ≡ laidRows w rows) × (idsExit ≡ laidIds w ids)
+
 abbrev pub WalkedTo : Walk → Stored → List ℕ → List ℕ → List ℕ → List ℕ → Type 0
 WalkedTo w r rows rowsExit ids idsExit = (r ≡ storeAnswer w) × (rowsExit ≡ laidRows w rows) × (idsExit ≡ laidIds w ids)
+
+-- how many elements a package holds, and the place behind it
+abbrev pub tellPackaged : Packaged → Told
+tellPackaged (packaged.Holds n e) = gives (n ∷ e ∷ [])
+tellPackaged (packaged.Refused r) = refuses r
 
 -- how many elements a store holds
 abbrev pub tellStored : Stored → Told

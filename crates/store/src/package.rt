@@ -1,9 +1,11 @@
-// A store read whole: the package, its elements from left to right into the tables, its end, and nothing after it.
+// A package read whole, in a store or in an answer: its start, its elements from left to right into the tables, its end. A store is
+// one package with nothing after it.
 ghost use mathlib.Core.Path.{_≡_};
 ghost use Prim.Native.Nat.{_≤_};
 ghost use mathlib.Core.List.{[]};
 ghost use lib.ListN.{length};
-ghost use Rattle.store.specs.Store.{packageStart, storedOf, walkFrom, storeWalk, WalkedTo};
+ghost use Rattle.objects.specs.Steps.{Good};
+ghost use Rattle.store.specs.Store.{packageStart, packagedOf, storedOf, walkFrom, packageWalk, storeWalk, PackageTo, WalkedTo};
 use crate::element::ELEMENT;
 use crate::element::PACKAGE;
 use crate::element::ReadElement;
@@ -22,19 +24,34 @@ pub const MOST_ELEMENTS: usize = 256;
 
 pub const LEVELS_INSIDE: usize = 14;
 
+// How many elements a package holds, and the place behind its end.
+pub enum Packaged {
+    Holds(usize, usize),
+    Refused(Refusal),
+}
+
 // How many elements a store holds.
 pub enum Stored {
     Holds(usize),
     Refused(Refusal),
 }
 
-// The start of the package, and its reserved byte.
-fn package_start(s: &[u8]) -> Reading
-    ensures { λ r. ⌜ r ≡ packageStart (now (s .entry)) ⌝ }
+// The start of the package inside an open object of type `outer`, and its reserved byte.
+pub fn package_start(s: &[u8], c: Reading, outer: u64) -> Reading
+    ensures { λ r. ⌜ r ≡ packageStart outer (now (s .entry)) c ⌝ }
 {
-    Reading::At(0, 0)
-        .start_of_length(s, NOTHING, PACKAGE, true, true, 1)
+    c.start_of_length(s, outer, PACKAGE, true, true, 1)
         .skip(s, 1)
+}
+
+// n elements and the place behind them, if no fault stands.
+fn packaged_if_fine(n: usize, c: Reading) -> Packaged
+    ensures { λ r. ⌜ r ≡ packagedOf n c ⌝ }
+{
+    match c {
+        Reading::At(e, _) => Packaged::Holds(n, e),
+        Reading::Refused(r) => Packaged::Refused(r),
+    }
 }
 
 // n elements, if no fault stands.
@@ -47,25 +64,26 @@ fn count_if_fine(n: usize, c: Reading) -> Stored
     }
 }
 
-// The package's elements, into the tables, and its end.
+// The package's elements from c on, into the tables, and its end.
 fn walk(
     s: &[u8],
+    c: Reading,
     rows: &mut [u64],
     rowmarks: &mut [u8],
     ids: &mut [u64],
     idmarks: &mut [u8],
-) -> Stored
-    requires { ⌜ (1536 ≤ length (now rows)) × (768 ≤ length (now ids)) × (4096 ≤ length (now rowmarks)) × (4096 ≤ length (now idmarks)) ⌝ }
-    ensures { λ r. ⌜ WalkedTo (walkFrom 256 (now (s .entry)) [] (packageStart (now (s .entry)))) r (now (rows .entry)) (now (rows .exit)) (now (ids .entry)) (now (ids .exit)) ⌝ }
+) -> Packaged
+    requires { ⌜ Good (now s) c × (1536 ≤ length (now rows)) × (768 ≤ length (now ids)) × (4096 ≤ length (now rowmarks)) × (4096 ≤ length (now idmarks)) ⌝ }
+    ensures { λ r. ⌜ PackageTo (walkFrom 256 (now (s .entry)) [] c) r (now (rows .entry)) (now (rows .exit)) (now (ids .entry)) (now (ids .exit)) ⌝ }
 {
-    let mut at = package_start(s);
+    let mut at = c;
     let mut n = 0;
     while at.next_is(s, ELEMENT) {
         if n == MOST_ELEMENTS {
-            return count_if_fine(n, at.start(s, PACKAGE, ELEMENT, true, false));
+            return packaged_if_fine(n, at.start(s, PACKAGE, ELEMENT, true, false));
         }
         match read_element(s, at, LEVELS_INSIDE, rows, rowmarks, ids, idmarks, n) {
-            ReadElement::Refused(r) => return Stored::Refused(r),
+            ReadElement::Refused(r) => return Packaged::Refused(r),
             ReadElement::Is(x) => {
                 let id = x.id;
                 let serial = x.serial;
@@ -78,7 +96,26 @@ fn walk(
             }
         }
     }
-    count_if_fine(n, at.end(s, PACKAGE).finish(s))
+    packaged_if_fine(n, at.end(s, PACKAGE))
+}
+
+// The package that begins here, inside an open object of type `outer`: each table then holds what belongs to the elements that were
+// read, and behind it what it held, on a refusal too. Ruled out (proofs/WrongAnswers), of the package without elements: a count of
+// one; the place of its end for the place behind it.
+pub fn read_package(s: &[u8], c: Reading, outer: u64, rows: &mut [u64], ids: &mut [u64]) -> Packaged
+    requires { ⌜ Good (now s) c × (1536 ≤ length (now rows)) × (768 ≤ length (now ids)) ⌝ }
+    ensures { λ r. ⌜ PackageTo (packageWalk outer (now (s .entry)) c) r (now (rows .entry)) (now (rows .exit)) (now (ids .entry)) (now (ids .exit)) ⌝ }
+{
+    let mut rowmarks = [0u8; 4096];
+    let mut idmarks = [0u8; 4096];
+    walk(
+        s,
+        package_start(s, c, outer),
+        rows,
+        &mut rowmarks,
+        ids,
+        &mut idmarks,
+    )
 }
 
 // A store, its rows and its ids: each table then holds those of the elements that were read, and behind them what it held,
@@ -90,7 +127,8 @@ pub fn read_store(s: &[u8], rows: &mut [u64], ids: &mut [u64]) -> Stored
     if LONGEST_INPUT < s.len() {
         return Stored::Refused(over_long());
     }
-    let mut rowmarks = [0u8; 4096];
-    let mut idmarks = [0u8; 4096];
-    walk(s, rows, &mut rowmarks, ids, &mut idmarks)
+    match read_package(s, Reading::At(0, 0), NOTHING, rows, ids) {
+        Packaged::Refused(r) => Stored::Refused(r),
+        Packaged::Holds(n, e) => count_if_fine(n, Reading::At(e, 0).finish(s)),
+    }
 }

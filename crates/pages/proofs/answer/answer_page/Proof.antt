@@ -47,11 +47,11 @@ storage-index-requires c κs =
     let known-room = g .room in
     (omega arith, omega arith, id-row h)
 
-slice-aggregate-decide : tie.Need-slice-aggregate-decide
-slice-aggregate-decide c = search needs
-
 bounds-of-requires : tie.Need-bounds-of-requires
 bounds-of-requires c κs = search needs
+
+slice-aggregate-decide : tie.Need-slice-aggregate-decide
+slice-aggregate-decide c = search needs
 
 decide-requires : tie.Need-decide-requires
 decide-requires c κs =
@@ -63,8 +63,8 @@ decide-requires c κs =
     let id-room = h .id-room in
     let few = g .most in
     let known-room = g .room in
-    let cap : c .bounds-of .result .most ≡ 512 = ap (λ (b : Bounds). b .most) (c .bounds-of .ensures .0) in
-    let short = c .bounds-of .ensures .1 in
+    let cap : c .before .before .bounds-of .result .most ≡ 512 = ap (λ (b : Bounds). b .most) (c .before .before .bounds-of .ensures .0) in
+    let short = c .before .before .bounds-of .ensures .1 in
     let normal : Normal (rangesAt (st .args .known .now) 0 (st .args .a .known)) = rw (g .held) (g .normal) in
     (omega arith, omega arith, omega arith, omega arith, omega arith, omega arith, omega arith, omega arith, short-row h, normal)
 
@@ -89,8 +89,8 @@ slice-aggregate-write-answer c = search needs
 write-answer-requires : tie.Need-write-answer-requires
 write-answer-requires c κs =
     let dc = c .before .before .before .before .before .before .before .before in
-    let bo = dc .before in
-    let si = bo .before .before .before in
+    let bo = dc .before .before .before in
+    let si = bo .before in
     let mw = si .before .before in
     let st = mw .before .before .before .before .before .before .before .before .before .before .before in
     let a = st .args in
@@ -130,8 +130,8 @@ copy-numbers-requires c κs =
 copy-ranges-requires : tie.Need-copy-ranges-requires
 copy-ranges-requires c κs =
     let dc = c .before .before .before .before .before .before .before .before .before .before .before .before .before .before .before .before .before in
-    let bo = dc .before in
-    let si = bo .before .before .before in
+    let bo = dc .before .before .before in
+    let si = bo .before in
     let mw = si .before .before in
     let st = mw .before .before .before .before .before .before .before .before .before .before .before in
     let a = st .args in
@@ -162,8 +162,8 @@ same-length c = search needs
 returns : tie.Need-returns
 returns c =
     let dc = c .before .before .before .before .before in
-    let bo = dc .before in
-    let si = bo .before .before .before in
+    let bo = dc .before .before .before in
+    let si = bo .before in
     let mw = si .before .before in
     let st = mw .before .before .before .before .before .before .before .before .before .before .before in
     let a = st .args in
@@ -185,8 +185,8 @@ same-length-2 c = search needs
 returns-2 : tie.Need-returns-2
 returns-2 c =
     let dc = c .before .before .before .before .before .before in
-    let bo = dc .before in
-    let si = bo .before .before .before in
+    let bo = dc .before .before .before in
+    let si = bo .before in
     let mw = si .before .before in
     let st = mw .before .before .before .before .before .before .before .before .before .before .before in
     let a = st .args in
@@ -218,8 +218,8 @@ same-length-6 c = search needs
 returns-3 : tie.Need-returns-3
 returns-3 c =
     let dc = c .before .before .before .before .before .before .before .before .before .before .before .before .before .before .before .before .before .before .before .before in
-    let bo = dc .before in
-    let si = bo .before .before .before in
+    let bo = dc .before .before .before in
+    let si = bo .before in
     let mw = si .before .before in
     let st = mw .before .before .before .before .before .before .before .before .before .before .before in
     let a = st .args in
@@ -244,8 +244,8 @@ answer-page-spec =
     slice-aggregate-mark-wanted
     mark-wanted-requires
     storage-index-requires
-    slice-aggregate-decide
     bounds-of-requires
+    slice-aggregate-decide
     decide-requires
     enum-told
     at-place-requires

@@ -8,7 +8,7 @@ use lib.ListN.{length, length-append}
 use Rattle.objects.specs.Header.{startBytes}
 use Rattle.store.specs.Written.{packageFront}
 use Rattle.laws.proofs.Placing.{lays-then}
-use Rattle.pages.specs.Written.{versionBytes, responseBytes}
+use Rattle.pages.specs.Written.{versionBytes, answerSignature, responseBytes}
 use Rattle.pages.specs.Tables.{answerFront}
 use Rattle.pages.proofs.Lengths.{length-front}
 use borrow.Author.Needs.{needs}
@@ -54,7 +54,7 @@ returns c =
     (u .lay-start .ensures) (x .lay-byte .ensures) in
     let j = lays-then (x .lay-byte .result) f o (x .lay-byte .last .0) (y .lay-start2 .result) (y .lay-start2 .last .0) (z .lay-byte2 .result) (z .lay-byte2 .last .0) (omega arith)
     (y .lay-start2 .ensures) (z .lay-byte2 .ensures) in
-    lays-then (a .at) versionBytes ((e ++ o) ++ (f ++ o)) (a .out .now) (v .lay-versions .result) (v .lay-versions .last .0) (z .lay-byte2 .result) (z .lay-byte2 .last .0) (omega arith)
+    lays-then (a .at) (versionBytes answerSignature) ((e ++ o) ++ (f ++ o)) (a .out .now) (v .lay-versions .result) (v .lay-versions .last .0) (z .lay-byte2 .result) (z .lay-byte2 .last .0) (omega arith)
     (v .lay-versions .ensures)
     (lays-then (v .lay-versions .result) (e ++ o) (f ++ o) (v .lay-versions .last .0) (x .lay-byte .result) (x .lay-byte .last .0) (z .lay-byte2 .result) (z .lay-byte2 .last .0) (omega arith) i j)
 

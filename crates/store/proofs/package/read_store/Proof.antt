@@ -1,10 +1,11 @@
 -- `package::read_store` meets its contract: an over-long store is 1, with the tables as they were.
 -- Assumes nothing.
-use mathlib.Core.Path.{refl}
+use mathlib.Core.Path.{refl, sym, ap, _∙_}
 use borrow.Author.Tests.{lt-ltb, le-ltb}
 use Rattle.store.specs.Store.{storeWalk, storedOf}
 use Rattle.store.specs.Tables.{flat}
 use borrow.Author.Needs.{needs}
+use Rattle.store.proofs.Walks.{finished-holds, finished-refused}
 use Rattle.store.proofs.package.read_store.Statement.{statement}
 use Rattle.store.proofs.package.read_store.Tie as tie
 
@@ -15,14 +16,20 @@ returns : tie.Need-returns
 unfolding storeWalk flat storedOf
 returns c = rw (lt-ltb _ _ (c .before .if1 .taken), c .over-long .ensures) (refl, refl, refl)
 
-slice-aggregate-walk : tie.Need-slice-aggregate-walk
-slice-aggregate-walk c = search needs
+read-package-requires : tie.Need-read-package-requires
+read-package-requires c κs = search needs
 
-slice-aggregate-walk-2 : tie.Need-slice-aggregate-walk-2
-slice-aggregate-walk-2 c = search needs
+enum-known-r : tie.Need-enum-known-r
+enum-known-r c = search needs
 
-walk-requires : tie.Need-walk-requires
-walk-requires c κs = search needs
+enum-known-n : tie.Need-enum-known-n
+enum-known-n c = search needs
+
+finish-requires : tie.Need-finish-requires
+finish-requires c κs = search needs
+
+count-if-fine-requires : tie.Need-count-if-fine-requires
+count-if-fine-requires c κs = search needs
 
 same-length : tie.Need-same-length
 same-length c = search needs
@@ -32,7 +39,29 @@ same-length-2 c = search needs
 
 returns-2 : tie.Need-returns-2
 unfolding storeWalk
-returns-2 c = rw (le-ltb _ _ (c .before .before .before .before .before .before .before .before .before .before .before .if1 .left)) (c .before .before .before .before .before .before .walk .ensures)
+returns-2 c =
+    let k = c .before in
+    let p = k .before .before .before .before .before .before in
+    let w = p .read-package .ensures in
+    rw (le-ltb _ _ (p .before .before .before .if1 .left)) (finished-refused _ _ _ _ (sym (k .r .given .1) ∙ w .0), w .1, w .2)
+
+same-length-3 : tie.Need-same-length-3
+same-length-3 c = search needs
+
+same-length-4 : tie.Need-same-length-4
+same-length-4 c = search needs
+
+returns-3 : tie.Need-returns-3
+unfolding storeWalk
+returns-3 c =
+    let k = c .before .before .before in
+    let p = k .before .before .before .before .before .before in
+    let w = p .read-package .ensures in
+    rw (le-ltb _ _ (p .before .before .before .if1 .left)) (
+      c .count-if-fine .ensures ∙ ap (storedOf _) (c .before .finish .ensures) ∙ finished-holds _ _ _ _ _ (sym (k .n .given .1) ∙ w .0),
+      w .1,
+      w .2,
+    )
 
 pub read-store-spec : {M : Type 1} → statement M
 read-store-spec =
@@ -40,9 +69,14 @@ read-store-spec =
     (tie.spec
     over-long-requires
     returns
-    slice-aggregate-walk
-    slice-aggregate-walk-2
-    walk-requires
+    read-package-requires
+    enum-known-r
+    enum-known-n
+    finish-requires
+    count-if-fine-requires
     same-length
     same-length-2
-    returns-2)
+    returns-2
+    same-length-3
+    same-length-4
+    returns-3)

@@ -6,27 +6,25 @@ use Prim.Native.Nat.{_-_, _≤_, _<_}
 use native.Mathlib.Omega.{arith}
 use lib.ListN.{length}
 use borrow.Author.Needs.{needs}
-use Rattle.store.specs.Store.{storedOf}
+use Rattle.store.specs.Store.{packagedOf}
 use Rattle.store.proofs.Fields.{element-within}
-use Rattle.store.proofs.Walks.{Held, held-start, held-lent, held-answer, held-over, held-refused, held-more, held-end, stored-refused}
+use Rattle.store.proofs.Walks.{Held, held-start, held-lent, held-answer, held-over, held-refused, held-more, held-end, packaged-refused}
 use Rattle.store.proofs.package.walk.Statement.{statement}
 use Rattle.store.proofs.package.walk.Tie as tie
 
 abbrev Inv-loop : tie.InvT-loop
 Inv-loop s rows₀ rowmarks₀ ids₀ idmarks₀ at₀ n₀ rows rowmarks ids idmarks at n =
     (n ≤ 256) × (length rows ≡ length rows₀) × (length rowmarks ≡ length rowmarks₀) × (length ids ≡ length ids₀) × (length idmarks ≡ length idmarks₀)
-    × Held s rows₀ ids₀ rows rowmarks ids idmarks at n
+    × Held s at₀ rows₀ ids₀ rows rowmarks ids idmarks at n
 
 abbrev μ-loop : tie.MeasureT-loop
 μ-loop s rows₀ rowmarks₀ ids₀ idmarks₀ at₀ n₀ rows rowmarks ids idmarks at n = 256 - n
 
-package-start-requires : tie.Need-package-start-requires Inv-loop μ-loop
-package-start-requires c κs = search needs
-
 loop-holds : tie.Need-loop-holds Inv-loop μ-loop
 loop-holds c =
-    let a = c .before .before .before .before .before .before .args in
-    (omega arith, refl, refl, refl, refl, rw (c .package-start .ensures) (held-start (a .s .now) (a .rows .now) (a .rowmarks .now) (a .ids .now) (a .idmarks .now)))
+    let b = c .before .before .before .before .before in
+    let a = b .args in
+    (omega arith, refl, refl, refl, refl, held-start (a .s .now) (a .c) (a .rows .now) (a .rowmarks .now) (a .ids .now) (a .idmarks .now) (b .pre .0))
 
 next-is-requires : tie.Need-next-is-requires Inv-loop μ-loop
 next-is-requires c κs = search needs
@@ -34,8 +32,8 @@ next-is-requires c κs = search needs
 start-requires : tie.Need-start-requires Inv-loop μ-loop
 start-requires c κs = search needs
 
-count-if-fine-requires : tie.Need-count-if-fine-requires Inv-loop μ-loop
-count-if-fine-requires c κs = search needs
+packaged-if-fine-requires : tie.Need-packaged-if-fine-requires Inv-loop μ-loop
+packaged-if-fine-requires c κs = search needs
 
 same-length : tie.Need-same-length Inv-loop μ-loop
 same-length c = search needs
@@ -53,7 +51,7 @@ returns : tie.Need-returns Inv-loop μ-loop
 returns c =
     let l = c .before .before .before .before .before in
     let e = sym (c .before .before .before .before .next-is .ensures) ∙ c .before .before .before .if1 .taken in
-    held-answer (l .loop .inv .5) _ _ (held-over (l .loop .inv .5) e (c .before .before .if2 .taken)) (c .count-if-fine .ensures ∙ ap (storedOf (l .loop .n)) (c .before .start .ensures))
+    held-answer (l .loop .inv .5) _ _ (held-over (l .loop .inv .5) e (c .before .before .if2 .taken)) (c .packaged-if-fine .ensures ∙ ap (packagedOf (l .loop .n)) (c .before .start .ensures))
 
 -- there is room for one more
 room : (c : tie.Else2 Inv-loop μ-loop) →
@@ -86,7 +84,7 @@ returns-2 c =
     let l = c .before .before .before .before .before .before .before .before .before .before .before in
     let e = sym (c .before .before .before .before .before .before .before .before .before .before .next-is .ensures) ∙ c .before .before .before .before .before .before .before .before .before .if1 .taken in
     let q = sym (c .before .before .before .read-element .ensures) ∙ c .before .r .given .1 in
-    held-answer (l .loop .inv .5) _ _ (held-refused (l .loop .inv .5) e (c .before .before .before .before .before .before .before .before .if2 .left) _ q) (stored-refused _ _)
+    held-answer (l .loop .inv .5) _ _ (held-refused (l .loop .inv .5) e (c .before .before .before .before .before .before .before .before .if2 .left) _ q) (packaged-refused _ _)
 
 enum-known-x : tie.Need-enum-known-x Inv-loop μ-loop
 enum-known-x c = search needs
@@ -106,8 +104,8 @@ put-mark-requires-2 c κs = let r = room (c .before .before .before .before .bef
 add-n : tie.Need-add-n Inv-loop μ-loop
 add-n c = let r = room (c .before .before .before .before .before .before .before .before .before .before .before .before .before .before .before .before .before .before .before .before .before .before .before .before .before .before) in omega arith
 
-add-t33 : tie.Need-add-t33 Inv-loop μ-loop
-add-t33 c =
+add-t34 : tie.Need-add-t34 Inv-loop μ-loop
+add-t34 c =
     let k = c .before .before .before .before .before .before .before .before .before .before .before .before .before .before .before .before .before .before .before .before in
     let l = k .before .before .before .before .before .before .before .before .before .before in
     let q = sym (k .before .before .read-element .ensures) ∙ k .x .given .1 in
@@ -135,11 +133,8 @@ loop-again c =
 end-requires : tie.Need-end-requires Inv-loop μ-loop
 end-requires c κs = search needs
 
-finish-requires : tie.Need-finish-requires Inv-loop μ-loop
-finish-requires c κs = search needs
-
-count-if-fine-requires-2 : tie.Need-count-if-fine-requires-2 Inv-loop μ-loop
-count-if-fine-requires-2 c κs = search needs
+packaged-if-fine-requires-2 : tie.Need-packaged-if-fine-requires-2 Inv-loop μ-loop
+packaged-if-fine-requires-2 c κs = search needs
 
 same-length-9 : tie.Need-same-length-9 Inv-loop μ-loop
 same-length-9 c = search needs
@@ -155,10 +150,9 @@ same-length-12 c = search needs
 
 returns-3 : tie.Need-returns-3 Inv-loop μ-loop
 returns-3 c =
-    let l = c .before .before .before .before .before in
-    let e = sym (c .before .before .before .before .next-is .ensures) ∙ c .before .before .before .if1 .left in
-    held-answer (l .loop .inv .5) _ _ (held-end (l .loop .inv .5) e)
-    (c .count-if-fine2 .ensures ∙ ap (storedOf (l .loop .n)) (c .before .finish .ensures ∙ rw (c .before .before .end .ensures)))
+    let l = c .before .before .before .before in
+    let e = sym (c .before .before .before .next-is .ensures) ∙ c .before .before .if1 .left in
+    held-answer (l .loop .inv .5) _ _ (held-end (l .loop .inv .5) e) (c .packaged-if-fine2 .ensures ∙ ap (packagedOf (l .loop .n)) (c .before .end .ensures))
 
 pub walk-spec : {M : Type 1} → statement M
 walk-spec =
@@ -166,11 +160,10 @@ walk-spec =
     (tie.spec
     Inv-loop
     μ-loop
-    package-start-requires
     loop-holds
     next-is-requires
     start-requires
-    count-if-fine-requires
+    packaged-if-fine-requires
     same-length
     same-length-2
     same-length-3
@@ -189,12 +182,11 @@ walk-spec =
     put-mark-requires
     put-mark-requires-2
     add-n
-    add-t33
+    add-t34
     loop-less
     loop-again
     end-requires
-    finish-requires
-    count-if-fine-requires-2
+    packaged-if-fine-requires-2
     same-length-9
     same-length-10
     same-length-11

@@ -1,12 +1,12 @@
--- `write::lay_byte` meets its contract.
+-- `lay::lay_byte` meets its contract.
 -- Assumes nothing.
 use mathlib.Core.Path.{refl}
 use native.Mathlib.Numerals.{add-one}
 use native.Mathlib.Omega.{arith}
 use lib.Seq.{set-split}
 use borrow.Author.Needs.{needs}
-use Rattle.pages.proofs.write.lay_byte.Statement.{statement}
-use Rattle.pages.proofs.write.lay_byte.Tie as tie
+use Rattle.store.proofs.lay.lay_byte.Statement.{statement}
+use Rattle.store.proofs.lay.lay_byte.Tie as tie
 
 slice-write-out : tie.Need-slice-write-out
 slice-write-out c = search needs

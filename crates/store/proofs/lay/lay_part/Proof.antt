@@ -1,4 +1,4 @@
--- `tables::lay_part` meets its contract. The invariant: the first i bytes of the part stand at the place.
+-- `lay::lay_part` meets its contract. The invariant: the first i bytes of the part stand at the place.
 -- Assumes nothing.
 use mathlib.Core.Path.{_≡_, refl, _∙_}
 use mathlib.Core.List.{append-assoc}
@@ -7,8 +7,8 @@ use native.Mathlib.Numerals.{add-one}
 use native.Mathlib.Omega.{arith}
 use lib.ListN.{length, take, drop, length-set}
 use lib.Seq.{paste, paste-zero, paste-suc, take-length}
-use Rattle.pages.proofs.tables.lay_part.Statement.{statement}
-use Rattle.pages.proofs.tables.lay_part.Tie as tie
+use Rattle.store.proofs.lay.lay_part.Statement.{statement}
+use Rattle.store.proofs.lay.lay_part.Tie as tie
 
 abbrev Inv-loop : tie.InvT-loop
 Inv-loop out₀ at part n i₀ out i = (i ≤ n) × (length out ≡ length out₀) × (out ≡ paste out₀ at part i)

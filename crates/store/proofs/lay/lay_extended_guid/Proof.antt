@@ -1,4 +1,4 @@
--- `write::lay_extended_guid` meets its contract.
+-- `lay::lay_extended_guid` meets its contract.
 -- Assumes nothing.
 use mathlib.Core.Path.{ap}
 use Prim.Native.Nat.{ℕ, _+_}
@@ -6,8 +6,8 @@ use native.Mathlib.Omega.{arith}
 use Rattle.numbers.specs.ExtendedGuid.{extendedGuidBytes}
 use Rattle.laws.proofs.Placing.{laid-part}
 use borrow.Author.Needs.{needs}
-use Rattle.pages.proofs.write.lay_extended_guid.Statement.{statement}
-use Rattle.pages.proofs.write.lay_extended_guid.Tie as tie
+use Rattle.store.proofs.lay.lay_extended_guid.Statement.{statement}
+use Rattle.store.proofs.lay.lay_extended_guid.Tie as tie
 
 sub-write-extended-guid : tie.Need-sub-write-extended-guid
 sub-write-extended-guid c = search needs

@@ -1,4 +1,4 @@
--- `write::lay_le` meets its contract.
+-- `lay::lay_le` meets its contract.
 -- Assumes nothing.
 use mathlib.Core.Path.{sym, ap}
 use Prim.Native.Nat.{ℕ, _+_}
@@ -6,8 +6,8 @@ use Rattle.laws.specs.Bytes.{bytes}
 use Rattle.laws.proofs.Numbers.{length-bytes}
 use Rattle.laws.proofs.Placing.{laid-put}
 use borrow.Author.Needs.{needs}
-use Rattle.pages.proofs.write.lay_le.Statement.{statement}
-use Rattle.pages.proofs.write.lay_le.Tie as tie
+use Rattle.store.proofs.lay.lay_le.Statement.{statement}
+use Rattle.store.proofs.lay.lay_le.Tie as tie
 
 sub-put-le : tie.Need-sub-put-le
 sub-put-le c = search needs
