@@ -1,0 +1,80 @@
+-- The parts of an answer that is read stay within it: the place so far, or that of a fault.
+-- Assumes nothing.
+use mathlib.Core.Bool.{true, false}
+use mathlib.Core.List.{List, []}
+use Prim.Native.Nat.{ℕ, _%_}
+use native.Mathlib.Omega.{arith}
+use lib.ListN.{length}
+use lib.Dec.{eqb}
+use borrow.Author.Tests.{lt-ltb, le-ltb}
+use Rattle.laws.proofs.Cases.{by-lt}
+use Rattle.objects.specs.Steps.{nothingOpen, placeOf, valueOf, fixedIn, onId, startHere, runHere, Good}
+use Rattle.objects.specs.declared.reading.Reading.{Reading}
+use Rattle.objects.specs.declared.reading.Reading.the-variants.{At}
+use Rattle.objects.proofs.Keep.{good-front, good-fixed, good-need, good-place, good-valued, good-number, good-number-is, good-id, good-start, good-closed, good-end, good-finish}
+use Rattle.request.proofs.Places.{good-versions}
+use Rattle.store.proofs.Places.{package-good}
+use Rattle.store.proofs.KnowledgeHeld.{knowledge-good}
+use Rattle.pages.specs.Written.{answerSignature}
+use Rattle.client.specs.Read.{longestAnswer, statusByte, responseFields, responseStart, subResponseFields, subResponse, indexField, changesFields, changesStart, changes, knowledgeIn, endsOf, markAt, restOf, packageEnd, answerEnd}
+
+-- ---- the fields of the data runs
+
+pub good-status : (d : List ℕ) (c : Reading) → Good d c → Good d (statusByte d c)
+unfolding statusByte
+good-status d c g =
+    good-need d (eqb (valueOf (fixedIn d 1 0 255 5 c) % 2) 0) 5 (placeOf c) _ (good-place d c g) (good-fixed d 1 0 255 5 c g)
+
+pub good-response-fields : (d : List ℕ) → Good d (responseFields d)
+unfolding responseFields
+good-response-fields d = good-status d (At 0 0) (good-front d 0)
+
+pub good-sub-response-fields : (d : List ℕ) → Good d (subResponseFields d)
+unfolding subResponseFields
+good-sub-response-fields d =
+    good-valued d _ _ (good-status d _ (good-number-is d 2 8 _ (good-number d (At 0 0) (good-front d 0))))
+
+pub good-changes-fields : (d : List ℕ) → Good d (changesFields d)
+unfolding changesFields
+good-changes-fields d = good-fixed d 1 0 255 5 (onId (indexField d)) (good-id d (At 0 0) (good-front d 0))
+
+-- ---- the parts
+
+pub good-response-start : (s : List ℕ) → Good s (responseStart s)
+unfolding responseStart
+good-response-start s =
+    let c = startHere s nothingOpen 0x62 true true _ in
+    good-closed s c (responseFields (runHere s c)) (good-start s nothingOpen 0x62 true true _ (good-versions answerSignature s)) (good-response-fields (runHere s c))
+
+good-sub-response : (s : List ℕ) (c : Reading) → Good s c → Good s (subResponse s c)
+unfolding subResponse
+good-sub-response s c g =
+    let o = startHere s 0x62 0x41 true true c in
+    good-closed s o (subResponseFields (runHere s o)) (good-start s 0x62 0x41 true true c g) (good-sub-response-fields (runHere s o))
+
+good-changes : (s : List ℕ) (c : Reading) → Good s c → Good s (changes s c)
+unfolding changes
+good-changes s c g =
+    let o = changesStart s c in
+    good-closed s o (changesFields (runHere s o)) (good-start s 0x41 0x5F false true c g) (good-changes-fields (runHere s o))
+
+good-knowledge-in : (s : List ℕ) (c : Reading) → Good s c → Good s (knowledgeIn s c .last)
+unfolding knowledgeIn
+good-knowledge-in s c g = knowledge-good 13 0x41 s [] c g
+
+good-ends : (s : List ℕ) (c : Reading) → Good s c → Good s (endsOf s c)
+unfolding endsOf
+good-ends s c g = good-finish s _ (good-end s 0x62 _ (good-end s 0x41 c g))
+
+good-rest : (s : List ℕ) (c : Reading) → Good s c → Good s (restOf s c)
+unfolding restOf
+good-rest s c g = good-ends s _ (good-valued s 0 _ (good-knowledge-in s (markAt s c) (good-changes s (subResponse s c) (good-sub-response s c g))))
+
+-- ---- the whole
+
+-- of an over-long answer the limit lies within it, too
+pub good-answer : (s : List ℕ) → Good s (answerEnd s)
+unfolding answerEnd
+good-answer s =
+    by-lt longestAnswer (length s) (λ l. rw (lt-ltb longestAnswer (length s) l) (omega arith))
+    (λ l. rw (le-ltb longestAnswer (length s) l) (good-rest s (packageEnd s) (good-valued s 0 _ (package-good 0x62 s (responseStart s) (good-response-start s)))))

@@ -1,0 +1,13 @@
+pub mod KnowledgeOn
+pub mod AskLengths
+pub mod AskGiven
+pub mod AskRead
+pub mod AskAgain
+pub mod AnswerWithin
+pub mod AnswerRest
+pub mod AnswerBack
+pub mod CallBack
+pub mod NextAsk
+pub mod FaultNumbers
+pub mod OneAnswers
+pub mod WrongAnswers

@@ -1,0 +1,115 @@
+-- For write_request, read_answer, find_received and received_bytes, wrong answers that their promises rule out, each tried on a
+-- named input.
+-- Assumes nothing.
+use mathlib.Core.Path.{_≡_, ap}
+use mathlib.Core.Bool.{true, false}
+use mathlib.Core.List.{List, [], _∷_}
+use Prim.Native.Nat.{ℕ}
+use native.Mathlib.Omega.{arith}
+use lib.ListN.{getD}
+use lib.Count.{trailingZeros}
+use Rattle.laws.specs.Bytes.{le, bytes}
+use Rattle.laws.specs.Loop.{turns, iterate}
+use Rattle.laws.specs.Once.{seen}
+use Rattle.laws.proofs.Cases.{impossible}
+use Rattle.numbers.specs.Refusals.{Told, faultAt, tooShort}
+use Rattle.numbers.specs.Compact.{sizeOf, formFrom, formOf, compactBytes, readForm, formAt, readCompact}
+use Rattle.numbers.specs.Compact as compact
+use Rattle.numbers.specs.ExtendedGuid.{extendedGuidBytes, readExtendedGuid, formOfId, shortForm, namedOf}
+use Rattle.numbers.specs.Guid.{guidAt}
+use Rattle.numbers.specs.Serial.{readSerial, numbered}
+use Rattle.numbers.specs.declared.extended_guid.ExtendedGuid.the-variants as id
+use Rattle.numbers.specs.declared.refusal.Wrote.the-variants.{Refused}
+use Rattle.objects.specs.Header.{startBytes, longStart, endBytes, startOf, endOf, sized, headerOf, headerAt, lengthAt}
+use Rattle.objects.specs.Nesting.{runAt, objectAt}
+use Rattle.objects.specs.Steps.{placeOf, valueOf, valued, need, fixedIn, number, numberIs, idHere, onId, serialHere, onSerial, inside, skip, startHere, lengthIs, startOfLength, runHere, closedAt, endHere, nextIs, finish}
+use Rattle.store.specs.Accessor.{elementIn}
+use Rattle.store.specs.Element.{elementAt, elementOn, dataOf, fieldsOf, serialField, idField, onKey, keyHere, freshKey, numberedKey, namedKey, sameKey}
+use Rattle.store.specs.Knowledge.{knowledgeTurn, toGo, knowledgeFrom, knowledgeAt}
+use Rattle.store.specs.Store.{packageStart, walkFrom}
+use Rattle.store.specs.declared.accessor.Found.the-variants as found
+use Rattle.request.specs.Filter.{filtersFrom}
+use Rattle.request.specs.Message.{versions}
+use Rattle.pages.specs.Written.{versionBytes}
+use Rattle.client.specs.AskWritten.{userAgentBytes, subRequestData, subRequestBytes, queryBytes, argumentData, argumentBytes, constraintBytes, askFront, askEnds, askBytes}
+use Rattle.client.specs.Ask.{noMore, filtersGiven, knowledgeOf, knowledgeGiven, writtenIn, judgedKnowledge, judgedFilters, askWrote, WritesRequest}
+use Rattle.client.specs.Read.{statusByte, responseFields, responseStart, subResponseFields, subResponse, changesFields, changes, idIn, knowledgeIn, endsOf, receivedFrom, restOf, answerEnd, answerOn, answerIn, idNumbers, receivedNumbers, ReadsAnswer}
+use Rattle.client.specs.Accessor.{receivedAt, FindsReceived, receivedBytes}
+use Rattle.client.specs.declared.answer.Received.{Received}
+use Rattle.client.specs.declared.answer.ReadAnswer.the-variants as answer
+
+-- ---- write_request
+
+-- one byte 0 as the knowledge is no whole header: a fault of the second input, and not of the first
+first-input : WritesRequest 1 0xFFFFFFFFFFFFFFFF [] (0 ∷ []) (Refused (faultAt 2 0)) [] [] → ⊥
+unfolding askWrote judgedFilters judgedKnowledge filtersGiven noMore filtersFrom knowledgeGiven knowledgeOf knowledgeAt knowledgeFrom knowledgeTurn toGo iterate turns startOfLength startHere lengthIs placeOf endHere nextIs valued finish headerAt headerOf sized startOf endOf lengthAt le
+first-input h = let z : _≡_ {A = ℕ} 0 1 = ap (λ (t : Told). t .input) (h .0) in omega arith
+
+-- without filters, knowledge, limit and room: 45, and not 44
+one-byte-short : WritesRequest 1 0xFFFFFFFFFFFFFFFF [] [] (Refused (tooShort 44)) [] [] → ⊥
+unfolding askWrote judgedFilters judgedKnowledge filtersGiven noMore filtersFrom knowledgeGiven knowledgeOf valued finish nextIs headerAt headerOf sized startOf endOf le writtenIn askBytes askFront versionBytes userAgentBytes subRequestBytes subRequestData queryBytes argumentBytes argumentData constraintBytes askEnds startBytes longStart endBytes extendedGuidBytes compactBytes sizeOf formOf formFrom bytes
+one-byte-short h = let z : _≡_ {A = ℕ} 44 45 = ap (λ (t : Told). t .needed) (h .0) in omega arith
+
+-- ---- read_answer
+
+-- nothing lacks its version: 2, and not 7
+version-first : ReadsAnswer [] (answer.Refused (faultAt 7 0)) → ⊥
+unfolding versions fixedIn le responseStart startHere runHere closedAt packageStart startOfLength lengthIs placeOf skip walkFrom nextIs endHere subResponse changes knowledgeIn knowledgeAt knowledgeFrom knowledgeTurn toGo iterate turns valued endsOf finish restOf answerEnd answerOn answerIn
+version-first h = let z : _≡_ {A = ℕ} 7 2 = ap (λ (t : Told). t .number) h in omega arith
+
+-- an answer read out of nothing
+abbrev nothing-came : Received
+nothing-came = record { id = 0; partial = false; index = id.Null; elements = 0; count = 0; knowledge = 0; length = 0 }
+
+read-from-nothing : ReadsAnswer [] (answer.Is nothing-came) → ⊥
+unfolding versions fixedIn le responseStart startHere runHere closedAt packageStart startOfLength lengthIs placeOf skip walkFrom nextIs endHere subResponse changes knowledgeIn knowledgeAt knowledgeFrom knowledgeTurn toGo iterate turns valued endsOf finish restOf answerEnd answerOn answerIn
+read-from-nothing h = let z : _≡_ {A = ℕ} 0 2 = ap (λ (t : Told). t .number) h in omega arith
+
+-- ---- find_received
+
+-- nothing is at fault, which comes before any position: 2, and not 9
+position-first : FindsReceived [] 0 (found.Refused (faultAt 9 0)) → ⊥
+unfolding versions fixedIn le responseStart startHere runHere closedAt packageStart startOfLength lengthIs placeOf skip walkFrom nextIs endHere subResponse changes knowledgeIn knowledgeAt knowledgeFrom knowledgeTurn toGo iterate turns valued endsOf finish restOf answerEnd receivedAt
+position-first h = let z : _≡_ {A = ℕ} 9 2 = ap (λ (t : Told). t .number) h in omega arith
+
+-- an element at the front of nothing
+found-in-nothing : FindsReceived [] 0 (found.At 0 0) → ⊥
+unfolding versions fixedIn le responseStart startHere runHere closedAt packageStart startOfLength lengthIs placeOf skip walkFrom nextIs endHere subResponse changes knowledgeIn knowledgeAt knowledgeFrom knowledgeTurn toGo iterate turns valued endsOf finish restOf answerEnd receivedAt
+found-in-nothing h = let z : _≡_ {A = ℕ} 0 2 = ap (λ (t : Told). t .number) h in omega arith
+
+-- ---- received_bytes
+
+-- one byte is no answer: the empty part, and not the byte
+byte-given : 0x0C ∷ [] ≡ receivedBytes (0x0C ∷ []) 0 → ⊥
+unfolding versions fixedIn le responseStart startHere runHere closedAt packageStart startOfLength lengthIs placeOf skip walkFrom nextIs endHere subResponse changes knowledgeIn knowledgeAt knowledgeFrom knowledgeTurn toGo iterate turns valued endsOf finish restOf answerEnd receivedAt receivedBytes
+byte-given h = impossible (cc)
+
+-- ---- the smallest answer, of 41 bytes: no element, no storage index and no range
+
+abbrev smallest : List ℕ
+smallest =
+    0x0C ∷ 0x00 ∷ 0x0B ∷ 0x00 ∷ 0x9D ∷ 0xCF ∷ 0x29 ∷ 0xF3 ∷ 0x39 ∷ 0x94 ∷ 0x06 ∷ 0x9B ∷ 0x16 ∷ 0x03 ∷ 0x02 ∷ 0x00 ∷ 0x00 ∷ 0xAC ∷ 0x02 ∷ 0x00 ∷ 0x55 ∷ 0x0E ∷ 0x02 ∷ 0x06 ∷ 0x00 ∷ 0x03 ∷ 0x05 ∷ 0x00 ∷ 0xFA ∷ 0x02 ∷ 0x04 ∷ 0x00 ∷ 0x00 ∷ 0x00 ∷ 0x84 ∷ 0x00 ∷ 0x41 ∷ 0x07 ∷ 0x01 ∷ 0x8B ∷ 0x01 ∷ []
+
+-- read_answer: it is not marked partial
+abbrev marked : Received
+marked = record { id = 1; partial = true; index = id.Null; elements = 20; count = 0; knowledge = 34; length = 3 }
+
+marked-partial : ReadsAnswer smallest (answer.Is marked) → ⊥
+unfolding versions fixedIn le responseStart startHere runHere closedAt packageStart startOfLength lengthIs placeOf skip walkFrom nextIs endHere subResponse changes knowledgeIn knowledgeAt knowledgeFrom knowledgeTurn toGo iterate turns valued endsOf finish restOf answerEnd headerAt headerOf sized startOf endOf lengthAt statusByte responseFields subResponseFields changesFields need valueOf number numberIs idHere onId readCompact formAt readForm compact.valueOf sizeOf readExtendedGuid formOfId trailingZeros answerOn answerIn receivedFrom idIn idNumbers receivedNumbers
+marked-partial h = let z : _≡_ {A = ℕ} 1 0 = ap (λ (t : Told). getD (t .values) 3 0) h in omega arith
+
+-- ---- an answer that holds one element, of 46 bytes from place 20 on
+
+abbrev of-one : List ℕ
+of-one =
+    0x0C ∷ 0x00 ∷ 0x0B ∷ 0x00 ∷ 0x9D ∷ 0xCF ∷ 0x29 ∷ 0xF3 ∷ 0x39 ∷ 0x94 ∷ 0x06 ∷ 0x9B ∷ 0x16 ∷ 0x03 ∷ 0x02 ∷ 0x00 ∷ 0x00 ∷ 0xAC ∷ 0x02 ∷ 0x00 ∷ 0x0C ∷ 0x56 ∷ 0x0C ∷ 0x01 ∷ 0x00 ∷ 0x00 ∷ 0x00 ∷ 0x00 ∷ 0x00 ∷ 0x00 ∷ 0x00 ∷ 0x00 ∷ 0x00 ∷ 0x00 ∷ 0x00 ∷ 0x00 ∷ 0x00 ∷ 0x00 ∷ 0x00 ∷ 0x80 ∷ 0x02 ∷ 0x00 ∷ 0x00 ∷ 0x00 ∷ 0x00 ∷ 0x00 ∷ 0x00 ∷ 0x00 ∷ 0x00 ∷ 0x00 ∷ 0x00 ∷ 0x00 ∷ 0x00 ∷ 0x00 ∷ 0x00 ∷ 0x00 ∷ 0x03 ∷ 0x00 ∷ 0x00 ∷ 0x00 ∷ 0x00 ∷ 0x00 ∷ 0x00 ∷ 0x00 ∷ 0x03 ∷ 0x05 ∷ 0x55 ∷ 0x0E ∷ 0x02 ∷ 0x06 ∷ 0x00 ∷ 0x03 ∷ 0x05 ∷ 0x00 ∷ 0xFA ∷ 0x02 ∷ 0x04 ∷ 0x00 ∷ 0x00 ∷ 0x00 ∷ 0x84 ∷ 0x00 ∷ 0x41 ∷ 0x07 ∷ 0x01 ∷ 0x8B ∷ 0x01 ∷ []
+
+-- find_received: 9, though it is there
+refused-there : FindsReceived of-one 0 (found.Refused (faultAt 9 0)) → ⊥
+unfolding versions fixedIn le responseStart startHere runHere closedAt packageStart startOfLength lengthIs placeOf skip walkFrom nextIs endHere subResponse changes knowledgeIn knowledgeAt knowledgeFrom knowledgeTurn toGo iterate turns valued endsOf finish restOf answerEnd headerAt headerOf sized startOf endOf lengthAt statusByte responseFields subResponseFields changesFields need valueOf number numberIs idHere onId readCompact formAt readForm compact.valueOf sizeOf readExtendedGuid formOfId trailingZeros elementAt elementOn dataOf fieldsOf serialField idField onKey keyHere freshKey numberedKey namedKey seen sameKey serialHere onSerial readSerial numbered guidAt shortForm namedOf inside runAt objectAt elementIn receivedAt
+refused-there h = let z : _≡_ {A = ℕ} 9 0 = ap (λ (t : Told). t .number) h in omega arith
+
+-- received_bytes: nothing, though it is there
+none-given : [] ≡ receivedBytes of-one 0 → ⊥
+unfolding versions fixedIn le responseStart startHere runHere closedAt packageStart startOfLength lengthIs placeOf skip walkFrom nextIs endHere subResponse changes knowledgeIn knowledgeAt knowledgeFrom knowledgeTurn toGo iterate turns valued endsOf finish restOf answerEnd headerAt headerOf sized startOf endOf lengthAt statusByte responseFields subResponseFields changesFields need valueOf number numberIs idHere onId readCompact formAt readForm compact.valueOf sizeOf readExtendedGuid formOfId trailingZeros elementAt elementOn dataOf fieldsOf serialField idField onKey keyHere freshKey numberedKey namedKey seen sameKey serialHere onSerial readSerial numbered guidAt shortForm namedOf inside runAt objectAt elementIn receivedAt receivedBytes
+none-given h = impossible (cc)

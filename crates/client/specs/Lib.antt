@@ -1,0 +1,5 @@
+pub mod AskWritten
+pub mod Ask
+pub mod Read
+pub mod Accessor
+pub mod Back

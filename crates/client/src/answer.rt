@@ -1,0 +1,160 @@
+// An answer read whole: a function for each part, in the order of document 01's answer bytes.
+ghost use mathlib.Core.Path.{_≡_};
+ghost use Prim.Native.Nat.{_≤_};
+ghost use lib.ListN.{length};
+ghost use Rattle.client.specs.Read.{statusByte, responseFields, responseStart, subResponseFields, subResponse, changesFields, idIn, endsOf, answerOn, receivedFrom, restOf, answerIn, ReadsAnswer};
+ghost use Rattle.client.specs.Accessor.{rowsReceived};
+use numbers::extended_guid::ExtendedGuid;
+use numbers::refusal::Refusal;
+use numbers::refusal::at_place;
+use objects::layout::NOTHING;
+use objects::reading::Reading;
+use objects::reading::ReadingId;
+use pages::write::CHANGES;
+use pages::write::RESPONSE;
+use pages::write::SIGNATURE;
+use pages::write::SUB_RESPONSE;
+use request::message::on_knowledge;
+use request::message::versions;
+use store::knowledge::read_knowledge;
+use store::package::Packaged;
+use store::package::package_start;
+use store::package::read_package;
+
+// An answer that is longer is refused with 1.
+pub const LONGEST_ANSWER: usize = 16842752;
+
+// Levels left inside a specialized knowledge of another kind.
+const KNOWLEDGE_LEVELS: usize = 13;
+
+// What came: the id, whether the answer is marked partial, the storage index, the place and the number of the elements, and the
+// place and the length of the knowledge.
+pub struct Received {
+    pub id: u64,
+    pub partial: bool,
+    pub index: ExtendedGuid,
+    pub elements: usize,
+    pub count: usize,
+    pub knowledge: usize,
+    pub length: usize,
+}
+
+pub enum ReadAnswer {
+    Is(Received),
+    Refused(Refusal),
+}
+
+// A status byte.
+fn status_byte(d: &[u8], c: Reading) -> Reading
+    ensures { λ r. ⌜ r ≡ statusByte (now (d .entry)) c ⌝ }
+{
+    let b = c.fixed_in(d, 1, 0, 255, 5);
+    b.need(b.value() % 2 == 0, 5, c.place())
+}
+
+// The status, in the part that the response's data run is.
+fn response_fields(d: &[u8]) -> Reading
+    ensures { λ r. ⌜ r ≡ responseFields (now (d .entry)) ⌝ }
+{
+    status_byte(d, Reading::At(0, 0))
+}
+
+// The versions, the signature, and the response's start.
+fn response_start(s: &[u8]) -> Reading
+    ensures { λ r. ⌜ r ≡ responseStart (now (s .entry)) ⌝ }
+{
+    let o = versions(s, SIGNATURE).start(s, NOTHING, RESPONSE, true, true);
+    o.closed(s, response_fields(o.run(s)))
+}
+
+// Id, type and status, in the part that the sub-response's data run is.
+fn sub_response_fields(d: &[u8]) -> Reading
+    ensures { λ r. ⌜ r ≡ subResponseFields (now (d .entry)) ⌝ }
+{
+    let id = Reading::At(0, 0).number(d);
+    status_byte(d, id.number_is(d, 2, 8)).valued(id.value())
+}
+
+fn sub_response(s: &[u8], c: Reading) -> Reading
+    ensures { λ r. ⌜ r ≡ subResponse (now (s .entry)) c ⌝ }
+{
+    let o = c.start(s, RESPONSE, SUB_RESPONSE, true, true);
+    o.closed(s, sub_response_fields(o.run(s)))
+}
+
+// Storage index and partial byte, in the part that their data run is.
+fn changes_fields(d: &[u8]) -> Reading
+    ensures { λ r. ⌜ r ≡ changesFields (now (d .entry)) ⌝ }
+{
+    Reading::At(0, 0)
+        .extended_guid(d)
+        .on()
+        .fixed_in(d, 1, 0, 255, 5)
+}
+
+// The extended GUID that was read.
+fn id_in(c: ReadingId) -> ExtendedGuid
+    ensures { λ r. ⌜ r ≡ idIn c ⌝ }
+{
+    match c {
+        ReadingId::At(_, x) => x,
+        ReadingId::Refused(_) => ExtendedGuid::Null,
+    }
+}
+
+// The ends, and nothing after them.
+fn ends(s: &[u8], c: Reading) -> Reading
+    ensures { λ r. ⌜ r ≡ endsOf (now (s .entry)) c ⌝ }
+{
+    c.end(s, SUB_RESPONSE).end(s, RESPONSE).finish(s)
+}
+
+// From behind the package to the end; the package's elements begin at a place, and are so many.
+fn read_rest(s: &[u8], c: Reading, elements: usize, count: usize) -> ReadAnswer
+    ensures { λ r. ⌜ r ≡ answerOn (restOf (now (s .entry)) c) (receivedFrom (now (s .entry)) c elements count) ⌝ }
+{
+    let sub = sub_response(s, c);
+    let o = sub.start(s, SUB_RESPONSE, CHANGES, false, true);
+    let d = o.run(s);
+    let mark = o.closed(s, changes_fields(d));
+    let mut table = [0u64; 2048];
+    let k = on_knowledge(read_knowledge(s, mark, SUB_RESPONSE, KNOWLEDGE_LEVELS, &mut table));
+    match ends(s, k) {
+        Reading::Refused(r) => ReadAnswer::Refused(r),
+        Reading::At(_, _) => ReadAnswer::Is(Received {
+            id: sub.value(),
+            partial: mark.value() % 2 == 1,
+            index: id_in(Reading::At(0, 0).extended_guid(d)),
+            elements,
+            count,
+            knowledge: mark.place(),
+            length: k.place() - mark.place(),
+        }),
+    }
+}
+
+// An answer, with the rows and ids of its elements in working tables.
+pub(crate) fn read_rows(s: &[u8], rows: &mut [u64], ids: &mut [u64]) -> ReadAnswer
+    requires { ⌜ (1536 ≤ length (now rows)) × (768 ≤ length (now ids)) ⌝ }
+    ensures { λ r. ⌜ (r ≡ answerIn (now (s .entry))) × (now (rows .exit) ≡ rowsReceived (now (s .entry)) (now (rows .entry))) ⌝ }
+{
+    if LONGEST_ANSWER < s.len() {
+        return ReadAnswer::Refused(at_place(1, LONGEST_ANSWER));
+    }
+    let c = response_start(s);
+    let first = package_start(s, c, RESPONSE).place();
+    match read_package(s, c, RESPONSE, rows, ids) {
+        Packaged::Refused(r) => ReadAnswer::Refused(r),
+        Packaged::Holds(n, e) => read_rest(s, Reading::At(e, 0), first, n),
+    }
+}
+
+// An answer. Nothing is asked of the caller. Ruled out (proofs/WrongAnswers), of no bytes: 7 for the version that is not there; an
+// answer read out of nothing. Of the smallest answer, of 41 bytes: the mark that it is partial.
+pub fn read_answer(s: &[u8]) -> ReadAnswer
+    ensures { λ r. ⌜ ReadsAnswer (now (s .entry)) r ⌝ }
+{
+    let mut rows = [0u64; 1536];
+    let mut ids = [0u64; 768];
+    read_rows(s, &mut rows, &mut ids)
+}
