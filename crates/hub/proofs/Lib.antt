@@ -1,3 +1,4 @@
 pub mod Reports
+pub mod BenchReports
 pub mod Laws
 pub mod WrongAnswers

@@ -1,22 +1,18 @@
--- What the call exported to C promises. "The form exported to C has tables of its own and takes byte slices and numbers; it returns
--- the refusal number or 0, and a slice, if of 24 bytes or more, takes in its first 24 input (0 or 1), place and length as 8-byte
--- numbers (on success 0, 0 and the answer's length); its other bytes stay." On a refusal the length is the needed one (D-25).
+-- What the answering call promises in the form exported to C. "The form exported to C has tables of its own and takes byte slices and
+-- numbers; it returns the refusal number or 0, and a slice, if of 24 bytes or more, takes in its first 24 input (0 or 1), place and
+-- length as 8-byte numbers (on success 0, 0 and the answer's length); its other bytes stay."
 -- Assumes nothing.
 use mathlib.Core.Path.{_≡_}
 use Prim.Native.Nat.{ℕ}
-use mathlib.Core.List.{List, _++_}
+use mathlib.Core.List.{List}
 use lib.ListN.{length}
-use Rattle.laws.specs.Bytes.{bytes}
 use Rattle.laws.specs.Placed.{placed}
 use Rattle.pages.specs.Answer.{Outcome, refused, answered, numberIn, answerOf, outputAfter}
-
--- "as 8-byte numbers"
-abbrev pub threeNumbers : ℕ → ℕ → ℕ → List ℕ
-threeNumbers input place n = bytes 8 input ++ (bytes 8 place ++ bytes 8 n)
+use Rattle.hub.specs.Report.{threeNumbers, refusalReport}
 
 -- the report: "input (0 or 1), place and length"
 unfoldable pub reportBytes : Outcome → List ℕ
-reportBytes (refused r) = threeNumbers (r .input) (r .place) (r .needed)
+reportBytes (refused r) = refusalReport r
 reportBytes (answered w all l) = threeNumbers 0 0 (length w)
 
 -- "has tables of its own": of as many numbers as the answering call asks for

@@ -1,4 +1,4 @@
--- `hub_answer` meets its contract: what the answering call tells is the number and the report.
+-- `hub_answer` meets its contract.
 -- Assumes nothing.
 use Rattle.hub.proofs.Reports.{hub-sent, hub-refused}
 use borrow.Author.Needs.{needs}
@@ -14,23 +14,20 @@ slice-aggregate-answer-2 c = search needs
 answer-requires : tie.Need-answer-requires
 answer-requires c κs = search needs
 
-enum-known-n : tie.Need-enum-known-n
-enum-known-n c = search needs
-
-put-report-requires : tie.Need-put-report-requires
-put-report-requires c κs = search needs
-
 enum-known-r : tie.Need-enum-known-r
 enum-known-r c = search needs
 
-cast-put-report : tie.Need-cast-put-report
-cast-put-report c = search needs
+refuse-requires : tie.Need-refuse-requires
+refuse-requires c κs = search needs
 
-put-report-requires-2 : tie.Need-put-report-requires-2
-put-report-requires-2 c κs = search needs
+enum-known-n : tie.Need-enum-known-n
+enum-known-n c = search needs
 
-cast-result : tie.Need-cast-result
-cast-result c = search needs
+slice-aggregate-put-report : tie.Need-slice-aggregate-put-report
+slice-aggregate-put-report c = search needs
+
+put-report-requires : tie.Need-put-report-requires
+put-report-requires c κs = search needs
 
 same-length : tie.Need-same-length
 same-length c = search needs
@@ -40,10 +37,10 @@ same-length-2 c = search needs
 
 returns : tie.Need-returns
 returns c =
-    let m = c .before .before .before .before .before in
-    let k = m .before .before .before .before .before .before in
-    let out = k .before .before .before .before .before .before .before .before .args .out .now in
-    hub-sent _ _ _ _ out _ _ _ _ _ _ (rw (m .n .given .1) at (k .answer .ensures)) (c .before .before .put-report .ensures)
+    let k = c .before .before .before .before .before .before .before .before .before .before .before in
+    let out = c .before .before .before .before .before .before .before .before .before .before .before .before .before .before .before .before .before .before .before .args .out .now in
+    let f = c .before .before .refuse .ensures in
+    rw (f .0) (hub-refused _ _ _ _ out _ _ _ (c .before .before .before .before .before .r .given .0 .0) (rw (c .before .before .before .before .before .r .given .1) at (k .answer .ensures)) (f .1))
 
 same-length-3 : tie.Need-same-length-3
 same-length-3 c = search needs
@@ -53,10 +50,9 @@ same-length-4 c = search needs
 
 returns-2 : tie.Need-returns-2
 returns-2 c =
-    let m = c .before .before .before .before .before .before .before in
-    let k = m .before .before .before .before .before .before in
-    let out = k .before .before .before .before .before .before .before .before .args .out .now in
-    hub-refused _ _ _ _ out _ _ _ _ (rw (m .r .given .1) at (k .answer .ensures)) (c .before .before .before .put-report2 .ensures)
+    let k = c .before .before .before .before .before .before .before .before .before .before .before .before in
+    let out = c .before .before .before .before .before .before .before .before .before .before .before .before .before .before .before .before .before .before .before .before .args .out .now in
+    hub-sent _ _ _ _ out _ _ _ _ _ _ (rw (c .before .before .before .before .before .before .n .given .1) at (k .answer .ensures)) (c .before .before .put-report .ensures)
 
 pub hub-answer-spec : {M : Type 1} → statement M
 hub-answer-spec =
@@ -65,12 +61,11 @@ hub-answer-spec =
     slice-aggregate-answer
     slice-aggregate-answer-2
     answer-requires
-    enum-known-n
-    put-report-requires
     enum-known-r
-    cast-put-report
-    put-report-requires-2
-    cast-result
+    refuse-requires
+    enum-known-n
+    slice-aggregate-put-report
+    put-report-requires
     same-length
     same-length-2
     returns

@@ -1,73 +1,90 @@
--- `put_report` meets its contract: three numbers, one behind the other.
+-- `put_report` meets its contract. The invariant: the first i numbers stand at the report's front.
 -- Assumes nothing.
-use mathlib.Core.Path.{_≡_, sym}
-use mathlib.Core.List.{_++_}
-use Prim.Native.Nat.{_-_}
-use lib.ListN.{length, take, drop}
-use borrow.Rule.Slice.PartMut.{putMid}
+use mathlib.Core.Path.{_≡_, refl, sym}
+use Prim.Native.Nat.{_-_, _*_, _≤_}
+use native.Mathlib.Omega.{arith}
+use lib.ListN.{length, take, getD}
+use lib.Seq.{take-all}
 use Rattle.laws.specs.Bytes.{bytes}
-use Rattle.laws.proofs.Parts.{tail-part, mid-tail}
-use Rattle.hub.proofs.Reports.{three-short, three-put}
+use Rattle.laws.specs.Placed.{Lays}
+use Rattle.laws.proofs.Numbers.{length-bytes}
+use Rattle.hub.specs.Report.{numbersBytes}
+use Rattle.hub.proofs.Reports.{numbers-then, numbers-short, numbers-placed}
 use borrow.Author.Needs.{needs}
 use Rattle.hub.proofs.put_report.Statement.{statement}
 use Rattle.hub.proofs.put_report.Tie as tie
 
-returns : tie.Need-returns
-returns c = let a = c .before .before .args in sym (three-short (a .input) (a .place) (a .length) (a .report .now) (c .if1 .taken))
+abbrev Inv-loop : tie.InvT-loop
+Inv-loop report₀ numbers n at₀ i₀ report at i =
+    (i ≤ n) × (n ≡ length numbers) × (n * 8 ≤ length report₀) × (length report ≡ length report₀) × (at ≡ i * 8)
+    × Lays 0 (numbersBytes (take i numbers)) report₀ at report
 
-put-le-requires : tie.Need-put-le-requires
-put-le-requires c κs = search needs
+abbrev μ-loop : tie.MeasureT-loop
+μ-loop report₀ numbers n at₀ i₀ report at i = n - i
 
-sub-put-le : tie.Need-sub-put-le
-sub-put-le c = search needs
+returns : tie.Need-returns Inv-loop μ-loop
+returns c = let a = c .before .before .before .args in sym (numbers-short (a .numbers .now) (a .report .now) (c .if1 .taken))
 
-part-put-le-start : tie.Need-part-put-le-start
-part-put-le-start c = search needs
+loop-holds : tie.Need-loop-holds Inv-loop μ-loop
+unfolding numbersBytes
+loop-holds c = (omega arith, refl, omega arith, refl, refl, (refl, refl))
 
-part-put-le-end : tie.Need-part-put-le-end
-part-put-le-end c = search needs
+mul-lay-le : tie.Need-mul-lay-le Inv-loop μ-loop
+mul-lay-le c = omega arith
 
-put-le-requires-2 : tie.Need-put-le-requires-2
-put-le-requires-2 c κs = search needs
+shared-slice-read-lay-le : tie.Need-shared-slice-read-lay-le Inv-loop μ-loop
+shared-slice-read-lay-le c = omega arith
 
-sub-put-le-2 : tie.Need-sub-put-le-2
-sub-put-le-2 c = search needs
+lay-le-requires : tie.Need-lay-le-requires Inv-loop μ-loop
+lay-le-requires c κs = omega arith
 
-part-put-le-start-2 : tie.Need-part-put-le-start-2
-part-put-le-start-2 c = search needs
+add-i : tie.Need-add-i Inv-loop μ-loop
+add-i c = omega arith
 
-part-put-le-end-2 : tie.Need-part-put-le-end-2
-part-put-le-end-2 c = search needs
+loop-less : tie.Need-loop-less Inv-loop μ-loop
+loop-less c = omega arith
 
-put-le-requires-3 : tie.Need-put-le-requires-3
-put-le-requires-3 c κs = search needs
+loop-again : tie.Need-loop-again Inv-loop μ-loop
+loop-again c =
+    let y = c .before .before in
+    let l = y .before .before .before .before in
+    let a = l .before .before .before .before .args in
+    let x = getD (a .numbers .now) (l .loop .i) 0 in
+    let e : Lays (l .loop .at) (bytes 8 x) (l .loop .report) (y .lay-le .result) (y .lay-le .last .0) = y .lay-le .ensures in
+    let f = e .0 in
+    let m = length-bytes 8 x in (
+      omega arith,
+      l .loop .inv .1,
+      l .loop .inv .2,
+      omega arith,
+      omega arith,
+      numbers-then (a .numbers .now) (a .report .now) (l .loop .i) (l .loop .at) (l .loop .report) (y .lay-le .result) (y .lay-le .last .0) (omega arith) (omega arith)
+          (l .loop .inv .5) e,
+    )
 
-same-length : tie.Need-same-length
-same-length c = search needs
+same-length : tie.Need-same-length Inv-loop μ-loop
+same-length c = c .before .loop .inv .3
 
-returns-2 : tie.Need-returns-2
+returns-2 : tie.Need-returns-2 Inv-loop μ-loop
 returns-2 c =
-    let k = c .before .before .before .before .before .before in
-    let j = k .before .before .before .before in
-    let a = j .before .before .before .before .args in
-    let b = putMid 8 (length (j .put-le .last .0) - 8) (j .put-le .last .0) (k .put-le2 .last .0) in
-    let two : b ≡ take 8 (bytes 8 (a .input) ++ drop 8 (a .report .now)) ++ (bytes 8 (a .place) ++ drop 8 (drop 8 (bytes 8 (a .input) ++ drop 8 (a .report .now)))) = rw (mid-tail, k .put-le2 .ensures, tail-part, j .put-le .ensures) in
-    rw (mid-tail 16 b (c .before .before .put-le3 .last .0), c .before .before .put-le3 .ensures, tail-part 16 b)
-    (three-put (a .input) (a .place) (a .length) (a .report .now) b (j .before .before .if1 .left) two)
+    let l = c .before in
+    let a = l .before .before .before .before .args in
+    let e : take (l .loop .i) (a .numbers .now) ≡ a .numbers .now = take-all (l .loop .i) (a .numbers .now) (omega arith) in
+    numbers-placed (a .numbers .now) (a .report .now) (l .loop .at) (l .loop .report) (omega arith) (rw e at (l .loop .inv .5))
 
 pub put-report-spec : {M : Type 1} → statement M
 put-report-spec =
     tie.close
     (tie.spec
+    Inv-loop
+    μ-loop
     returns
-    put-le-requires
-    sub-put-le
-    part-put-le-start
-    part-put-le-end
-    put-le-requires-2
-    sub-put-le-2
-    part-put-le-start-2
-    part-put-le-end-2
-    put-le-requires-3
+    loop-holds
+    mul-lay-le
+    shared-slice-read-lay-le
+    lay-le-requires
+    add-i
+    loop-less
+    loop-again
     same-length
     returns-2)

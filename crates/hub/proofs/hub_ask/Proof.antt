@@ -1,0 +1,64 @@
+-- `hub_ask` meets its contract.
+-- Assumes nothing.
+use Rattle.hub.proofs.BenchReports.{hub-wrote, hub-wrote-not}
+use borrow.Author.Needs.{needs}
+use Rattle.hub.proofs.hub_ask.Statement.{statement}
+use Rattle.hub.proofs.hub_ask.Tie as tie
+
+write-request-requires : tie.Need-write-request-requires
+write-request-requires c κs = search needs
+
+enum-known-r : tie.Need-enum-known-r
+enum-known-r c = search needs
+
+refuse-requires : tie.Need-refuse-requires
+refuse-requires c κs = search needs
+
+enum-known-n : tie.Need-enum-known-n
+enum-known-n c = search needs
+
+slice-aggregate-put-report : tie.Need-slice-aggregate-put-report
+slice-aggregate-put-report c = search needs
+
+put-report-requires : tie.Need-put-report-requires
+put-report-requires c κs = search needs
+
+same-length : tie.Need-same-length
+same-length c = search needs
+
+same-length-2 : tie.Need-same-length-2
+same-length-2 c = search needs
+
+returns : tie.Need-returns
+returns c =
+    let k = c .before .before .before .before .before .before .before .before .before in
+    let f = c .before .before .refuse .ensures in
+    rw (f .0) (hub-wrote-not _ _ _ _ _ _ (c .before .before .before .before .before .r .given .0 .0) (rw (c .before .before .before .before .before .r .given .1) at (k .write-request .ensures)) (f .1))
+
+same-length-3 : tie.Need-same-length-3
+same-length-3 c = search needs
+
+same-length-4 : tie.Need-same-length-4
+same-length-4 c = search needs
+
+returns-2 : tie.Need-returns-2
+returns-2 c =
+    let k = c .before .before .before .before .before .before .before .before .before .before in
+    hub-wrote _ _ _ _ _ _ (c .before .before .before .before .before .before .n .given .0 .0) (rw (c .before .before .before .before .before .before .n .given .1) at (k .write-request .ensures)) (c .before .before .put-report .ensures)
+
+pub hub-ask-spec : {M : Type 1} → statement M
+hub-ask-spec =
+    tie.close
+    (tie.spec
+    write-request-requires
+    enum-known-r
+    refuse-requires
+    enum-known-n
+    slice-aggregate-put-report
+    put-report-requires
+    same-length
+    same-length-2
+    returns
+    same-length-3
+    same-length-4
+    returns-2)
