@@ -8,5 +8,6 @@ archive:
 	@rt staticlib hub
 
 run:
-	@echo 'There is no program for users yet. The call for daemons in C is hub_answer, declared in include/hub.h.'
-	@echo 'make archive writes the archive with it, target/staticlib/libhub.a; make test proves every crate and runs the tests.'
+	@echo 'There is no program for users yet. The calls for daemons in C are declared in include/hub.h:'
+	@echo 'hub_answer for the hub; hub_ask, hub_read and hub_element for the bench.'
+	@echo 'make archive writes the archive with them, target/staticlib/libhub.a; make test proves every crate and runs the tests.'

@@ -1,6 +1,6 @@
 #!/bin/sh
 # What make test does, in this order: the toolchain is the one that the file toolchain names; every source file is in
-# the layout; rt ci passes; the call exported to C does from C what it should; no library rests on an axiom. Only if all
+# the layout; rt ci passes; the calls exported to C do from C what they should; no library rests on an axiom. Only if all
 # of it holds is the last line rt ci's own, 'N passed, 0 failed', and the exit status 0.
 set -u
 cd "$(dirname "$0")/.." || exit 1
@@ -32,8 +32,8 @@ last=$(tail -n 1 "$room/log")
 printf '%s\n' "$last" | grep -Eq '^[1-9][0-9]* passed, 0 failed$' ||
     fail "rt ci ended with status 0, and its last line is not 'N passed, 0 failed'"
 
-# ---- the call exported to C
-sh tests/c.sh || fail 'the tests of the call exported to C (tests/c.sh) fail'
+# ---- the calls exported to C
+sh tests/c.sh || fail 'the tests of the calls exported to C (tests/c.sh) fail'
 
 # ---- no axiom
 # The only axioms that rt admits are the contracts of C functions. It counts them (axioms=) for a program, which may

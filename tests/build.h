@@ -1,5 +1,5 @@
 /* Bytes of stores, requests and answers as document 01 lays them out, each item in its shortest form: what the tests of the
-   exported call hand in, and what they await. */
+   exported calls hand in, and what they await. */
 #ifndef BUILD_H
 #define BUILD_H
 
@@ -11,8 +11,8 @@
 
 /* Types by number. */
 enum { ELEMENT = 0x01, RANGE = 0x0F, KNOWLEDGE = 0x10, CELL_KNOWLEDGE = 0x14, PACKAGE = 0x15, INSIDE = 0x1D };
-enum { REQUEST = 0x40, SUB_RESPONSE = 0x41, SUB_REQUEST = 0x42, SPECIALIZED = 0x44, QUERY_CHANGES = 0x51, CONSTRAINT = 0x59 };
-enum { ARGUMENTS = 0x5B, USER_AGENT = 0x5D, CHANGES = 0x5F, RESPONSE = 0x62 };
+enum { REQUEST = 0x40, SUB_RESPONSE = 0x41, SUB_REQUEST = 0x42, SPECIALIZED = 0x44, FILTER = 0x47, QUERY_CHANGES = 0x51 };
+enum { CONSTRAINT = 0x59, ARGUMENTS = 0x5B, USER_AGENT = 0x5D, CHANGES = 0x5F, RESPONSE = 0x62 };
 
 /* The limit that a request without a constraint has. */
 #define NO_LIMIT UINT64_MAX
@@ -180,8 +180,15 @@ static void add_agent(struct text *t, size_t inside) {
     add_end(t, USER_AGENT);
 }
 
-/* A request with the id 1, this limit and n known ranges. */
-static void add_request(struct text *t, uint64_t limit, const struct range *r, size_t n, size_t agent) {
+static void add_constraint(struct text *t, uint64_t limit) {
+    struct text most = {0};
+    add_compact(&most, limit);
+    add_start(t, CONSTRAINT, 0, most.length);
+    add_text(t, &most);
+}
+
+/* A request with the id 1, up to its arguments. */
+static void add_request_front(struct text *t, size_t agent) {
     add_le(t, 2, 12);
     add_le(t, 2, 11);
     add_le(t, 8, 0x9B069439F329CF9C);
@@ -195,16 +202,14 @@ static void add_request(struct text *t, uint64_t limit, const struct range *r, s
     add_byte(t, 0);
     add_start(t, ARGUMENTS, 0, 3);
     add_le(t, 3, 3);
-    struct text most = {0};
-    add_compact(&most, limit);
-    add_start(t, CONSTRAINT, 0, most.length);
-    add_text(t, &most);
-    add_knowledge(t, r, n);
+}
+
+static void add_request_ends(struct text *t) {
     add_end(t, SUB_REQUEST);
     add_end(t, REQUEST);
 }
 
-/* The answer to it from a store with no element of type 1: these elements, the partial byte and n ranges. */
+/* The answer to a request with the id 1 from a store with no element of type 1: these elements, the partial byte and n ranges. */
 static void add_answer(struct text *t, struct text elements, unsigned partial, const struct range *r, size_t n) {
     add_le(t, 2, 12);
     add_le(t, 2, 11);

@@ -1,24 +1,18 @@
-/* The numbers of document 01 that are run, put to the call exported to C: lengths, pages, whole talks, ranges, 2^64-1, inputs of
-   16,777,216 bytes and one more, reports of every kind, and empty slices. A line for each; the exit status is 1 if one of
-   them is not as document 01 has it. */
+/* hub_answer held to its limits: lengths, pages, whole talks, ranges, 2^64-1, inputs of 16,777,216 bytes and one more, reports,
+   empty slices. A line for each thing that is tried. `document 01` stands before the numbers that document 01 itself gives:
+   those of 'Numbers to test', 512 ranges, what follows 2^64-1, the longest inputs, a report of 24 bytes. `beside it` stands
+   before what is the project's own: room to spare and none, which refusal comes first, other reports, null pointers. The exit
+   status is 1 if a line is not ok. */
 #include "../include/hub.h"
 #include "build.h"
 #include "lent.h"
+#include "limits.h"
 
 #include <stdio.h>
 #include <stdlib.h>
 #include <string.h>
 
-#define SERIALS 0x22u /* the GUID of the serial numbers */
-#define OTHERS 0x70u  /* the GUID of the other ranges; it comes behind */
-#define LONGEST ((size_t)HUB_LONGEST_INPUT)
-
-static int failures = 0;
-
-static void tell(const char *what, int good) {
-    printf("%s: %s\n", good ? "ok" : "NOT OK", what);
-    failures += !good;
-}
+#define OTHERS 0x70u /* the GUID of the other ranges; it comes behind */
 
 /* Whether a call with this much output gives the number and the report, and leaves alone all else. Where there is an answer, it
    is to be the bytes of `answer`. */
@@ -47,12 +41,12 @@ static int refuses(struct text store, struct text request, size_t room, uint64_t
     return gives(store, request, room, number, input, place, needed, NULL);
 }
 
-/* A store of n elements whose serial numbers count up. */
-static struct text store_of(uint64_t serial, unsigned n) {
-    struct text elements = {0}, store = {0};
-    add_elements(&elements, 1, SERIALS, serial, n);
-    add_package(&store, elements);
-    return store;
+/* A request with the id 1, this limit and n known ranges. */
+static void add_request(struct text *t, uint64_t limit, const struct range *r, size_t n, size_t agent) {
+    add_request_front(t, agent);
+    add_constraint(t, limit);
+    add_knowledge(t, r, n);
+    add_request_ends(t);
 }
 
 static struct text request_of(uint64_t limit, const struct range *r, size_t n) {
@@ -75,12 +69,12 @@ static void lengths(void) {
     struct range seven[1] = {{SERIALS, 7, 7}};
     struct text none = store_of(7, 0), one = store_of(7, 1), request = request_of(NO_LIMIT, NULL, 0);
     struct text first = answer_of(1, 7, 0, 0, NULL, 0), second = answer_of(1, 7, 1, 0, seven, 1);
-    tell("an empty store: 41 bytes", first.length == 41 && sends(none, request, 41, first));
-    tell("with room to spare", sends(none, request, 42, first) && sends(none, request, 4096, first));
-    tell("room for 40 is refused, needed 41", refuses(none, request, 40, HUB_OUTPUT_TOO_SHORT, 0, 0, 41));
-    tell("no room at all too", refuses(none, request, 0, HUB_OUTPUT_TOO_SHORT, 0, 0, 41));
-    tell("one element: 132 bytes", second.length == 132 && sends(one, request, 132, second));
-    tell("room for 131 is refused, needed 132", refuses(one, request, 131, HUB_OUTPUT_TOO_SHORT, 0, 0, 132));
+    paper("an empty store: 41 bytes", first.length == 41 && sends(none, request, 41, first));
+    beside("with room to spare", sends(none, request, 42, first) && sends(none, request, 4096, first));
+    paper("room for 40 is refused, needed 41", refuses(none, request, 40, HUB_OUTPUT_TOO_SHORT, 0, 0, 41));
+    beside("no room at all too", refuses(none, request, 0, HUB_OUTPUT_TOO_SHORT, 0, 0, 41));
+    paper("one element: 132 bytes", second.length == 132 && sends(one, request, 132, second));
+    beside("room for 131 is refused, needed 132", refuses(one, request, 131, HUB_OUTPUT_TOO_SHORT, 0, 0, 132));
 }
 
 /* ---- whole talks */
@@ -99,25 +93,25 @@ static int one_ask(uint64_t limit, unsigned known, unsigned page) {
 }
 
 /* Asks until all three are sent, and once more. The answer's knowledge is what the next ask knows. */
-static void talk(uint64_t limit, const unsigned *pages, const char *what) {
+static int talk(uint64_t limit, const unsigned *pages) {
     unsigned known = 0;
     int good = 1;
     while (known < 3) {
         good = good && one_ask(limit, known, *pages);
         known += *pages++;
     }
-    tell(what, good && one_ask(limit, 3, 0));
+    return good && one_ask(limit, 3, 0);
 }
 
 static void talks(void) {
     static const unsigned singly[3] = {1, 1, 1}, two_first[2] = {2, 1}, at_once[1] = {3};
-    talk(0, singly, "limit 0: pages of 1, 1, 1");
-    talk(46, singly, "limit 46: pages of 1, 1, 1");
-    talk(91, singly, "limit 91: pages of 1, 1, 1");
-    talk(92, two_first, "limit 92: pages of 2, 1");
-    talk(137, two_first, "limit 137: pages of 2, 1");
-    talk(138, at_once, "limit 138: a page of 3");
-    talk(NO_LIMIT, at_once, "limit 2^64-1: a page of 3");
+    paper("limit 0: pages of 1, 1, 1", talk(0, singly));
+    paper("limit 46: pages of 1, 1, 1", talk(46, singly));
+    paper("limit 91: pages of 1, 1, 1", talk(91, singly));
+    paper("limit 92: pages of 2, 1", talk(92, two_first));
+    paper("limit 137: pages of 2, 1", talk(137, two_first));
+    paper("limit 138: a page of 3", talk(138, at_once));
+    beside("limit 2^64-1: a page of 3", talk(NO_LIMIT, at_once));
 }
 
 /* ---- 512 ranges */
@@ -138,13 +132,13 @@ static void many_ranges(void) {
     struct text before = request_of(NO_LIMIT, known, 511), full = request_of(NO_LIMIT, known, 512);
     struct text over = request_of(NO_LIMIT, known, 513);
     struct text page = answer_of(1, 7, 1, 0, after, 512), same = answer_of(1, 7, 0, 0, known, 512);
-    tell("a page of 1 with 512 ranges", sends(one, before, page.length, page));
-    tell("a page of 1 that needs 513 ranges", refuses(one, full, 1 << 20, HUB_TOO_MANY, 0, 0, 0));
-    tell("the same with no room", refuses(one, full, 0, HUB_TOO_MANY, 0, 0, 0));
-    tell("512 ranges and nothing wanted", sends(none, full, same.length, same));
-    tell("no room for them", refuses(none, full, same.length - 1, HUB_OUTPUT_TOO_SHORT, 0, 0, same.length));
+    paper("a page of 1 with 512 ranges", sends(one, before, page.length, page));
+    paper("a page of 1 that needs 513 ranges", refuses(one, full, 1 << 20, HUB_TOO_MANY, 0, 0, 0));
+    beside("the same with no room", refuses(one, full, 0, HUB_TOO_MANY, 0, 0, 0));
+    beside("512 ranges and nothing wanted", sends(none, full, same.length, same));
+    beside("no room for them", refuses(none, full, same.length - 1, HUB_OUTPUT_TOO_SHORT, 0, 0, same.length));
     /* the 513th range stands before the four ends behind it: 1 + 2 + 1 + 2 + 2 bytes, and is 22 bytes long */
-    tell("513 ranges known", refuses(one, over, 1 << 20, HUB_TOO_MANY, 1, over.length - 8 - 22, 0));
+    paper("513 ranges known", refuses(one, over, 1 << 20, HUB_TOO_MANY, 1, over.length - 8 - 22, 0));
 }
 
 /* ---- 2^64-1 */
@@ -155,21 +149,13 @@ static void greatest(void) {
     struct text top = store_of(UINT64_MAX, 1), zero = store_of(0, 1);
     struct text fresh = request_of(NO_LIMIT, NULL, 0), most = request_of(NO_LIMIT, below, 1);
     struct text every = request_of(NO_LIMIT, all, 1), end = request_of(NO_LIMIT, last, 1);
-    tell("serial number 2^64-1", sends(top, fresh, 4096, answer_of(1, UINT64_MAX, 1, 0, last, 1)));
-    tell("2^64-1 joined to all before", sends(top, most, 4096, answer_of(1, UINT64_MAX, 1, 0, all, 1)));
-    tell("all numbers known", sends(top, every, 4096, answer_of(1, 0, 0, 0, all, 1)));
-    tell("0 does not follow 2^64-1", sends(zero, end, 4096, answer_of(1, 0, 1, 0, two, 2)));
+    beside("serial number 2^64-1", sends(top, fresh, 4096, answer_of(1, UINT64_MAX, 1, 0, last, 1)));
+    beside("2^64-1 joined to all before", sends(top, most, 4096, answer_of(1, UINT64_MAX, 1, 0, all, 1)));
+    beside("all numbers known", sends(top, every, 4096, answer_of(1, 0, 0, 0, all, 1)));
+    paper("0 does not follow 2^64-1", sends(zero, end, 4096, answer_of(1, 0, 1, 0, two, 2)));
 }
 
 /* ---- the longest inputs */
-
-/* A store of exactly n bytes: its one element has a long object inside. 52 bytes and 4 of the true length are around it. */
-static struct text long_store(size_t n) {
-    struct text elements = {0}, store = {0};
-    add_element(&elements, 1, SERIALS, 7, n - 58);
-    add_package(&store, elements);
-    return store;
-}
 
 static struct text long_request(size_t n) {
     struct text request = {0}, empty = request_of(NO_LIMIT, NULL, 0);
@@ -178,25 +164,17 @@ static struct text long_request(size_t n) {
     return request;
 }
 
-static struct text long_answer(size_t n) {
-    struct range seven[1] = {{SERIALS, 7, 7}};
-    struct text elements = {0}, answer = {0};
-    add_element(&elements, 1, SERIALS, 7, n - 58);
-    add_answer(&answer, elements, 0, seven, 1);
-    return answer;
-}
-
 static void longest_store(void) {
     struct text store = long_store(LONGEST), over = long_store(LONGEST + 1), noise = {0}, nothing = {0};
     struct text request = request_of(NO_LIMIT, NULL, 0), answer = long_answer(LONGEST);
     add_like(&noise, LONGEST + 1, 0xFF);
-    tell("they are as long as they should be", store.length == LONGEST && over.length == LONGEST + 1);
-    tell("a store of 16,777,216 bytes", sends(store, request, answer.length, answer));
-    tell("no room for it", refuses(store, request, answer.length - 1, HUB_OUTPUT_TOO_SHORT, 0, 0, answer.length));
-    tell("a store of 16,777,217 bytes", refuses(over, request, 4096, HUB_INPUT_TOO_LONG, 0, LONGEST, 0));
-    tell("before the store's other faults", refuses(noise, request, 4096, HUB_INPUT_TOO_LONG, 0, LONGEST, 0));
-    tell("and before the request's", refuses(over, nothing, 0, HUB_INPUT_TOO_LONG, 0, LONGEST, 0));
-    tell("and before the request is too long", refuses(over, noise, 0, HUB_INPUT_TOO_LONG, 0, LONGEST, 0));
+    beside("they are as long as they should be", store.length == LONGEST && over.length == LONGEST + 1);
+    paper("a store of 16,777,216 bytes", sends(store, request, answer.length, answer));
+    beside("no room for it", refuses(store, request, answer.length - 1, HUB_OUTPUT_TOO_SHORT, 0, 0, answer.length));
+    paper("a store of 16,777,217 bytes", refuses(over, request, 4096, HUB_INPUT_TOO_LONG, 0, LONGEST, 0));
+    beside("before the store's other faults", refuses(noise, request, 4096, HUB_INPUT_TOO_LONG, 0, LONGEST, 0));
+    beside("and before the request's", refuses(over, nothing, 0, HUB_INPUT_TOO_LONG, 0, LONGEST, 0));
+    beside("and before the request is too long", refuses(over, noise, 0, HUB_INPUT_TOO_LONG, 0, LONGEST, 0));
     free(store.at);
     free(over.at);
     free(noise.at);
@@ -207,11 +185,11 @@ static void longest_request(void) {
     struct text request = long_request(LONGEST), over = long_request(LONGEST + 1), noise = {0}, nothing = {0};
     struct text store = store_of(7, 0), answer = answer_of(1, 7, 0, 0, NULL, 0);
     add_like(&noise, LONGEST + 1, 0xFF);
-    tell("they are as long as they should be", request.length == LONGEST && over.length == LONGEST + 1);
-    tell("a request of 16,777,216 bytes", sends(store, request, 41, answer));
-    tell("a request of 16,777,217 bytes", refuses(store, over, 4096, HUB_INPUT_TOO_LONG, 1, LONGEST, 0));
-    tell("before the request's other faults", refuses(store, noise, 0, HUB_INPUT_TOO_LONG, 1, LONGEST, 0));
-    tell("and behind the store's", refuses(nothing, over, 4096, HUB_RUNS_PAST, 0, 0, 0));
+    beside("they are as long as they should be", request.length == LONGEST && over.length == LONGEST + 1);
+    paper("a request of 16,777,216 bytes", sends(store, request, 41, answer));
+    paper("a request of 16,777,217 bytes", refuses(store, over, 4096, HUB_INPUT_TOO_LONG, 1, LONGEST, 0));
+    beside("before the request's other faults", refuses(store, noise, 0, HUB_INPUT_TOO_LONG, 1, LONGEST, 0));
+    beside("and behind the store's", refuses(nothing, over, 4096, HUB_RUNS_PAST, 0, 0, 0));
     free(request.at);
     free(over.at);
     free(noise.at);
@@ -235,22 +213,26 @@ static int reported(struct text store, struct text request, size_t room, size_t 
     return good;
 }
 
-static void reports(void) {
-    static const size_t sizes[4] = {0, 23, HUB_REPORT_BYTES, 40};
-    static const char *const names[4] = {"no report", "a report of 23 bytes", "a report of 24 bytes", "a report of 40 bytes"};
+/* An answer, and a refusal, with a report of this length. */
+static int both_reported(size_t length) {
     struct text store = store_of(7, 0), request = request_of(NO_LIMIT, NULL, 0), answer = answer_of(1, 7, 0, 0, NULL, 0);
-    for (int i = 0; i < 4; i++) {
-        int sent = reported(store, request, 64, sizes[i], answer, HUB_ANSWERED);
-        tell(names[i], sent && reported(store, request, 40, sizes[i], answer, HUB_OUTPUT_TOO_SHORT));
-    }
+    int sent = reported(store, request, 64, length, answer, HUB_ANSWERED);
+    return sent && reported(store, request, 40, length, answer, HUB_OUTPUT_TOO_SHORT);
+}
+
+static void reports(void) {
+    beside("no report", both_reported(0));
+    paper("a report of 23 bytes", both_reported(HUB_REPORT_BYTES - 1));
+    paper("a report of 24 bytes", both_reported(HUB_REPORT_BYTES));
+    beside("a report of 40 bytes", both_reported(40));
 }
 
 static void empty_slices(void) {
     struct text nothing = {0}, store = store_of(7, 1), request = request_of(NO_LIMIT, NULL, 0);
-    tell("four null pointers", hub_answer(NULL, 0, NULL, 0, NULL, 0, NULL, 0) == HUB_RUNS_PAST);
-    tell("no store", refuses(nothing, request, 4096, HUB_RUNS_PAST, 0, 0, 0));
-    tell("no request", refuses(store, nothing, 4096, HUB_RUNS_PAST, 1, 0, 0));
-    tell("no output", refuses(store, request, 0, HUB_OUTPUT_TOO_SHORT, 0, 0, 132));
+    beside("four null pointers", hub_answer(NULL, 0, NULL, 0, NULL, 0, NULL, 0) == HUB_RUNS_PAST);
+    beside("no store", refuses(nothing, request, 4096, HUB_RUNS_PAST, 0, 0, 0));
+    beside("no request", refuses(store, nothing, 4096, HUB_RUNS_PAST, 1, 0, 0));
+    beside("no output", refuses(store, request, 0, HUB_OUTPUT_TOO_SHORT, 0, 0, 132));
 }
 
 int main(void) {
@@ -262,6 +244,5 @@ int main(void) {
     longest_request();
     reports();
     empty_slices();
-    printf("%d not ok\n", failures);
-    return failures > 0;
+    return ended();
 }

@@ -1,6 +1,7 @@
 // A filter for tests: each line of the input is one case, and gives one line of output (README.md says which). It shows the
 // calls of the libraries from outside, so that a run can be compared with what another program makes of the same cases.
 mod answers;
+mod benches;
 mod headers;
 mod items;
 mod knowledges;
@@ -28,15 +29,25 @@ fn output_space() -> [u8; 512] {
     [say::UNTOUCHED; 512]
 }
 
-// `MODE HEX`. Here and below a mode is one test and one function, which writes the result; `one_line` ends the line.
-fn two_words(line: &[u8], space: &mut [u8]) {
-    let mode = words::word(line, 0);
-    let given = words::bytes(words::word(line, 1), space);
-    if !given.good {
-        return say::bad();
+// Here and below a mode is one test and one function, which writes the result; `one_line` ends the line. These read a whole.
+fn whole(mode: &[u8], s: &[u8]) {
+    if check::same(mode, b"store") {
+        return stores::rows(s);
     }
-    let n = given.count;
-    let s = &space[0..n];
+    if check::same(mode, b"knowledge") {
+        return knowledges::rows(s);
+    }
+    if check::same(mode, b"request") {
+        return requests::message(s);
+    }
+    if check::same(mode, b"read") {
+        return benches::read(s);
+    }
+    say::bad()
+}
+
+// And these a single item.
+fn item(mode: &[u8], s: &[u8]) {
     if check::same(mode, b"compact") {
         return items::compact(s);
     }
@@ -49,19 +60,21 @@ fn two_words(line: &[u8], space: &mut [u8]) {
     if check::same(mode, b"header") {
         return headers::header(s);
     }
-    if check::same(mode, b"store") {
-        return stores::rows(s);
-    }
-    if check::same(mode, b"knowledge") {
-        return knowledges::rows(s);
-    }
-    if check::same(mode, b"request") {
-        return requests::message(s);
-    }
-    say::bad()
+    whole(mode, s)
 }
 
-// `MODE NUMBER OUTLEN`, `element STOREHEX POSITION`, `rewritten HEX OUTLEN` or `chosen STOREHEX REQUESTHEX`.
+// `MODE HEX`
+fn two_words(line: &[u8], space: &mut [u8]) {
+    let given = words::bytes(words::word(line, 1), space);
+    if !given.good {
+        return say::bad();
+    }
+    let n = given.count;
+    item(words::word(line, 0), &space[0..n])
+}
+
+// `MODE NUMBER OUTLEN`, `element STOREHEX POSITION`, `rewritten HEX OUTLEN`,
+// `chosen STOREHEX REQUESTHEX` or `received ANSWERHEX POSITION`.
 fn three_words(line: &[u8], space: &mut [u8], out: &mut [u8]) {
     let mode = words::word(line, 0);
     if check::same(mode, b"wcompact") {
@@ -78,6 +91,9 @@ fn three_words(line: &[u8], space: &mut [u8], out: &mut [u8]) {
     }
     if check::same(mode, b"chosen") {
         return requests::chosen(line, space);
+    }
+    if check::same(mode, b"received") {
+        return benches::element(line, space);
     }
     say::bad()
 }
@@ -106,11 +122,14 @@ fn five_words(line: &[u8], out: &mut [u8]) {
     say::bad()
 }
 
-// `answer STOREHEX REQUESTHEX OUTLEN STORETABLELEN KNOWTABLELEN`
+// `answer STOREHEX REQUESTHEX OUTLEN STORETABLELEN KNOWTABLELEN` or `ask ID LIMIT FILTERHEX KNOWLEDGEHEX OUTLEN`
 fn six_words(line: &[u8], space: &mut [u8]) {
     let mode = words::word(line, 0);
     if check::same(mode, b"answer") {
         return answers::answered(line, space);
+    }
+    if check::same(mode, b"ask") {
+        return benches::asked(line, space);
     }
     say::bad()
 }

@@ -103,7 +103,7 @@ pub(crate) fn rows(s: &[u8]) {
 }
 
 // Whether a part of s is the one of n bytes at this place.
-fn stands_at(s: &[u8], at: usize, n: usize, part: &[u8]) -> bool {
+pub(crate) fn stands_at(s: &[u8], at: usize, n: usize, part: &[u8]) -> bool {
     if s.len() < at {
         return false;
     }

@@ -1,0 +1,63 @@
+/* What the two programs share that hold the calls exported to C to their limits: a line for each thing that is tried, and stores
+   and answers of a given length. */
+#ifndef LIMITS_H
+#define LIMITS_H
+
+#include "../include/hub.h"
+#include "build.h"
+#include "lent.h"
+
+#include <stdio.h>
+
+#define SERIALS 0x22u /* the GUID of the serial numbers */
+#define LONGEST ((size_t)HUB_LONGEST_INPUT)
+
+static int failures = 0;
+
+static void tell(const char *group, const char *what, int good) {
+    printf("%s, %s: %s\n", group, good ? "ok" : "NOT OK", what);
+    failures += !good;
+}
+
+/* A number that document 01 gives. */
+static void paper(const char *what, int good) {
+    tell("document 01", what, good);
+}
+
+/* What is tried beside them. */
+static void beside(const char *what, int good) {
+    tell("beside it", what, good);
+}
+
+/* The last line, and the exit status. */
+static int ended(void) {
+    printf("%d not ok\n", failures);
+    return failures > 0;
+}
+
+/* A store of n elements whose serial numbers count up. */
+static struct text store_of(uint64_t serial, unsigned n) {
+    struct text elements = {0}, store = {0};
+    add_elements(&elements, 1, SERIALS, serial, n);
+    add_package(&store, elements);
+    return store;
+}
+
+/* A store of exactly n bytes: its one element has a long object inside. 54 bytes and 4 of the true length are around it. */
+static struct text long_store(size_t n) {
+    struct text elements = {0}, store = {0};
+    add_element(&elements, 1, SERIALS, 7, n - 58);
+    add_package(&store, elements);
+    return store;
+}
+
+/* The answer with the one element of a store of n bytes: 82 bytes more. */
+static struct text long_answer(size_t n) {
+    struct range seven[1] = {{SERIALS, 7, 7}};
+    struct text elements = {0}, answer = {0};
+    add_element(&elements, 1, SERIALS, 7, n - 58);
+    add_answer(&answer, elements, 0, seven, 1);
+    return answer;
+}
+
+#endif
