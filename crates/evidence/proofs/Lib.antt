@@ -1,0 +1,4 @@
+pub mod Serials
+pub mod Steps
+pub mod DemandThree
+pub mod GoesOn
