@@ -1,6 +1,6 @@
 -- A series of answers, each of which takes from the front of what is still wanted, does what demand 3 says (`converges`): the state of
 -- the series is the list that is still wanted. And steps that can always be made can be made any number of times (`chain-exists`). A
--- reader needs the statements of trace-chain, converges, all-sent and chain-exists only.
+-- reader needs the statements of trace-chain, marked-carries, converges, all-sent and chain-exists only.
 -- Assumes nothing.
 use mathlib.Core.Path.{_≡_, refl, sym, _∙_, ap}
 use mathlib.Core.Bool.{Bool, true, false}
@@ -94,12 +94,12 @@ module _ {E : Type 0} where
   some-wanted (x ∷ l) s r q p = refl
 
   -- a marked answer carries something, and leaves something
-  record Carries (w : List E) (a : Answer E) (rest : List E) : Type 0 where
-    carried : 0 < length (a .page)
-    left : 0 < length rest
-    fewer : length rest < length w
+  pub record Carries (w : List E) (a : Answer E) (rest : List E) : Type 0 where
+    pub carried : 0 < length (a .page)
+    pub left : 0 < length rest
+    pub fewer : length rest < length w
 
-  marked-carries : {w rest : List E} {a : Answer E} → Takes w a rest → a .marked ≡ true → Carries w a rest
+  pub marked-carries : {w rest : List E} {a : Answer E} → Takes w a rest → a .marked ≡ true → Carries w a rest
   marked-carries {w} {rest} {a} t h = record { carried = gone; left = left; fewer = omega (arith, gone, simp length-append at (ap length (t .run))) }
     where
       left : 0 < length rest

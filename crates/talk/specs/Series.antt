@@ -88,7 +88,7 @@ withKeys same know keys k = pick (know k) true (seen same k keys)
 module _ {E K : Type 0} (same : K → K → Bool) (Fits : K → Type 0) (key : E → K) where
   -- one answer, over things in their order, those that the filters let in, what is known before and what is known after: it takes from
   -- what is wanted, and its knowledge is what was known "with exactly those serial numbers added". `Fits` says which keys there are:
-  -- what is known of others, as of numbers of more than 64 bits, does not matter
+  -- what is known of others does not matter
   pub record Judged (things : List E) (lets : E → Bool) (know : K → Bool) (a : Answer E) (know′ : K → Bool) : Type 0 where
     pub rest : List E
     pub takes : Takes (wanted key lets know things) a rest
