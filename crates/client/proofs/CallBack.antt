@@ -22,6 +22,7 @@ use Rattle.talk.specs.Page.{Greatest}
 use Rattle.talk.specs.Ranges.{Normal, AllFit}
 use Rattle.talk.specs.Wanted.{keep, wanted}
 use Rattle.talk.specs.declared.range.Range.{Range}
+use Rattle.talk.proofs.Delivery.{length-wanted}
 use Rattle.talk.proofs.Things.{each-first, each-kept, each-so}
 use Rattle.store.specs.Chain.{Chain, Fresh, Tiles}
 use Rattle.store.specs.Element.{sameKey, idsIn, serialsIn, elementAt}
@@ -111,11 +112,6 @@ fresh-first key zero xs done f = tt
 fresh-first key (suc n) [] done f = tt
 fresh-first key (suc n) (x ∷ xs) done f = (f .0, fresh-first key n xs (done ++ (x ∷ [])) (f .1))
 
-length-kept : (test : Element → Bool) (xs : List Element) → length (keep test xs) ≤ length xs
-unfolding keep
-length-kept test [] = omega arith
-length-kept test (x ∷ xs) = let r = length-kept test xs in by-bool (test x) (λ e. rw e (omega arith)) (λ e. rw e (omega arith))
-
 stored-kept : (test : Element → Bool) (xs : List Element) → storedLength (keep test xs) ≤ storedLength xs
 unfolding keep storedLength
 stored-kept test [] = omega arith
@@ -129,8 +125,8 @@ stored-first (suc n) (x ∷ xs) = let r = stored-first n xs in omega arith
 
 -- those that are wanted
 wanted-length : (fs : List Filter) (l : List Range) (all : List Element) → length (wantedIn fs l all) ≤ length all
-unfolding wantedIn wanted
-wanted-length fs l all = length-kept _ all
+unfolding wantedIn
+wanted-length fs l all = length-wanted _ _ _ all
 
 wanted-stored : (fs : List Filter) (l : List Range) (all : List Element) → storedLength (wantedIn fs l all) ≤ storedLength all
 unfolding wantedIn wanted
@@ -211,14 +207,19 @@ module _ (s q : List ℕ) (room : ℕ) (b : AllBytes s) (d : AllBytes q) (h : St
       fit-with page (knownIn q)
       (page-each (λ (x : Element). x .serial .number < 2 ^ 64) (each-so KeysFit _ all (λ x f. f .1 .1) (keys-fit s b (store-read s h)))) (known-fit q [] d)
 
-  page-length : length ranges ≤ 512 → length (pageBytes ask k) ≤ longestAnswer
+  page-size : length ranges ≤ 512 → length (pageBytes ask k) ≤ length s + 65536
   unfolding pageBytes
-  page-length m =
+  page-size m =
       let a = answer-length s id (storageIndex all) page (ltb k (length (ask .wanted))) ranges page-within in
       let c = whole-most (fixedLength id (storageIndex all)) (storedLength page) (length ranges) (length (rangesBytes ranges)) in
       let e = fixed-most id (storageIndex all) in
       let f = bytes-most ranges in
       let g = page-stored in
+      omega arith
+
+  page-length : length ranges ≤ 512 → length (pageBytes ask k) ≤ longestAnswer
+  page-length m =
+      let a = page-size m in
       let n : length s ≤ longestInput = by-lt longestInput (length s) (λ l. absurd (over-long s l h)) (λ l. l) in
       omega arith
 
@@ -242,6 +243,13 @@ asked-back : (s q : List ℕ) (room : ℕ) → AllBytes s → AllBytes q → (a 
 asked-back s q room b d a x k g w l u v =
     rw (u, v, x .asked)
     (page-back s q room b d (x .store-reads) (x .id) (x .limit) (x .place) (x .count) (x .known) (x .request-reads) k (rw (x .asked) at g))
+
+-- how much room an answer needs at most
+pub asked-size : (s q : List ℕ) → AllBytes s → AllBytes q → (a : Ask) → Asks s q a → (k : ℕ) → length (pageRanges a k) ≤ 512
+    → length (pageBytes a k) ≤ length s + 65536
+asked-size s q b d a x k m =
+    rw (x .asked)
+    (page-size s q 0 b d (x .store-reads) (x .id) (x .limit) (x .place) (x .count) (x .known) (x .request-reads) k (rw (x .asked) at m))
 
 -- ---- the call
 

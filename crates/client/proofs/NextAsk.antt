@@ -32,17 +32,17 @@ use Rattle.client.proofs.CallBack.{CallReadsBack}
 
 -- ---- what was judged, where something is written
 
-filters-fine : (c : Reading) (o : Wrote) (n : ℕ) → judgedFilters c o ≡ wrote.Done n → (p : ℕ) × (m : ℕ) × (c ≡ At p m) × (o ≡ wrote.Done n)
+pub filters-fine : (c : Reading) (o : Wrote) (n : ℕ) → judgedFilters c o ≡ wrote.Done n → (p : ℕ) × (m : ℕ) × (c ≡ At p m) × (o ≡ wrote.Done n)
 unfolding judgedFilters
 filters-fine (At p m) o n h = (p, m, refl, h)
 filters-fine (Refused r) o n h = impossible (cc)
 
-knowledge-fine : (c : Reading) (o : Wrote) (n : ℕ) → judgedKnowledge c o ≡ wrote.Done n → (q : ℕ) × (v : ℕ) × (c ≡ At q v) × (o ≡ wrote.Done n)
+pub knowledge-fine : (c : Reading) (o : Wrote) (n : ℕ) → judgedKnowledge c o ≡ wrote.Done n → (q : ℕ) × (v : ℕ) × (c ≡ At q v) × (o ≡ wrote.Done n)
 unfolding judgedKnowledge
 knowledge-fine (At q v) o n h = (q, v, refl, h)
 knowledge-fine (Refused r) o n h = impossible (cc)
 
-room-enough : (room : ℕ) (w : List ℕ) (n : ℕ) → writtenIn room w ≡ wrote.Done n → (length w ≤ longestInput) × (length w ≡ n)
+pub room-enough : (room : ℕ) (w : List ℕ) (n : ℕ) → writtenIn room w ≡ wrote.Done n → (length w ≤ longestInput) × (length w ≡ n)
 unfolding writtenIn
 room-enough room w n h =
     by-lt longestInput (length w) (λ l. let z = rw (lt-ltb longestInput (length w) l) at h in impossible (cc))

@@ -44,7 +44,7 @@ pub record Asks (s q : List ℕ) (a : Ask) : Type 0 where
   pub request-reads : requestIn q [] ≡ request.Asked id limit place count known
   pub asked : a ≡ askOf s (storeWalk s .elements) q id limit
 
-data Course (s q : List ℕ) (room : ℕ) : Outcome → Type 0 where
+pub data Course (s q : List ℕ) (room : ℕ) : Outcome → Type 0 where
   store-fault : (r : Refusal) → storeWalk s .last ≡ reading.Refused r → Course s q room (refused r)
   request-fault : (r : Refusal) → Stands (storeWalk s .last) → requestIn q [] ≡ request.Refused r → Course s q room (refused r)
   page : (a : Ask) → Asks s q a → Course s q room (pageOutcome a room)
@@ -61,7 +61,7 @@ unfolding onStore
 on-store s q room (reading.At e v) h = on-request s q room (requestIn q []) refl (subst Stands (sym h) tt)
 on-store s q room (reading.Refused r) h = store-fault r h
 
-course : (s q : List ℕ) (room : ℕ) → Course s q room (outcome s q room)
+pub course : (s q : List ℕ) (room : ℕ) → Course s q room (outcome s q room)
 unfolding outcome
 course s q room = on-store s q room (storeWalk s .last) refl
 
