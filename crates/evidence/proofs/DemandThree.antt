@@ -1,57 +1,94 @@
--- Demand 3: "Take one store, one list of filters and a first knowledge .. The client asks again with the last answer's knowledge, under
--- limits and buffers that may differ each time; refused asks change nothing and are not counted. Then the answers joined are an
--- initial run of the list of all elements wanted at the start, none sent twice. If n were wanted, an unmarked answer comes at the n-th
--- answer or sooner (at the first, if n is 0), and the run is then the whole list."
+-- Demand 3: "Take one store, one list of filters and a first knowledge of at most 256 ranges and entries. The client asks again with the
+-- last answer's knowledge, under limits and buffers that may differ each time; refused asks change nothing and are not counted. Then
+-- the answers joined are an initial run of the list of all elements wanted at the start, none sent twice. If n were wanted, an
+-- unmarked answer comes at the n-th answer or sooner (at the first, if n is 0), and the run is then the whole list."
+-- A reader needs the two records, whose lines are the demand's, and the statements of `demand-three` and `goes-on` below them. The first
+-- holds of every talk, on whatever store and from whatever first knowledge; that this has at most 256 ranges and entries is needed for
+-- the second alone: the talk goes on until it ends.
 -- Assumes nothing.
-use mathlib.Core.Path.{_≡_, refl, sym, subst}
-use mathlib.Core.Bool.{Bool}
-use mathlib.Core.List.{List, [], _∷_}
-use Prim.Native.Nat.{ℕ}
+use mathlib.Core.Path.{_≡_}
+use mathlib.Core.Bool.{Bool, true, false}
+use mathlib.Core.List.{List, [], _∷_, _++_, map}
+use Prim.Native.Nat.{ℕ, _≤_, _<_, max}
+use lib.ListN.{length}
 use Rattle.laws.specs.Bytes.{AllBytes}
-use Rattle.talk.specs.Series.{Answer, Chain, Trace, Judged, Delivers}
-use Rattle.talk.specs.Series.Chain.{done, next}
-use Rattle.talk.specs.Series.Trace.{over, idle, then}
-use Rattle.talk.proofs.Delivery.{judged-converges}
+use Rattle.laws.specs.Once.{once}
+use Rattle.numbers.specs.declared.refusal.Refusal.{Refusal}
+use Rattle.talk.specs.Series.{Answer, InitialRun, joinedPages, FirstUnmarked, Delivers}
 use Rattle.store.specs.Element.{sameKey}
-use Rattle.store.specs.Store.{storeWalk}
 use Rattle.store.specs.declared.element.Element.{Element}
 use Rattle.store.specs.declared.element.Key.{Key}
-use Rattle.store.proofs.Chains.{same-turn, serials-once, store-read}
-use Rattle.store.proofs.Taken.{Stands}
 use Rattle.request.specs.Meaning.{Filter}
-use Rattle.evidence.specs.Talk.{KeyFits, elementsOf, letsIn, Answered, Refused, Talk, ReadAs, AllReadAs}
-use Rattle.evidence.proofs.Serials.{serialOf, same-itself}
-use Rattle.evidence.proofs.Steps.{serials-fit, read-as, answered-judged, answer}
+use Rattle.request.specs.Message.{filtersOf}
+use Rattle.request.proofs.RequestFits.{known-fit, known-normal}
+use Rattle.pages.specs.Answer.{Ask, knownIn, pageBytes, Answers}
+use Rattle.pages.specs.Choice.{knowsKey}
+use Rattle.pages.specs.declared.answer.Answered.the-variants as answer
+use Rattle.pages.proofs.PageCases.{Few, smallest}
+use Rattle.pages.proofs.Refusing.{Asks}
+use Rattle.client.specs.Ask.{knowledgeOf}
+use Rattle.hub.specs.Call.{HubAnswers}
+use Rattle.evidence.specs.Bench.{knowsBy, saidBy}
+use Rattle.evidence.specs.Calling.{GivesRefusal}
+use Rattle.evidence.specs.Refusing.{Tables}
+use Rattle.evidence.specs.Talk.{serialOf, elementsOf, leavesIn, wantedOf, SameSet, saidIn, Talk, AllReadAs}
+use Rattle.evidence.proofs.GoingOn.{few-ranges, no-page-nine, exported-zero, none-refused}
+use Rattle.evidence.proofs.Said.{said-in, said-by, given-normal, given-fits}
+use Rattle.evidence.proofs.Series.{Read, all-read, delivered}
 
--- the answers that a bench reads, and that they deliver
-pub record Held (s : List ℕ) (fs : List Filter) (know : Key → Bool) (ws : List (List ℕ)) (know′ : Key → Bool) : Type 0 where
+-- the answers ws on the store s, under the filters fs, where know is what is known at the start
+pub record DemandThree (s : List ℕ) (fs : List Filter) (know : Key → Bool) (ws : List (List ℕ)) : Type 0 where
+  -- what a bench reads in them
   pub answers : List (Answer Element)
   pub read : AllReadAs s ws answers
-  pub delivers : Delivers sameKey serialOf (elementsOf s) (letsIn s fs) know answers
+  -- "Then the answers joined are an initial run of the list of all elements wanted at the start,"
+  pub initial : InitialRun (joinedPages answers) (wantedOf s fs know)
+  -- "none sent twice."
+  pub none-twice : once sameKey (map serialOf (joinedPages answers)) ≡ true
+  -- "If n were wanted, an unmarked answer comes at the n-th answer or sooner (at the first, if n is 0),": once so many answers have come,
+  -- there is a first unmarked one, and fewer than so many are before it
+  pub soon : max 1 (length (wantedOf s fs know)) ≤ length answers
+      → (f : FirstUnmarked answers) × (length (f .before) < max 1 (length (wantedOf s fs know)))
+  -- "and the run is then the whole list": and nothing is sent behind it
+  pub whole : (before after : List (Answer Element)) (a : Answer Element) → answers ≡ before ++ (a ∷ after) → a .marked ≡ false
+      → (joinedPages (before ++ (a ∷ [])) ≡ wantedOf s fs know) × (joinedPages after ≡ [])
 
-record Steps (s : List ℕ) (fs : List Filter) (know : Key → Bool) (ws : List (List ℕ)) (know′ : Key → Bool) : Type 0 where
-  answers : List (Answer Element)
-  read : AllReadAs s ws answers
-  chain : Chain (Judged sameKey KeyFits serialOf (elementsOf s) (letsIn s fs)) know answers know′
+-- the next ask, by the request q, by which a is asked
+pub record GoesOn (s q : List ℕ) (a : Ask) : Type 0 where
+  -- 9 for a page never comes
+  pub no-nine : (room : ℕ) → GivesRefusal s q room 9 → ⊥
+  -- and where the output has room for the page of 1 (of 0, if nothing is wanted), nothing is refused: not by the exported call ..
+  pub exported : (r : ℕ) (out out′ report report′ : List ℕ) → length (pageBytes a (smallest a)) ≤ length out → HubAnswers s q r out out′ report report′ → r ≡ 0
+  -- .. nor by the call that is lent tables, if they are long enough
+  pub lent : (r : Refusal) (rows rows′ ranges ranges′ out out′ : List ℕ) → Tables (length rows) (length ranges) → length (pageBytes a (smallest a)) ≤ length out
+      → Answers s q (answer.Refused r) rows rows′ ranges ranges′ out out′ → ⊥
 
-steps : (s : List ℕ) → AllBytes s → (fs : List Filter) {know know′ : Key → Bool} {ws : List (List ℕ)} → Talk s fs know ws know′ → Steps s fs know ws know′
-steps s b fs over = record { answers = []; read = tt; chain = done }
-steps s b fs (idle {k = k} {m = m} q t) = let z = steps s b fs t in record { answers = z .answers; read = z .read; chain = rw (q .same) (z .chain) }
-steps s b fs (then {k = k} {m = m} {a = w} r t) =
-    let z = steps s b fs t in
-    record {
-      answers = answer s b fs k m w r ∷ z .answers;
-      read = (read-as s b fs k m w r, z .read);
-      chain = next (answered-judged s b fs k m w r) (z .chain);
-    }
-
-pub demand-three : (s : List ℕ) → AllBytes s → Stands (storeWalk s .last) → (fs : List Filter) (know know′ : Key → Bool) (ws : List (List ℕ))
-    → Talk s fs know ws know′ → Held s fs know ws know′
-demand-three s b h fs know know′ ws t =
-    let z = steps s b fs t in
+pub demand-three : (s : List ℕ) → AllBytes s → (fs : List Filter) (know know′ : Key → Bool) (ws : List (List ℕ)) → Talk s fs know ws know′ → DemandThree s fs know ws
+demand-three s b fs know know′ ws t =
+    let z : Read s fs know ws know′ = all-read s b fs t in
+    let d : Delivers sameKey serialOf (elementsOf s) (leavesIn s fs) know (z .answers) = delivered s b fs z in
     record {
       answers = z .answers;
       read = z .read;
-      delivers =
-          judged-converges sameKey same-itself same-turn serialOf KeyFits (elementsOf s) (letsIn s fs) (serials-fit s b h) (serials-once s (store-read s h)) (z .chain);
+      initial = d .converges .initial;
+      none-twice = d .none-twice;
+      soon = d .converges .soon;
+      whole = d .converges .whole;
     }
+
+-- the first knowledge is that of a request that says at most 256 ranges and entries; after any talk, a request with the filters that
+-- carries what is known, and is read
+pub goes-on : (s : List ℕ) → AllBytes s → (fs : List Filter) (first : List ℕ) → AllBytes first → saidIn first ≤ 256 → (know′ : Key → Bool) (ws : List (List ℕ))
+    → Talk s fs (knowsKey (knownIn first)) ws know′ → (q : List ℕ) → AllBytes q → filtersOf q ≡ fs → SameSet know′ (knownIn q) → (a : Ask) → Asks s q a → GoesOn s q a
+goes-on s b fs first d said know′ ws t q e filters carried a asks =
+    let few : Few a =
+    few-ranges s b fs know′ (knownIn first) (known-normal first [] .0) (known-fit first [] d) (said-in first said) ws t q e filters carried a asks in
+    record { no-nine = no-page-nine s q a asks few; exported = exported-zero s q a asks few; lent = none-refused s q a asks few }
+
+-- the same where the first knowledge is what a bench hands to hub_ask
+pub bench-goes-on : (s : List ℕ) → AllBytes s → (fs : List Filter) (first : List ℕ) → AllBytes first → saidBy first ≤ 256 → (know′ : Key → Bool) (ws : List (List ℕ))
+    → Talk s fs (knowsBy first) ws know′ → (q : List ℕ) → AllBytes q → filtersOf q ≡ fs → SameSet know′ (knownIn q) → (a : Ask) → Asks s q a → GoesOn s q a
+bench-goes-on s b fs first d said know′ ws t q e filters carried a asks =
+    let few : Few a =
+    few-ranges s b fs know′ (knowledgeOf first .ranges) (given-normal first) (given-fits first d) (said-by first said) ws t q e filters carried a asks in
+    record { no-nine = no-page-nine s q a asks few; exported = exported-zero s q a asks few; lent = none-refused s q a asks few }

@@ -1,13 +1,12 @@
 -- Serial numbers as keys of a set: ranges of one number add exactly one key.
 -- Assumes nothing.
 use mathlib.Core.Path.{_≡_, refl, sym, ap, _∙_}
-use mathlib.Core.Bool.{true, false}
+use mathlib.Core.Bool.{true}
 use mathlib.Core.List.{List, [], _∷_, map}
 use Prim.Native.Nat.{ℕ, _^_, _<_}
 use native.Mathlib.Omega.{arith}
 use lib.Dec.{eqb}
 use borrow.Author.Tests.{eq-eqb, ne-eqb}
-use Rattle.laws.specs.Bytes.{AllBytes}
 use Rattle.laws.proofs.Cases.{by-eq, eqb-turn}
 use Rattle.numbers.specs.Guid.{swapped}
 use Rattle.numbers.proofs.Guids.{swapped-back, swapped-fits}
@@ -23,10 +22,7 @@ use Rattle.store.specs.Knowledge.{rangeOf, knows}
 use Rattle.store.specs.declared.element.Element.{Element}
 use Rattle.store.specs.declared.element.Key.{Key}
 use Rattle.pages.specs.Choice.{knowsKey, serialRange, rangesWith}
-use Rattle.evidence.specs.Talk.{KeyFits}
-
-abbrev pub serialOf : Element → Key
-serialOf x = x .serial
+use Rattle.evidence.specs.Talk.{KeyFits, serialOf}
 
 -- a key is the same as itself
 pub same-itself : (k : Key) → sameKey k k ≡ true

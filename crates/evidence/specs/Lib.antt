@@ -1,1 +1,5 @@
+pub mod Calling
 pub mod Talk
+pub mod Refusing
+pub mod BenchRefusing
+pub mod Bench

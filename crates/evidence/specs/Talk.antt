@@ -1,70 +1,88 @@
 -- A talk, over bytes: "Take one store, one list of filters and a first knowledge .. The client asks again with the last answer's
 -- knowledge, under limits and buffers that may differ each time; refused asks change nothing and are not counted." What is known is a
--- set of serial numbers; a request carries it in any form.
+-- set of serial numbers; a request carries it in any form. That requests are bytes (`AllBytes`) holds of every slice of bytes.
 -- Assumes nothing.
 use mathlib.Core.Path.{_≡_}
 use mathlib.Core.Bool.{Bool, true}
 use mathlib.Core.List.{List, [], _∷_}
-use Prim.Native.Nat.{ℕ, _^_, _<_}
+use Prim.Native.Nat.{ℕ, _-_, _^_, _<_}
 use Rattle.laws.specs.Bytes.{AllBytes}
 use Rattle.numbers.specs.declared.extended_guid.ExtendedGuid.{ExtendedGuid}
-use Rattle.numbers.specs.declared.refusal.Refusal.{Refusal}
 use Rattle.talk.specs.Series.{Answer, Trace}
+use Rattle.talk.specs.Wanted.{wanted}
 use Rattle.talk.specs.declared.range.Range.{Range}
 use Rattle.store.specs.Store.{storeWalk}
 use Rattle.store.specs.declared.element.Element.{Element}
 use Rattle.store.specs.declared.element.Key.{Key}
 use Rattle.request.specs.Meaning.{Filter, leftIn}
-use Rattle.request.specs.Message.{filtersOf}
-use Rattle.pages.specs.Answer.{answered, refused, knownIn, outcome}
+use Rattle.request.specs.Message.{filtersOf, requestKnowing}
+use Rattle.pages.specs.Answer.{knownIn}
 use Rattle.pages.specs.Choice.{knowsKey}
 use Rattle.client.specs.Read.{packageEnd, markAt, knowledgeIn}
 use Rattle.client.proofs.AnswerBack.{ReadsBack}
+use Rattle.evidence.specs.Calling.{GivesAnswer, GivesRefusal}
+
+-- ---- what is wanted
 
 -- a serial number whose GUID is sixteen bytes
 abbrev pub KeyFits : Key → Type 0
 KeyFits k = (k .low < 2 ^ 64) × (k .high < 2 ^ 64)
 
+abbrev pub serialOf : Element → Key
+serialOf x = x .serial
+
 -- the elements of the store, and which of them the filters leave in
 abbrev pub elementsOf : List ℕ → List Element
 elementsOf s = storeWalk s .elements
 
-abbrev pub letsIn : List ℕ → List Filter → Element → Bool
-letsIn s fs x = leftIn fs (elementsOf s) x true
+abbrev pub leavesIn : List ℕ → List Filter → Element → Bool
+leavesIn s fs x = leftIn fs (elementsOf s) x true
+
+-- "Wanted = filters leave it in, and the knowledge lacks its serial number"
+abbrev pub wantedOf : List ℕ → List Filter → (Key → Bool) → List Element
+wantedOf s fs know = wanted serialOf (leavesIn s fs) know (elementsOf s)
+
+-- ---- what is known
 
 -- ranges that are a set
 abbrev pub SameSet : (Key → Bool) → List Range → Type 0
 SameSet know l = (k : Key) → KeyFits k → know k ≡ knowsKey l k
 
+-- how many ranges and entries the knowledge of a request has: `left` is how many of the 512 could still come
+abbrev pub saidIn : List ℕ → ℕ
+saidIn q = 512 - requestKnowing q [] .left
+
 -- what a bench reads in an answer: the ranges of its knowledge
 abbrev pub rangesIn : List ℕ → List Range
 rangesIn w = knowledgeIn w (markAt w (packageEnd w)) .ranges
 
+-- ---- the talk
+
 -- an ask that is answered with the bytes w: by any request with these filters that carries the set, into any buffer; what is known
 -- afterwards is what the answer tells
-pub record Answered (s : List ℕ) (fs : List Filter) (know : Key → Bool) (w : List ℕ) (know′ : Key → Bool) : Type 0 where
+pub record AnsweredAsk (s : List ℕ) (fs : List Filter) (know : Key → Bool) (w : List ℕ) (know′ : Key → Bool) : Type 0 where
   pub request : List ℕ
   pub room : ℕ
   pub bytes : AllBytes request
   pub filters : filtersOf request ≡ fs
   pub carried : SameSet know (knownIn request)
-  pub rows : List Element
-  pub ranges : List Range
-  pub gave : outcome s request room ≡ answered w rows ranges
+  pub gave : GivesAnswer s request room w
   pub told : SameSet know′ (rangesIn w)
 
 -- an ask that is refused changes nothing
-pub record Refused (s : List ℕ) (know know′ : Key → Bool) : Type 0 where
+pub record RefusedAsk (s : List ℕ) (know know′ : Key → Bool) : Type 0 where
   pub request : List ℕ
   pub room : ℕ
-  pub refusal : Refusal
-  pub gave : outcome s request room ≡ refused refusal
+  pub number : ℕ
+  pub gave : GivesRefusal s request room number
   pub same : know ≡ know′
 
 abbrev pub Talk : List ℕ → List Filter → (Key → Bool) → List (List ℕ) → (Key → Bool) → Type 0
-Talk s fs know answers know′ = Trace (Answered s fs) (Refused s) know answers know′
+Talk s fs know answers know′ = Trace (AnsweredAsk s fs) (RefusedAsk s) know answers know′
 
--- a bench reads w as the answer a: its elements are those of the page, with their stored bytes and in their order, and its mark is a's
+-- ---- what a bench reads
+
+-- w is read as the answer a: its elements are those of the page, with their stored bytes and in their order, and its mark is a's
 abbrev pub ReadAs : List ℕ → List ℕ → Answer Element → Type 0
 ReadAs s w a = (id : ℕ) × (index : ExtendedGuid) × ReadsBack s id index (a .page) (a .marked) (rangesIn w) w
 

@@ -1,0 +1,311 @@
+-- Each call refuses exactly for the reasons that `Why`, `WhyAsk`, `WhyRead` and `WhyElement` list, and each refusal is a `Fault`: one of
+-- document 01's numbers, with a place within the input that it names.
+-- Assumes nothing.
+use mathlib.Core.Path.{_≡_, refl, sym, ap, subst, _∙_}
+use mathlib.Core.List.{List, [], _∷_}
+use mathlib.Core.Logic.{_⊎_, inl, inr, ⊎-elim}
+use Prim.Native.Nat.{ℕ, zero, suc, _≤_, _<_}
+use native.Mathlib.Omega.{arith}
+use lib.ListN.{length}
+use borrow.Author.Tests.{lt-ltb, le-ltb, eq-eqb, ne-eqb}
+use Rattle.laws.proofs.Cases.{by-lt, by-eq, impossible}
+use Rattle.numbers.specs.Refusals.{faultAt, tooShort, longestInput}
+use Rattle.numbers.specs.declared.refusal.Refusal.{Refusal}
+use Rattle.numbers.specs.declared.refusal.Wrote.{Wrote}
+use Rattle.numbers.specs.declared.refusal.Wrote.the-variants as wrote
+use Rattle.objects.specs.declared.reading.Reading.{Reading}
+use Rattle.objects.specs.declared.reading.Reading.the-variants as reading
+use Rattle.store.specs.Store.{storeWalk}
+use Rattle.store.specs.Accessor.{elementIn, foundOn, foundIn}
+use Rattle.store.specs.declared.accessor.Found.the-variants as found
+use Rattle.store.specs.declared.element.Element.{Element}
+use Rattle.store.proofs.Taken.{Stands}
+use Rattle.store.proofs.FaultNumbers.{store-number, store-input, store-needed}
+use Rattle.store.proofs.Found.{found-none}
+use Rattle.store.proofs.Places.{store-fault}
+use Rattle.request.specs.Message.{requestIn}
+use Rattle.request.specs.declared.message.Request.the-variants as request′
+use Rattle.request.proofs.FaultNumbers.{request-number, request-input, request-needed}
+use Rattle.request.proofs.Places.{request-fault}
+use Rattle.pages.specs.Answer.{Ask, Outcome, refused, pageBytes, pageRanges, pageOutcome, onRequest, onStore, outcome, answerOf}
+use Rattle.pages.proofs.PageCases.{smallest, Few, nine-if, fourteen-if, page-answered}
+use Rattle.pages.proofs.Refusing.{Asks, Course, course, thirteen-if, tables-fine, call-of-fourteen, call-of-nine}
+use Rattle.client.specs.AskWritten.{askBytes}
+use Rattle.client.specs.Ask.{filtersGiven, knowledgeGiven, writtenIn, judgedKnowledge, judgedFilters, askWrote}
+use Rattle.client.specs.Read.{longestAnswer, packageIn, answerEnd, answerOn, answerIn}
+use Rattle.client.specs.Accessor.{receivedAt}
+use Rattle.client.specs.declared.answer.ReadAnswer.the-variants as answer
+use Rattle.client.proofs.AnswerRest.{answer-fault}
+use Rattle.client.proofs.FaultNumbers.{answer-number, answer-rest, answer-place, ask-refused}
+use Rattle.hub.specs.Bench.{elementFound}
+use Rattle.evidence.specs.Refusing.{Fault, Tables, Why}
+use Rattle.evidence.specs.BenchRefusing.{WhyAsk, WhyRead, WhyElement}
+
+-- ---- the tables come first
+
+pub by-tables : (s q : List ℕ) (rows ranges room : ℕ)
+    → (((rows < 1536) ⊎ (ranges < 2048)) × (answerOf s q rows ranges room ≡ refused (faultAt 13 0)))
+    ⊎ (Tables rows ranges × (answerOf s q rows ranges room ≡ outcome s q room))
+by-tables s q rows ranges room =
+    by-lt rows 1536 (λ l. inl (inl l, thirteen-if s q rows ranges room (inl l)))
+    (λ l. by-lt ranges 2048 (λ m. inl (inr m, thirteen-if s q rows ranges room (inr m))) (λ m. inr ((l, m), tables-fine s q rows ranges room l m)))
+
+-- ---- the answering call: refused exactly when
+
+module _ (s q : List ℕ) (rows ranges room : ℕ) (r : Refusal) where
+  -- of what was asked, a page is refused for its ranges or for the room
+  page-why : Tables rows ranges → (a : Ask) → Asks s q a → pageOutcome a room ≡ refused r → Why s q rows ranges room r
+  page-why t a x h =
+      let ample : Few a → Why s q rows ranges room r =
+      λ f.
+      by-lt room (length (pageBytes a (smallest a))) (λ l. let z = fourteen-if a room f l in Why.short t a x f l (cc))
+      (λ l. let z = page-answered a room f l in let w = z .1 in impossible (cc)) in
+      by-lt 512 (length (pageRanges a 1))
+      (λ c.
+      by-lt 0 (length (a .wanted)) (λ p. let z = nine-if a room p c in Why.crowded t a x p c (cc)) (λ p. ample (λ w. absurd (omega arith))))
+      (λ c. ample (λ w. c))
+
+  course-why : Tables rows ranges → (o : Outcome) → Course s q room o → o ≡ refused r → Why s q rows ranges room r
+  course-why t _ (Course.store-fault x e) h = let z : x ≡ r = cc in Why.store t (e ∙ ap reading.Refused z)
+  course-why t _ (Course.request-fault x g e) h = let z : x ≡ r = cc in Why.request t g (e ∙ ap request′.Refused z)
+  course-why t _ (Course.page a x) h = page-why t a x h
+
+  pub refused-why : answerOf s q rows ranges room ≡ refused r → Why s q rows ranges room r
+  refused-why h =
+      ⊎-elim (λ z. let e = z .1 in Why.tables (z .0) (cc)) (λ z. course-why (z .0) (outcome s q room) (course s q room) (sym (z .1) ∙ h))
+      (by-tables s q rows ranges room)
+
+  -- where the store is read, its fault is the request's
+  request-refused : (all : List Element) (c : Reading) → Stands c → requestIn q [] ≡ request′.Refused r → onStore s all q room c ≡ refused r
+  unfolding onStore onRequest
+  request-refused all (reading.At e v) g h = rw h
+  request-refused all (reading.Refused x) g h = absurd g
+
+  why-outcome : Why s q rows ranges room r → Tables rows ranges → outcome s q room ≡ refused r
+  unfolding outcome onStore
+  why-outcome (Why.tables (inl l) e) t = let w = t .0 in absurd (omega arith)
+  why-outcome (Why.tables (inr l) e) t = let w = t .1 in absurd (omega arith)
+  why-outcome (Why.store t h) u = rw h
+  why-outcome (Why.request t g h) u = request-refused (storeWalk s .elements) (storeWalk s .last) g h
+  why-outcome (Why.crowded t a x p c e) u = call-of-nine s q room a x p c ∙ ap refused (sym e)
+  why-outcome (Why.short t a x f l e) u = call-of-fourteen s q room a (record { asks = x; few = f; needs = l }) ∙ ap refused (sym e)
+
+  read-on : Why s q rows ranges room r → Tables rows ranges → answerOf s q rows ranges room ≡ refused r
+  read-on w t = tables-fine s q rows ranges room (t .0) (t .1) ∙ why-outcome w t
+
+  pub why-refused : Why s q rows ranges room r → answerOf s q rows ranges room ≡ refused r
+  why-refused (Why.tables l e) = thirteen-if s q rows ranges room l ∙ ap refused (sym e)
+  why-refused (Why.store t h) = read-on (Why.store t h) t
+  why-refused (Why.request t g h) = read-on (Why.request t g h) t
+  why-refused (Why.crowded t a x p c e) = read-on (Why.crowded t a x p c e) t
+  why-refused (Why.short t a x f l e) = read-on (Why.short t a x f l e) t
+
+-- ---- its refusals are faults
+
+-- of the first input, or of the second
+first-fault : (x : List ℕ) (more : List (List ℕ)) (r : Refusal) → 1 ≤ r .number → r .number ≤ 12 → r .input ≡ 0 → r .place ≤ length x → r .needed ≡ 0
+    → Fault (x ∷ more) r
+first-fault x more r a b i p n =
+    record { least = a; most = omega arith; input = rw i (omega arith); place = rw i p; needed = λ z. n }
+
+-- at the front of the first: it falls on no item
+front-fault : (x : List ℕ) (more : List (List ℕ)) (k : ℕ) → 1 ≤ k → k ≤ 14 → Fault (x ∷ more) (faultAt k 0)
+front-fault x more k a b = record { least = a; most = b; input = omega arith; place = omega arith; needed = λ z. refl }
+
+short-fault : (x : List ℕ) (more : List (List ℕ)) (n : ℕ) → Fault (x ∷ more) (tooShort n)
+short-fault x more n = record { least = omega arith; most = omega arith; input = omega arith; place = omega arith; needed = λ z. absurd (z refl) }
+
+pub of-store : (s : List ℕ) (more : List (List ℕ)) (r : Refusal) → storeWalk s .last ≡ reading.Refused r → Fault (s ∷ more) r
+of-store s more r h =
+    let n : (1 ≤ r .number) × (r .number ≤ 12) =
+    by-lt longestInput (length s) (λ l. rw (store-number s r h .1 l) (omega arith, omega arith))
+    (λ l. let w = store-number s r h .0 l in (omega arith, w .1)) in
+    first-fault s more r (n .0) (n .1) (store-input s r h) (store-fault s r h) (store-needed s r h)
+
+of-request : (s q : List ℕ) (r : Refusal) → requestIn q [] ≡ request′.Refused r → Fault (s ∷ q ∷ []) r
+of-request s q r h =
+    let n : (1 ≤ r .number) × (r .number ≤ 12) =
+    by-lt longestInput (length q) (λ l. rw (request-number q [] r h .1 l) (omega arith, omega arith))
+    (λ l. let w = request-number q [] r h .0 l in (omega arith, w .1)) in
+    let i = request-input q [] r h in
+    record { least = n .0; most = omega arith; input = rw i (omega arith); place = rw i (request-fault q [] r h); needed = λ z. request-needed q [] r h }
+
+pub why-fault : (s q : List ℕ) (rows ranges room : ℕ) (r : Refusal) → Why s q rows ranges room r → Fault (s ∷ q ∷ []) r
+why-fault s q rows ranges room r (Why.tables l e) = rw e (front-fault s (q ∷ []) 13 (omega arith) (omega arith))
+why-fault s q rows ranges room r (Why.store t h) = of-store s (q ∷ []) r h
+why-fault s q rows ranges room r (Why.request t g h) = of-request s q r h
+why-fault s q rows ranges room r (Why.crowded t a x p c e) = rw e (front-fault s (q ∷ []) 9 (omega arith) (omega arith))
+why-fault s q rows ranges room r (Why.short t a x f l e) = rw e (short-fault s (q ∷ []) (length (pageBytes a (smallest a))))
+
+-- ---- a request written
+
+module _ (id limit : ℕ) (f k : List ℕ) (room : ℕ) (r : Refusal) where
+  abbrev sent : List ℕ
+  sent = askBytes id limit f k
+
+  abbrev AskWhy : Type 0
+  AskWhy = WhyAsk id limit f k room r
+
+  -- both inputs are read
+  sent-why : Stands (filtersGiven f) → Stands (knowledgeGiven k) → writtenIn room sent ≡ wrote.Refused r → AskWhy
+  unfolding writtenIn
+  sent-why a b h =
+      by-lt longestInput (length sent)
+      (λ l. let z : wrote.Refused (faultAt 1 0) ≡ wrote.Refused r = rw (lt-ltb longestInput (length sent) l) at h in WhyAsk.long a b l (cc))
+      (λ l.
+      by-lt room (length sent)
+      (λ m.
+      let z : wrote.Refused (tooShort (length sent)) ≡ wrote.Refused r = rw (le-ltb longestInput (length sent) l, lt-ltb room (length sent) m) at h in
+      WhyAsk.short a b l m (cc))
+      (λ m.
+      let z : wrote.Done (length sent) ≡ wrote.Refused r = rw (le-ltb longestInput (length sent) l, le-ltb room (length sent) m) at h in
+      impossible (cc)))
+
+  knowledge-why : (c : Reading) → Stands (filtersGiven f) → knowledgeGiven k ≡ c → judgedKnowledge c (writtenIn room sent) ≡ wrote.Refused r → AskWhy
+  unfolding judgedKnowledge
+  knowledge-why (reading.At e v) a g h = sent-why a (subst Stands (sym g) tt) h
+  knowledge-why (reading.Refused x) a g h = WhyAsk.knowledge x a g (cc)
+
+  filters-why : (c : Reading) → filtersGiven f ≡ c → judgedFilters c (judgedKnowledge (knowledgeGiven k) (writtenIn room sent)) ≡ wrote.Refused r → AskWhy
+  unfolding judgedFilters
+  filters-why (reading.At e v) g h = knowledge-why (knowledgeGiven k) (subst Stands (sym g) tt) refl h
+  filters-why (reading.Refused x) g h = let z : x ≡ r = cc in WhyAsk.filters (g ∙ ap reading.Refused z)
+
+  pub ask-why : askWrote id limit f k room ≡ wrote.Refused r → AskWhy
+  unfolding askWrote
+  ask-why h = filters-why (filtersGiven f) refl h
+
+  -- an input that is read is passed over
+  filters-passed : (c : Reading) (o : Wrote) → Stands c → judgedFilters c o ≡ o
+  unfolding judgedFilters
+  filters-passed (reading.At e v) o g = refl
+  filters-passed (reading.Refused x) o g = absurd g
+
+  knowledge-passed : (c : Reading) (o : Wrote) → Stands c → judgedKnowledge c o ≡ o
+  unfolding judgedKnowledge
+  knowledge-passed (reading.At e v) o g = refl
+  knowledge-passed (reading.Refused x) o g = absurd g
+
+  pub why-ask : AskWhy → askWrote id limit f k room ≡ wrote.Refused r
+  unfolding askWrote judgedFilters judgedKnowledge writtenIn
+  why-ask (WhyAsk.filters h) = rw h
+  why-ask (WhyAsk.knowledge x a h e) = filters-passed (filtersGiven f) _ a ∙ rw (h, e)
+  why-ask (WhyAsk.long a b l e) =
+      filters-passed (filtersGiven f) _ a ∙ knowledge-passed (knowledgeGiven k) _ b ∙ rw (lt-ltb longestInput (length sent) l, e)
+  why-ask (WhyAsk.short a b l m e) =
+      filters-passed (filtersGiven f) _ a ∙ knowledge-passed (knowledgeGiven k) _ b
+      ∙ rw (le-ltb longestInput (length sent) l, lt-ltb room (length sent) m, e)
+
+  pub ask-fault : askWrote id limit f k room ≡ wrote.Refused r → Fault (f ∷ k ∷ []) r
+  ask-fault h =
+      let t = ask-refused id limit f k room r h in
+      let n : (1 ≤ r .number) × (r .number ≤ 14) =
+      by-eq (r .number) 14 (λ e. (omega arith, omega arith)) (λ z. let w = t .number z in (w .0, omega arith)) in
+      let i = t .input in
+      record {
+        least = n .0;
+        most = n .1;
+        input = omega arith;
+        place =
+            by-eq (r .input) 0 (λ e. rw e (t .first e))
+            (λ z. let e : r .input ≡ 1 = omega arith in rw e (t .second e));
+        needed = λ z. t .number z .2;
+      }
+
+-- where nothing is refused, all of the request was written
+module _ (w : List ℕ) (n : ℕ) where
+  written-done : (room : ℕ) → writtenIn room w ≡ wrote.Done n → n ≡ length w
+  unfolding writtenIn
+  written-done room h =
+      by-lt longestInput (length w) (λ l. let z = rw (lt-ltb longestInput (length w) l) at h in impossible (cc))
+      (λ l.
+      by-lt room (length w) (λ m. let z = rw (le-ltb longestInput (length w) l, lt-ltb room (length w) m) at h in impossible (cc))
+      (λ m.
+      let z : wrote.Done (length w) ≡ wrote.Done n = rw (le-ltb longestInput (length w) l, le-ltb room (length w) m) at h in
+      cc))
+
+  knowledge-done : (c : Reading) (o : Wrote) → judgedKnowledge c o ≡ wrote.Done n → o ≡ wrote.Done n
+  unfolding judgedKnowledge
+  knowledge-done (reading.At e v) o h = h
+  knowledge-done (reading.Refused x) o h = impossible (cc)
+
+  filters-done : (c : Reading) (o : Wrote) → judgedFilters c o ≡ wrote.Done n → o ≡ wrote.Done n
+  unfolding judgedFilters
+  filters-done (reading.At e v) o h = h
+  filters-done (reading.Refused x) o h = impossible (cc)
+
+pub ask-done : (id limit : ℕ) (f k : List ℕ) (room n : ℕ) → askWrote id limit f k room ≡ wrote.Done n → n ≡ length (askBytes id limit f k)
+unfolding askWrote
+ask-done id limit f k room n h =
+    let w = askBytes id limit f k in
+    written-done w n room (knowledge-done w n (knowledgeGiven k) _ (filters-done w n (filtersGiven f) _ h))
+
+-- ---- an answer read
+
+pub read-why : (w : List ℕ) (r : Refusal) → answerIn w ≡ answer.Refused r → WhyRead w r
+read-why w r h = answer-fault w r h
+
+pub why-read : (w : List ℕ) (r : Refusal) → WhyRead w r → answerIn w ≡ answer.Refused r
+unfolding answerIn answerOn
+why-read w r h = rw h
+
+pub read-fault : (w : List ℕ) (r : Refusal) → answerIn w ≡ answer.Refused r → Fault (w ∷ []) r
+read-fault w r h =
+    let n : (1 ≤ r .number) × (r .number ≤ 12) =
+    by-lt longestAnswer (length w) (λ l. rw (answer-number w r h .1 l) (omega arith, omega arith))
+    (λ l. let v = answer-number w r h .0 l in (omega arith, v .1)) in
+    let e = answer-rest w r h in
+    first-fault w [] r (n .0) (n .1) (e .0) (answer-place w r h) (e .1)
+
+-- ---- one element by its position
+
+past-last : (all : List Element) (i : ℕ) (r : Refusal) → elementIn all i ≡ found.Refused r → (length all ≤ i) × (r ≡ faultAt 9 0)
+unfolding elementIn
+past-last [] i r h = (omega arith, cc)
+past-last (x ∷ all) zero r h = impossible (cc)
+past-last (x ∷ all) (suc i) r h = let w = past-last all i r h in (let z = w .0 in omega arith, w .1)
+
+-- what the reading c, behind which all stand, leaves of it
+found-why : (all : List Element) (i : ℕ) (c : Reading) (r : Refusal) → foundOn all i c ≡ found.Refused r
+    → (c ≡ reading.Refused r) ⊎ (Stands c × (length all ≤ i) × (r ≡ faultAt 9 0))
+found-why all i (reading.At e v) r h = let w = past-last all i r h in inr (tt, w .0, w .1)
+found-why all i (reading.Refused x) r h = inl (cc)
+
+why-found : (all : List Element) (i : ℕ) (c : Reading) (r : Refusal) → Stands c → length all ≤ i → r ≡ faultAt 9 0 → foundOn all i c ≡ found.Refused r
+why-found all i (reading.At e v) r g l z = found-none all i l ∙ ap found.Refused (sym z)
+why-found all i (reading.Refused x) r g l z = absurd g
+
+module _ (kind : ℕ) (s : List ℕ) (i : ℕ) (r : Refusal) where
+  -- by the kind, one of the two
+  of-kind-store : kind ≡ 0 → elementFound kind s i ≡ foundOn (storeWalk s .elements) i (storeWalk s .last)
+  unfolding elementFound foundIn
+  of-kind-store e = rw (eq-eqb kind 0 e)
+
+  of-kind-answer : (kind ≡ 0 → ⊥) → elementFound kind s i ≡ foundOn (packageIn s .elements) i (answerEnd s)
+  unfolding elementFound receivedAt
+  of-kind-answer n = rw (ne-eqb kind 0 n)
+
+  pub element-why : elementFound kind s i ≡ found.Refused r → WhyElement kind s i r
+  element-why h =
+      by-eq kind 0
+      (λ e.
+      ⊎-elim (λ z. WhyElement.store e z) (λ z. WhyElement.past-store e (z .0) (z .1) (z .2))
+      (found-why (storeWalk s .elements) i (storeWalk s .last) r (sym (of-kind-store e) ∙ h)))
+      (λ n.
+      ⊎-elim (λ z. WhyElement.answer n z) (λ z. WhyElement.past-answer n (z .0) (z .1) (z .2))
+      (found-why (packageIn s .elements) i (answerEnd s) r (sym (of-kind-answer n) ∙ h)))
+
+  pub why-element : WhyElement kind s i r → elementFound kind s i ≡ found.Refused r
+  why-element (WhyElement.store e h) = of-kind-store e ∙ rw h
+  why-element (WhyElement.answer n h) = of-kind-answer n ∙ rw h
+  why-element (WhyElement.past-store e g l z) = of-kind-store e ∙ why-found (storeWalk s .elements) i (storeWalk s .last) r g l z
+  why-element (WhyElement.past-answer n g l z) = of-kind-answer n ∙ why-found (packageIn s .elements) i (answerEnd s) r g l z
+
+  why-element-fault : WhyElement kind s i r → Fault (s ∷ []) r
+  why-element-fault (WhyElement.store e h) = of-store s [] r h
+  why-element-fault (WhyElement.answer n h) = read-fault s r (why-read s r h)
+  why-element-fault (WhyElement.past-store e g l z) = rw z (front-fault s [] 9 (omega arith) (omega arith))
+  why-element-fault (WhyElement.past-answer n g l z) = rw z (front-fault s [] 9 (omega arith) (omega arith))
+
+  pub element-fault : elementFound kind s i ≡ found.Refused r → Fault (s ∷ []) r
+  element-fault h = why-element-fault (element-why h)

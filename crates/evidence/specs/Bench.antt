@@ -1,0 +1,86 @@
+-- A bench that talks by the exported calls alone: hub_ask writes the request, hub_answer answers it, hub_read reads the answer, and the
+-- knowledge that stands in it is handed to the next hub_ask. Each call is lent a report of 24 bytes or more.
+-- Assumes nothing.
+use mathlib.Core.Path.{_≡_}
+use mathlib.Core.Bool.{Bool}
+use mathlib.Core.List.{List, [], _∷_}
+use Prim.Native.Nat.{ℕ, _+_, _-_, _^_, _≤_, _<_}
+use lib.ListN.{length, take, drop}
+use Rattle.objects.specs.Steps.{valueOf}
+use Rattle.objects.specs.declared.reading.Reading.the-variants.{At}
+use Rattle.store.specs.declared.element.Key.{Key}
+use Rattle.talk.specs.Series.{Chain, done, next}
+use Rattle.request.specs.Meaning.{Filter, filtersRead}
+use Rattle.pages.specs.Choice.{knowsKey}
+use Rattle.client.specs.Ask.{filtersGiven, knowledgeOf}
+use Rattle.hub.specs.Call.{HubAnswers}
+use Rattle.hub.specs.Bench.{HubAsks, HubReads}
+use Rattle.evidence.specs.Calling.{reportNumber}
+
+-- ---- what the bytes that a bench hands in mean
+
+-- the filters
+abbrev pub filtersIn : List ℕ → List Filter
+filtersIn f = filtersRead (valueOf (filtersGiven f)) f (At 0 0)
+
+-- the knowledge as a set, and how many ranges and entries it has
+abbrev pub knowsBy : List ℕ → Key → Bool
+knowsBy k = knowsKey (knowledgeOf k .ranges)
+
+abbrev pub saidBy : List ℕ → ℕ
+saidBy k = 512 - knowledgeOf k .left
+
+-- ---- the turns
+
+-- what a bench chooses for a turn: the id, the limit, and what it lends to the three calls
+pub record Choice : Type 0 where
+  pub id : ℕ
+  pub limit : ℕ
+  pub ask-out : List ℕ
+  pub ask-report : List ℕ
+  pub out : List ℕ
+  pub report : List ℕ
+  pub read-report : List ℕ
+
+-- numbers of 64 bits, reports of 24 bytes or more
+pub record Lends (c : Choice) : Type 0 where
+  pub id : c .id < 2 ^ 64
+  pub limit : c .limit < 2 ^ 64
+  pub ask-report : 24 ≤ length (c .ask-report)
+  pub report : 24 ≤ length (c .report)
+  pub read-report : 24 ≤ length (c .read-report)
+
+-- one turn on the store s with the filters f: the knowledge k is handed in, w is answered, and k′ is the knowledge that stands in it
+pub record Turn (s f k w k′ : List ℕ) : Type 0 where
+  pub choice : Choice
+  pub lends : Lends choice
+  -- the request: as many bytes of the output as the report says
+  pub ask-out : List ℕ
+  pub ask-report : List ℕ
+  pub asks : HubAsks (choice .id) (choice .limit) f k 0 (choice .ask-out) ask-out (choice .ask-report) ask-report
+  -- the answer
+  pub out : List ℕ
+  pub report : List ℕ
+  pub answers : HubAnswers s (take (reportNumber 2 ask-report) ask-out) 0 (choice .out) out (choice .report) report
+  pub answer-is : w ≡ take (reportNumber 2 report) out
+  -- the knowledge in it: "place and length"
+  pub read-report : List ℕ
+  pub reads : HubReads w 0 (choice .read-report) read-report
+  pub next : k′ ≡ take (reportNumber 2 read-report) (drop (reportNumber 1 read-report) w)
+
+abbrev pub BenchTalk : List ℕ → List ℕ → List ℕ → List (List ℕ) → List ℕ → Type 0
+BenchTalk s f k answers k′ = Chain (Turn s f) k answers k′
+
+-- the choices under which the turns of a talk were made
+abbrev pub choicesIn : {s f k k′ : List ℕ} {answers : List (List ℕ)} → BenchTalk s f k answers k′ → List Choice
+choicesIn done = []
+choicesIn (next t c) = t .choice ∷ choicesIn c
+
+-- ---- when a bench can go on
+
+-- a request has room for the filters, a knowledge of 512 ranges and what stands around them; an answer has room for all of the store's
+-- elements and what stands around them
+pub record Ample (s f k : List ℕ) (c : Choice) : Type 0 where
+  pub lends : Lends c
+  pub ask-out : length f + length k + 32768 ≤ length (c .ask-out)
+  pub out : length s + 65536 ≤ length (c .out)
