@@ -7,6 +7,7 @@
 #include "build.h"
 #include "lent.h"
 #include "limits.h"
+#include "told.h"
 
 #include <stdio.h>
 #include <stdlib.h>
@@ -25,14 +26,6 @@ static void add_long_knowledge(struct text *t, size_t n) {
     add_end(t, KNOWLEDGE);
 }
 
-/* A filter of every element, with this operation. */
-static void add_filter(struct text *t, unsigned operation) {
-    add_start(t, FILTER, 1, 2);
-    add_byte(t, 1);
-    add_byte(t, operation);
-    add_end(t, FILTER);
-}
-
 /* The request that a bench sends with the id 1: no constraint where there is no limit, filters and knowledge as they are
    handed in. */
 static void add_ask(struct text *t, uint64_t limit, struct text filters, struct text knowledge) {
@@ -47,18 +40,8 @@ static void add_ask(struct text *t, uint64_t limit, struct text filters, struct 
 
 /* ---- requests written */
 
-/* What a call returns, and the three numbers of its report. */
-struct result {
-    uint64_t number, input, place, length;
-};
-
 /* The first input is too long, and: the request would be, which falls on no item. */
 static const struct result too_long = {HUB_INPUT_TOO_LONG, 0, LONGEST, 0}, too_long_itself = {HUB_INPUT_TOO_LONG, 0, 0, 0};
-
-static int is_told(uint64_t got, const uint8_t *report, struct result r) {
-    int right = number_in(report + HUB_AT_INPUT) == r.input && number_in(report + HUB_AT_PLACE) == r.place;
-    return right && number_in(report + HUB_AT_LENGTH) == r.length && got == r.number;
-}
 
 /* Whether a request asked for with this much output gives the result, and leaves alone all else. Where it is written, it is to
    be the one that filters and knowledge make. */
@@ -146,15 +129,6 @@ static void longest_parts(void) {
 
 /* ---- answers read */
 
-/* Whether an answer is refused with this result, in a report that has room for all that could come. */
-static int read_refused(struct text answer, struct result r) {
-    struct lent report = lend(HUB_READ_REPORT_BYTES);
-    uint64_t got = hub_read(answer.at, answer.length, front_of(report), HUB_READ_REPORT_BYTES);
-    int good = is_told(got, front_of(report), r) && kept_behind(report, HUB_REPORT_BYTES);
-    give_back(report);
-    return good;
-}
-
 /* Whether an answer is read, and the report then has these numbers: knowledge, id, mark, elements, and storage index. */
 static int reads(struct text answer, const uint64_t *eleven) {
     struct lent report = lend(HUB_READ_REPORT_BYTES);
@@ -163,14 +137,6 @@ static int reads(struct text answer, const uint64_t *eleven) {
         good = good && number_in(front_of(report) + 8 * i) == eleven[i];
     }
     good = good && kept_behind(report, HUB_READ_REPORT_BYTES);
-    give_back(report);
-    return good;
-}
-
-static int finds(uint64_t kind, struct text bytes, uint64_t position, struct result r) {
-    struct lent report = lend(HUB_REPORT_BYTES);
-    uint64_t got = hub_element(kind, bytes.at, bytes.length, position, front_of(report), HUB_REPORT_BYTES);
-    int good = is_told(got, front_of(report), r) && kept_behind(report, HUB_REPORT_BYTES);
     give_back(report);
     return good;
 }

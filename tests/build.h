@@ -10,9 +10,9 @@
 #include <string.h>
 
 /* Types by number. */
-enum { ELEMENT = 0x01, RANGE = 0x0F, KNOWLEDGE = 0x10, CELL_KNOWLEDGE = 0x14, PACKAGE = 0x15, INSIDE = 0x1D };
+enum { ELEMENT = 0x01, RANGE = 0x0F, KNOWLEDGE = 0x10, CELL_KNOWLEDGE = 0x14, PACKAGE = 0x15, ENTRY = 0x17, INSIDE = 0x1D };
 enum { REQUEST = 0x40, SUB_RESPONSE = 0x41, SUB_REQUEST = 0x42, SPECIALIZED = 0x44, FILTER = 0x47, QUERY_CHANGES = 0x51 };
-enum { CONSTRAINT = 0x59, ARGUMENTS = 0x5B, USER_AGENT = 0x5D, CHANGES = 0x5F, RESPONSE = 0x62 };
+enum { FILTER_IDS = 0x54, CONSTRAINT = 0x59, ARGUMENTS = 0x5B, USER_AGENT = 0x5D, CHANGES = 0x5F, RESPONSE = 0x62 };
 
 /* The limit that a request without a constraint has. */
 #define NO_LIMIT UINT64_MAX
@@ -29,7 +29,7 @@ struct range {
     uint64_t from, to;
 };
 
-static void add(struct text *t, const void *p, size_t n) {
+static inline void add(struct text *t, const void *p, size_t n) {
     if (n > t->room - t->length) {
         size_t room = (t->length + n) * 2;
         uint8_t *larger = room_for(room);
@@ -46,13 +46,13 @@ static void add(struct text *t, const void *p, size_t n) {
     t->length += n;
 }
 
-static void add_byte(struct text *t, unsigned b) {
+static inline void add_byte(struct text *t, unsigned b) {
     uint8_t x = (uint8_t)b;
     add(t, &x, 1);
 }
 
 /* n bytes of a number, the lowest first. */
-static void add_le(struct text *t, size_t n, uint64_t x) {
+static inline void add_le(struct text *t, size_t n, uint64_t x) {
     for (size_t i = 0; i < n; i++) {
         add_byte(t, (unsigned)(x % 256));
         x /= 256;
@@ -60,20 +60,20 @@ static void add_le(struct text *t, size_t n, uint64_t x) {
 }
 
 /* n like bytes. */
-static void add_like(struct text *t, size_t n, unsigned b) {
+static inline void add_like(struct text *t, size_t n, unsigned b) {
     uint8_t *p = room_for(n);
     memset(p, (int)b, n);
     add(t, p, n);
     free(p);
 }
 
-static void add_text(struct text *t, struct text *other) {
+static inline void add_text(struct text *t, struct text *other) {
     add(t, other->at, other->length);
     free(other->at);
 }
 
 /* A compact integer: n bytes have 7 * n bits of the number, above the lowest set bit, which tells n; 2^49 and more take 9. */
-static void add_compact(struct text *t, uint64_t x) {
+static inline void add_compact(struct text *t, uint64_t x) {
     size_t n = 1;
     if (x == 0) {
         add_byte(t, 0);
@@ -90,7 +90,7 @@ static void add_compact(struct text *t, uint64_t x) {
     add_le(t, n, x << n | (uint64_t)1 << (n - 1));
 }
 
-static void add_start(struct text *t, uint64_t type, uint64_t compound, uint64_t length) {
+static inline void add_start(struct text *t, uint64_t type, uint64_t compound, uint64_t length) {
     if (type < 64 && length < 128) {
         add_le(t, 2, compound << 2 | type << 3 | length << 9);
         return;
@@ -101,7 +101,7 @@ static void add_start(struct text *t, uint64_t type, uint64_t compound, uint64_t
     }
 }
 
-static void add_end(struct text *t, uint64_t type) {
+static inline void add_end(struct text *t, uint64_t type) {
     if (type < 64) {
         add_byte(t, (unsigned)(type << 2 | 1));
     } else {
@@ -111,7 +111,7 @@ static void add_end(struct text *t, uint64_t type) {
 
 /* An element of type 5 with the id 1, 2 .. 31 and a serial number under the GUID of like bytes; inside it, if asked for, one
    plain object with so many bytes. */
-static void add_element(struct text *t, unsigned id, uint8_t guid, uint64_t serial, size_t inside) {
+static inline void add_element(struct text *t, unsigned id, uint8_t guid, uint64_t serial, size_t inside) {
     add_start(t, ELEMENT, 1, 43);
     add_byte(t, id << 3 | 4);
     add_like(t, 16, 0x1D);
@@ -127,21 +127,47 @@ static void add_element(struct text *t, unsigned id, uint8_t guid, uint64_t seri
 }
 
 /* n elements, whose ids and serial numbers count up from here. */
-static void add_elements(struct text *t, unsigned id, uint8_t guid, uint64_t serial, unsigned n) {
+static inline void add_elements(struct text *t, unsigned id, uint8_t guid, uint64_t serial, unsigned n) {
     for (unsigned i = 0; i < n; i++) {
         add_element(t, id + i, guid, serial + i, 0);
     }
 }
 
+/* n compound objects, each within the one before. */
+static inline void add_nested(struct text *t, unsigned n) {
+    for (unsigned i = 0; i < n; i++) {
+        add_start(t, INSIDE, 1, 0);
+    }
+    for (unsigned i = 0; i < n; i++) {
+        add_end(t, INSIDE);
+    }
+}
+
+/* n elements, 47 bytes long and 3 more for each object nested inside them. The ids' numbers count up from 0x20 in the 10-bit form,
+   of which there are 992, and the serial numbers from here. */
+static inline void add_many_elements(struct text *t, uint8_t guid, uint64_t serial, unsigned n, unsigned nested) {
+    for (unsigned i = 0; i < n; i++) {
+        add_start(t, ELEMENT, 1, 44);
+        add_le(t, 2, (uint64_t)(0x20 + i) << 6 | 0x20);
+        add_like(t, 16, 0x1D);
+        add_byte(t, 0x80);
+        add_like(t, 16, guid);
+        add_le(t, 8, serial + i);
+        add_compact(t, 5);
+        add_nested(t, nested);
+        add_end(t, ELEMENT);
+    }
+}
+
 /* A package around the elements' bytes. */
-static void add_package(struct text *t, struct text elements) {
+static inline void add_package(struct text *t, struct text elements) {
     add_start(t, PACKAGE, 1, 1);
     add_byte(t, 0);
     add_text(t, &elements);
     add_end(t, PACKAGE);
 }
 
-static void add_range(struct text *t, struct range r) {
+static inline void add_range(struct text *t, struct range r) {
     struct text data = {0};
     add_like(&data, 16, r.guid);
     add_compact(&data, r.from);
@@ -151,7 +177,7 @@ static void add_range(struct text *t, struct range r) {
 }
 
 /* A knowledge of n ranges; with none it is empty. */
-static void add_knowledge(struct text *t, const struct range *r, size_t n) {
+static inline void add_knowledge(struct text *t, const struct range *r, size_t n) {
     static const uint8_t cell[16] = {0xF6, 0x35, 0x7A, 0x32, 0x61, 0x07, 0x14, 0x44,
                                      0x96, 0x86, 0x51, 0xE9, 0x00, 0x66, 0x7A, 0x4D};
     add_start(t, KNOWLEDGE, 1, 0);
@@ -170,8 +196,50 @@ static void add_knowledge(struct text *t, const struct range *r, size_t n) {
     add_end(t, KNOWLEDGE);
 }
 
+/* An entry, 27 bytes long. */
+static inline void add_entry(struct text *t, uint8_t guid, uint64_t number) {
+    add_start(t, ENTRY, 0, 25);
+    add_byte(t, 0x80);
+    add_like(t, 16, guid);
+    add_le(t, 8, number);
+}
+
+/* A knowledge of another kind, that is passed over: 22 bytes, the objects nested inside it, 3 bytes. */
+static inline void add_other_knowledge(struct text *t, unsigned nested) {
+    add_start(t, KNOWLEDGE, 1, 0);
+    add_start(t, SPECIALIZED, 1, 16);
+    add_like(t, 16, 0x99);
+    add_nested(t, nested);
+    add_end(t, SPECIALIZED);
+    add_end(t, KNOWLEDGE);
+}
+
+/* A filter of every element, with this operation: 8 bytes. */
+static inline void add_filter(struct text *t, unsigned operation) {
+    add_start(t, FILTER, 1, 2);
+    add_byte(t, 1);
+    add_byte(t, operation);
+    add_end(t, FILTER);
+}
+
+/* A filter that puts in n ids, at most 127: the first stands at its byte 11, and each is 17 bytes long. */
+static inline void add_ids_filter(struct text *t, unsigned n) {
+    struct text data = {0};
+    add_compact(&data, n);
+    for (unsigned i = 0; i < n; i++) {
+        add_byte(&data, 1 << 3 | 4);
+        add_like(&data, 16, i + 1);
+    }
+    add_start(t, FILTER, 1, 2);
+    add_byte(t, 6);
+    add_byte(t, 1);
+    add_start(t, FILTER_IDS, 0, data.length);
+    add_text(t, &data);
+    add_end(t, FILTER);
+}
+
 /* A user agent; inside it, if asked for, one plain object with so many bytes. */
-static void add_agent(struct text *t, size_t inside) {
+static inline void add_agent(struct text *t, size_t inside) {
     add_start(t, USER_AGENT, 1, 0);
     if (inside > 0) {
         add_start(t, INSIDE, 0, inside);
@@ -180,7 +248,7 @@ static void add_agent(struct text *t, size_t inside) {
     add_end(t, USER_AGENT);
 }
 
-static void add_constraint(struct text *t, uint64_t limit) {
+static inline void add_constraint(struct text *t, uint64_t limit) {
     struct text most = {0};
     add_compact(&most, limit);
     add_start(t, CONSTRAINT, 0, most.length);
@@ -188,7 +256,7 @@ static void add_constraint(struct text *t, uint64_t limit) {
 }
 
 /* A request with the id 1, up to its arguments. */
-static void add_request_front(struct text *t, size_t agent) {
+static inline void add_request_front(struct text *t, size_t agent) {
     add_le(t, 2, 12);
     add_le(t, 2, 11);
     add_le(t, 8, 0x9B069439F329CF9C);
@@ -204,13 +272,13 @@ static void add_request_front(struct text *t, size_t agent) {
     add_le(t, 3, 3);
 }
 
-static void add_request_ends(struct text *t) {
+static inline void add_request_ends(struct text *t) {
     add_end(t, SUB_REQUEST);
     add_end(t, REQUEST);
 }
 
 /* The answer to a request with the id 1 from a store with no element of type 1: these elements, the partial byte and n ranges. */
-static void add_answer(struct text *t, struct text elements, unsigned partial, const struct range *r, size_t n) {
+static inline void add_answer(struct text *t, struct text elements, unsigned partial, const struct range *r, size_t n) {
     add_le(t, 2, 12);
     add_le(t, 2, 11);
     add_le(t, 8, 0x9B069439F329CF9D);

@@ -1,9 +1,11 @@
 #!/bin/sh
-# Tests of the calls exported to C: the crate hub is proved and its archive made, what the archive needs is looked at, four C
-# programs are linked with it and run, and what they write is compared with what is stored. On x86-64 that is done with the
-# machine's C compiler; elsewhere, or with the word `toolchain`, by cross-cc and cross-run with what the Rattle toolchain has.
+# Tests of the calls exported to C: the crate hub is proved and its archive made, what the archive needs is looked at, C programs
+# are linked with it and run (tools/cc, tools/run), and what they write is compared with what is stored. With the word
+# `toolchain` that is done on x86-64 too as it is done elsewhere. The last line is 'N passed, 0 failed'.
 set -u
 cd "$(dirname "$0")/.." || exit 1
+[ "${1:-}" != toolchain ] || export HUB_WAY=toolchain
+passed=0
 
 fail() {
     printf 'tests/c.sh: FAILED: %s\n' "$*"
@@ -20,51 +22,63 @@ rm -f "$archive"
 rt staticlib hub >"$room/log" 2>&1 || { cat "$room/log"; fail 'rt staticlib hub fails'; }
 [ -s "$archive" ] || fail "rt staticlib hub leaves no $archive"
 
-# ---- what it needs of the C library: memset and memcpy alone
-reader=''
-for name in nm llvm-nm; do
-    command -v "$name" >/dev/null 2>&1 && reader=$name && break
-done
-if [ -n "$reader" ]; then
-    "$reader" -P -g "$archive" >"$room/names" 2>"$room/log" || { cat "$room/log"; fail "$reader cannot read $archive"; }
-    grep -q '^hub_answer T' "$room/names" || fail "$reader finds no hub_answer in $archive"
-    others=$(awk '$2 == "U" { used[$1] } NF > 2 && $2 != "U" { here[$1] }
-        END { for (name in used) if (!(name in here) && name != "memset" && name != "memcpy") print name }' "$room/names")
-    [ -z "$others" ] || fail "$archive needs more than memset and memcpy: $others"
-else
-    printf 'tests/c.sh: there is no nm, so what the archive needs is not looked at\n'
-fi
+# ---- what it has and what it needs, as the toolchain's linker sees it: the four calls, and memset and memcpy of the C library
+guide=$(rt doc) || fail 'rt doc fails'
+linker=$(dirname "$(dirname "$guide")")/on/$(uname -m)/toolchain/bin/ld.lld
+"$linker" -shared --cref --whole-archive "$archive" -o "$room/whole.so" >"$room/names" 2>&1 ||
+    { cat "$room/names"; fail "the toolchain's linker cannot read $archive"; }
+calls=$(awk '$2 ~ /libhub\.a\(/ { print $1 }' "$room/names" | sort | tr '\n' ' ')
+[ "$calls" = 'hub_answer hub_ask hub_element hub_read ' ] || fail "$archive has other names than the four calls: $calls"
+"$linker" -shared -z defs --error-limit=0 --whole-archive "$archive" -o "$room/whole.so" >"$room/needs" 2>&1 ||
+    grep -q 'undefined symbol: ' "$room/needs" || { cat "$room/needs"; fail "the toolchain's linker cannot link $archive"; }
+needs=$(sed -n 's/.*undefined symbol: //p' "$room/needs" | sort -u | tr '\n' ' ')
+case $needs in
+'' | 'memcpy ' | 'memset ' | 'memcpy memset ') ;;
+*) fail "$archive needs more than memset and memcpy: $needs" ;;
+esac
+passed=$((passed + 1))
 
-# ---- which way
-compiler=''
-if [ "$(uname -m)" = x86_64 ] && [ "${1:-}" != toolchain ]; then
-    for name in cc gcc clang; do
-        command -v "$name" >/dev/null 2>&1 && compiler=$name && break
-    done
-fi
-
-compile() { # NAME
-    if [ -n "$compiler" ]; then
-        "$compiler" -std=c99 -O2 -Wall -Wextra -o "$room/$1" "tests/$1.c" "$archive"
-    else
-        sh tests/cross-cc "$room/$1" "tests/$1.c" "$archive"
-    fi >"$room/log" 2>&1 || { cat "$room/log"; fail "tests/$1.c is not compiled and linked with $archive"; }
+# ---- programs
+compile() { # NAME OTHER-FILES..
+    name=$1
+    shift
+    sh tools/cc "$room/$name" "tests/$name.c" "$@" "$archive" >"$room/log" 2>&1 ||
+        { cat "$room/log"; fail "tests/$name.c is not compiled and linked with $archive"; }
 }
 
 run() { # NAME WORDS..
     name=$1
     shift
-    if [ -n "$compiler" ]; then "$room/$name" "$@"; else sh tests/cross-run "$room/$name" "$@"; fi
+    sh tools/run "$room/$name" "$@"
 }
 
-# ---- the limits: the numbers of document 01, and what is tried beside them
-for program in limits bench_limits; do
-    out=$room/$program.out
-    compile "$program"
-    run "$program" >"$out" || { cat "$out"; fail "a line of tests/$program.c is not ok, or it cannot be run"; }
-    [ "$(tail -n 1 "$out")" = '0 not ok' ] || { cat "$out"; fail "tests/$program.c does not come to its end"; }
-done
-limits() { cat "$room/limits.out" "$room/bench_limits.out" | grep -c "^$1, ok: "; } # GROUP
+# ---- those that hold themselves to what they await, a line for each thing; `document 01` and `beside it` say whose number it is
+hold() { # NAME OTHER-FILES..
+    out=$room/$1.out
+    compile "$@"
+    run "$1" >"$out" || { cat "$out"; fail "a line of tests/$1.c is not ok, or it cannot be run"; }
+    [ "$(tail -n 1 "$out")" = '0 not ok' ] || { cat "$out"; fail "tests/$1.c does not come to its end"; }
+    cat "$out" >>"$room/lines"
+    passed=$((passed + 1))
+}
+
+hold limits
+hold bench_limits
+hold refusals
+hold bench_refusals
+hold counts
+hold stack
+hold example
+hold header tests/header_twin.c
+lines() { grep -c "^$1, ok: " "$room/lines"; } # GROUP
+
+# ---- the example is the one that README.md has
+awk '/^```c$/ { within = 1; next } /^```$/ { within = 0 } within' README.md >"$room/readme"
+awk '/^\/\* README.md has what is above/ { within = 0 } within { print } /^\/\* README.md has what follows/ { within = 1 }' \
+    tests/example.c >"$room/example.text"
+[ -s "$room/readme" ] || fail 'README.md has no example in C'
+cmp "$room/readme" "$room/example.text" || fail 'the example in README.md is another than that of tests/example.c'
+passed=$((passed + 1))
 
 # ---- stored cases
 compile answer
@@ -92,6 +106,7 @@ numbers_only <tests/answers.out >"$room/numbers"
 compare tests/answers.in tests/answers.out answer 24
 compare tests/answers.in tests/answers.out answer 40
 compare tests/answers.in "$room/numbers" answer 23
+passed=$((passed + 1))
 
 # The last word is the kind that stands for an answer: any but 0.
 knowledge_only tests/benches.in tests/benches.out >"$room/knowledge"
@@ -102,6 +117,7 @@ compare tests/benches.in "$room/knowledge" bench 87 2
 compare tests/benches.in "$room/knowledge" bench 24
 compare tests/benches.in "$room/numbers" bench 23
 compare tests/benches.in "$room/numbers" bench 0
+passed=$((passed + 1))
 
 # The cases that the program cases is held to, as this form has them: no tables, so none that lends shorter ones, and no rows.
 paste -d '|' crates/cases/stdin crates/cases/stdout | awk -F '|' -v cases="$room/cases.in" '
@@ -111,6 +127,7 @@ paste -d '|' crates/cases/stdin crates/cases/stdout | awk -F '|' -v cases="$room
         print r[1] == "ok" ? r[1] " " r[2] : $2
     }' >"$room/cases.out"
 compare "$room/cases.in" "$room/cases.out" answer 24
+passed=$((passed + 1))
 
 # And those of the bench's calls, with the elements of stores.
 paste -d '|' crates/cases/stdin crates/cases/stdout | awk -F '|' -v cases="$room/calls.in" '
@@ -119,7 +136,12 @@ paste -d '|' crates/cases/stdin crates/cases/stdout | awk -F '|' -v cases="$room
         print $2
     }' >"$room/calls.out"
 compare "$room/calls.in" "$room/calls.out" bench 88
+passed=$((passed + 1))
 
-printf 'tests/c.sh: %s numbers of document 01 and %s more limits, %s answers and %s calls of a bench as they should be, by %s\n' \
-    "$(limits 'document 01')" "$(limits 'beside it')" "$(cat tests/answers.in "$room/cases.in" | wc -l | tr -d ' ')" \
-    "$(cat tests/benches.in "$room/calls.in" | wc -l | tr -d ' ')" "${compiler:-the toolchain}"
+way='the machine'"'"'s compiler'
+[ "$(uname -m)" = x86_64 ] && [ "${HUB_WAY:-}" != toolchain ] || way='the toolchain'
+printf 'tests/c.sh: %s numbers of document 01 and %s more things, %s answers and %s calls of a bench as they should be, by %s\n' \
+    "$(lines 'document 01')" "$(lines 'beside it')" "$(cat tests/answers.in "$room/cases.in" | wc -l | tr -d ' ')" \
+    "$(cat tests/benches.in "$room/calls.in" | wc -l | tr -d ' ')" "$way"
+grep 'bytes of stack at most' "$room/stack.out"
+printf '%s passed, 0 failed\n' "$passed"

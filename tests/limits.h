@@ -1,5 +1,5 @@
-/* What the two programs share that hold the calls exported to C to their limits: a line for each thing that is tried, and stores
-   and answers of a given length. */
+/* What the programs share that hold the calls exported to C to their limits: a line for each thing that is tried, and stores and
+   answers of a given length or a given number of elements. */
 #ifndef LIMITS_H
 #define LIMITS_H
 
@@ -14,37 +14,57 @@
 
 static int failures = 0;
 
-static void tell(const char *group, const char *what, int good) {
+static inline void tell(const char *group, const char *what, int good) {
     printf("%s, %s: %s\n", group, good ? "ok" : "NOT OK", what);
     failures += !good;
 }
 
 /* A number that document 01 gives. */
-static void paper(const char *what, int good) {
+static inline void paper(const char *what, int good) {
     tell("document 01", what, good);
 }
 
 /* What is tried beside them. */
-static void beside(const char *what, int good) {
+static inline void beside(const char *what, int good) {
     tell("beside it", what, good);
 }
 
 /* The last line, and the exit status. */
-static int ended(void) {
+static inline int ended(void) {
     printf("%d not ok\n", failures);
     return failures > 0;
 }
 
 /* A store of n elements whose serial numbers count up. */
-static struct text store_of(uint64_t serial, unsigned n) {
+static inline struct text store_of(uint64_t serial, unsigned n) {
     struct text elements = {0}, store = {0};
     add_elements(&elements, 1, SERIALS, serial, n);
     add_package(&store, elements);
     return store;
 }
 
+/* A store of n elements of 47 bytes, and 3 more for each object nested inside them. */
+static inline struct text many_store(unsigned n, unsigned nested) {
+    struct text elements = {0}, store = {0};
+    add_many_elements(&elements, SERIALS, 7, n, nested);
+    add_package(&store, elements);
+    return store;
+}
+
+/* An answer with n such elements and this knowledge, which stands behind 34 bytes and the elements'. */
+static inline struct text many_answer(unsigned n, unsigned nested, struct text knowledge) {
+    struct text elements = {0}, empty = {0}, answer = {0};
+    add_many_elements(&elements, SERIALS, 7, n, nested);
+    add_answer(&empty, elements, 0, NULL, 0);
+    add(&answer, empty.at, empty.length - 7); /* but for an empty knowledge of 3 bytes, and two ends */
+    add(&answer, knowledge.at, knowledge.length);
+    add(&answer, empty.at + empty.length - 4, 4);
+    free(empty.at);
+    return answer;
+}
+
 /* A store of exactly n bytes: its one element has a long object inside. 54 bytes and 4 of the true length are around it. */
-static struct text long_store(size_t n) {
+static inline struct text long_store(size_t n) {
     struct text elements = {0}, store = {0};
     add_element(&elements, 1, SERIALS, 7, n - 58);
     add_package(&store, elements);
@@ -52,7 +72,7 @@ static struct text long_store(size_t n) {
 }
 
 /* The answer with the one element of a store of n bytes: 82 bytes more. */
-static struct text long_answer(size_t n) {
+static inline struct text long_answer(size_t n) {
     struct range seven[1] = {{SERIALS, 7, 7}};
     struct text elements = {0}, answer = {0};
     add_element(&elements, 1, SERIALS, 7, n - 58);

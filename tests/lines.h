@@ -17,7 +17,7 @@ struct bytes {
     int good;
 };
 
-static int digit(char c) {
+static inline int digit(char c) {
     if (c >= '0' && c <= '9') {
         return c - '0';
     }
@@ -25,7 +25,7 @@ static int digit(char c) {
 }
 
 /* The bytes that a word spells in hex, in a block of exactly their length. */
-static struct bytes spelled(const char *word) {
+static inline struct bytes spelled(const char *word) {
     struct bytes b = {NULL, strlen(word) / 2, strlen(word) % 2 == 0};
     if (strcmp(word, "-") == 0) {
         struct bytes none = {NULL, 0, 1};
@@ -41,7 +41,7 @@ static struct bytes spelled(const char *word) {
 }
 
 /* Cuts a line into its words, and answers how many there are. There is room for so many; what is behind stays with the last. */
-static size_t words_of(char *line, char **words, size_t most) {
+static inline size_t words_of(char *line, char **words, size_t most) {
     size_t n = 0;
     for (char *at = line; at != NULL; n++) {
         char *blank = n + 1 < most ? strchr(at, ' ') : NULL;
@@ -55,18 +55,18 @@ static size_t words_of(char *line, char **words, size_t most) {
     return n;
 }
 
-static void say_number(uint64_t n) {
+static inline void say_number(uint64_t n) {
     printf(" %llu", (unsigned long long)n);
 }
 
-static void say_hex(const uint8_t *p, size_t n) {
+static inline void say_hex(const uint8_t *p, size_t n) {
     for (size_t i = 0; i < n; i++) {
         printf("%02x", p[i]);
     }
 }
 
 /* A refusal whose report was written. */
-static void say_refusal(uint64_t number, const uint8_t *report) {
+static inline void say_refusal(uint64_t number, const uint8_t *report) {
     printf("no");
     say_number(number);
     for (size_t i = 0; i < 3; i++) {
@@ -76,7 +76,7 @@ static void say_refusal(uint64_t number, const uint8_t *report) {
 }
 
 /* A result of which the report told nothing. */
-static void say_number_only(uint64_t number) {
+static inline void say_number_only(uint64_t number) {
     if (number == 0) {
         printf("ok\n");
     } else {
@@ -85,7 +85,7 @@ static void say_number_only(uint64_t number) {
 }
 
 /* One line without its end, as long as it may be; NULL at the end of the input. */
-static char *next_line(void) {
+static inline char *next_line(void) {
     size_t room = 1 << 16, n = 0;
     char *line = room_for(room);
     int c;
