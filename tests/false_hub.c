@@ -1,0 +1,51 @@
+/* A hub that lies, for tests of the bench program: it takes the place of bench/exchange.c and bench/guarded.c, which it holds,
+   and hands the program's calls of hub_answer to one of its own. What it does is named by the variable LIE:
+   - partial: an answer that is marked partial and has nothing in it, again and again, as the hub that this project began with;
+   - id: an answer to another ask;
+   - room: the output is too short, however long it is;
+   - unread: a byte of the answer is wrong;
+   - touch: a refusal that leaves a changed byte in the output. */
+#include "../include/hub.h"
+
+#include <stdlib.h>
+#include <string.h>
+
+static int lies(const char *what) {
+    const char *lie = getenv("LIE");
+    return lie != NULL && strcmp(lie, what) == 0;
+}
+
+/* Where the knowledge of an answer stands: right behind the byte with the mark. */
+static size_t knowledge_place(const uint8_t *answer, const uint8_t *report) {
+    uint8_t told[HUB_REPORT_BYTES] = {0};
+    hub_read(answer, (size_t)report[HUB_AT_LENGTH] + 256u * report[HUB_AT_LENGTH + 1], told, sizeof told);
+    return (size_t)told[HUB_AT_PLACE] + 256u * told[HUB_AT_PLACE + 1];
+}
+
+static uint64_t false_answer(const uint8_t *store, size_t store_len, const uint8_t *request, size_t request_len, uint8_t *out,
+                             size_t out_len, uint8_t *report, size_t report_len) {
+    static const uint8_t empty[4] = {0xAC, 0x02, 0x00, 0x55};
+    if (lies("partial")) {
+        store = empty;
+        store_len = sizeof empty;
+    }
+    uint64_t number = hub_answer(store, store_len, request, request_len, out, out_len, report, report_len);
+    if (number == HUB_ANSWERED && lies("partial")) {
+        out[knowledge_place(out, report) - 1] = 1;
+    } else if (number == HUB_ANSWERED && lies("id")) {
+        /* With a null storage index the id stands 9 bytes before the knowledge: id, type, status, header of 4, null, mark. */
+        out[knowledge_place(out, report) - 9] ^= 0x10;
+    } else if (number == HUB_ANSWERED && lies("room")) {
+        report[HUB_AT_LENGTH + 1]++;
+        number = HUB_OUTPUT_TOO_SHORT;
+    } else if (number == HUB_ANSWERED && lies("unread")) {
+        out[0] = 0;
+    } else if (number != HUB_ANSWERED && lies("touch")) {
+        out[out_len / 2] ^= 1;
+    }
+    return number;
+}
+
+#define hub_answer false_answer
+#include "../bench/exchange.c"
+#include "../bench/guarded.c"
