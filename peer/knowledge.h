@@ -1,0 +1,22 @@
+/* Knowledge as a request or an answer has it, read and written. */
+#ifndef PEER_KNOWLEDGE_H
+#define PEER_KNOWLEDGE_H
+
+#include "ranges.h"
+
+/* How many bytes a knowledge has around its ranges, and without any. */
+#define KNOWLEDGE_AROUND 28u
+#define KNOWLEDGE_EMPTY 3u
+
+struct header;
+
+/* A knowledge behind its header, which was read; the true length is still to be read. Three objects are open with it, of so many
+   at most. The ranges are put into the set, if there is one. */
+int read_knowledge(struct input *in, struct header *h, unsigned most, struct ranges *set);
+
+/* How many bytes a range takes. */
+unsigned range_length(uint64_t from, uint64_t to);
+
+uint8_t *put_knowledge(uint8_t *p, const struct ranges *set);
+
+#endif

@@ -1,0 +1,112 @@
+/* A request, read from front to end in the order of 000, 2.2.2 and 2.2.2.1.3. */
+#include "request.h"
+#include "knowledge.h"
+#include "objects.h"
+
+#define SIGNATURE 0x9B069439F329CF9Cu
+
+static int read_agent(struct input *in) {
+    return need_fixed_start(in, REQUEST, USER_AGENT, COMPOUND, 0) && pass_inside(in, USER_AGENT, 2, DEPTH);
+}
+
+static int read_sub_request(struct input *in, struct asked *asked) {
+    struct header h;
+    uint64_t type, priority;
+    size_t place;
+    if (!need_start(in, &h, REQUEST, SUB_REQUEST, COMPOUND)) {
+        return 0;
+    }
+    begin_run(in, h.length);
+    if (!read_compact(in, &asked->id)) {
+        return 0;
+    }
+    place = in->at;
+    if (!read_compact(in, &type)) {
+        return 0;
+    }
+    if (type != 2) {
+        return refuse(in, NOT_SERVED, place);
+    }
+    return read_compact(in, &priority) && end_run(in);
+}
+
+/* Half of a cell ID, which has to be null. */
+static int read_null_id(struct input *in) {
+    struct name id;
+    size_t place = in->at;
+    if (!read_extended_guid(in, &id)) {
+        return 0;
+    }
+    return id.null ? 1 : refuse(in, NOT_SERVED, place);
+}
+
+/* The object 0x51, whose byte is ignored, and the arguments. */
+static int read_arguments(struct input *in) {
+    struct header h;
+    unsigned ignored, flags;
+    if (!need_fixed_start(in, SUB_REQUEST, QUERY_CHANGES, PLAIN, 1) || !read_byte(in, &ignored) ||
+        !need_start(in, &h, SUB_REQUEST, ARGUMENTS, PLAIN)) {
+        return 0;
+    }
+    begin_run(in, h.length);
+    if (!read_byte(in, &flags)) {
+        return 0;
+    }
+    if ((flags & 3) != 3) {
+        return refuse(in, NOT_SERVED, in->at - 1);
+    }
+    return read_null_id(in) && read_null_id(in) && end_run(in);
+}
+
+static int read_constraint(struct input *in, struct header *h, struct asked *asked) {
+    if (!true_length(in, h)) {
+        return 0;
+    }
+    begin_run(in, h->length);
+    return read_compact(in, &asked->limit) && end_run(in);
+}
+
+/* Constraint, filters and knowledge, as far as they are there, and the end of the sub-request. */
+static int read_rest(struct input *in, struct asked *asked) {
+    struct header h;
+    unsigned filters = 0;
+    asked->limit = UINT64_MAX;
+    if (!next_header(in, &h, SUB_REQUEST)) {
+        return 0;
+    }
+    if (is_start(&h, CONSTRAINT, PLAIN) && (!read_constraint(in, &h, asked) || !next_header(in, &h, SUB_REQUEST))) {
+        return 0;
+    }
+    while (is_start(&h, FILTER, COMPOUND)) {
+        if (!read_filter(in, &h, filters++, &asked->choice) || !next_header(in, &h, SUB_REQUEST)) {
+            return 0;
+        }
+    }
+    if (is_start(&h, KNOWLEDGE, COMPOUND) &&
+        (!read_knowledge(in, &h, DEPTH, &asked->known) || !next_header(in, &h, SUB_REQUEST))) {
+        return 0;
+    }
+    return h.start ? refuse(in, WRONG_LAYOUT, h.place) : 1;
+}
+
+/* The package, if it is there, and the end of the request. */
+static int read_behind(struct input *in) {
+    struct header h;
+    unsigned reserved;
+    if (!next_header(in, &h, REQUEST)) {
+        return 0;
+    }
+    if (is_start(&h, PACKAGE, COMPOUND)) {
+        return fixed_length(in, &h, 1) && read_byte(in, &reserved) && pass_inside(in, PACKAGE, 2, DEPTH) &&
+               need_end(in, REQUEST);
+    }
+    return h.start ? refuse(in, WRONG_LAYOUT, h.place) : 1;
+}
+
+int read_request(struct input *in, struct asked *asked, const struct store *store) {
+    begin_choice(&asked->choice, store);
+    asked->known.count = 0;
+    return read_front(in, SIGNATURE) && need_fixed_start(in, NOTHING, REQUEST, COMPOUND, 0) && read_agent(in) &&
+           read_sub_request(in, asked) && read_arguments(in) && read_rest(in, asked) && read_behind(in) &&
+           nothing_follows(in);
+}

@@ -1,0 +1,17 @@
+/* A request, read whole. */
+#ifndef PEER_REQUEST_H
+#define PEER_REQUEST_H
+
+#include "filters.h"
+#include "ranges.h"
+
+struct asked {
+    uint64_t id, limit;
+    struct choice choice;
+    struct ranges known;
+};
+
+/* Its filters are put to the elements of the store, and what it knows into the ranges. */
+int read_request(struct input *in, struct asked *asked, const struct store *store);
+
+#endif

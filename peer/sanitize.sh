@@ -1,0 +1,107 @@
+#!/bin/sh
+# peer/sanitize.sh [CASES [TALKS]]: the peer, its drivers and the program in bench/ built natively under the address and undefined-behaviour sanitizers, by
+# each compiler of the machine that has them, and run. On x86-64 the library is linked in; elsewhere it cannot be, and the peer is
+# held to the stored results and to itself. The last line is 'N passed, 0 failed'.
+set -u
+cd "$(dirname "$0")/.." || exit 1
+. peer/files.sh
+cases=${1:-20000} talks=${2:-1000} passed=0
+export ASAN_OPTIONS=detect_leaks=0 # the peer takes nothing from the heap, and what the drivers take ends with them
+
+fail() {
+    printf 'peer/sanitize.sh: FAILED: %s\n' "$*"
+    exit 1
+}
+
+room=$(mktemp -d) || fail 'there is no room for temporary files'
+trap 'rm -rf "$room"' EXIT
+trap 'exit 1' HUP INT TERM
+
+# ---- with the library or alone
+with='-DPEER_ALONE' archive='' said='the peer alone, and the bench with it,'
+if [ "$(uname -m)" = x86_64 ]; then
+    with='' archive=target/staticlib/libhub.a said='library, peer and bench'
+    [ -s "$archive" ] || fail "there is no $archive: make archive writes it"
+fi
+flags='-std=c99 -O1 -g -Wall -Wextra -Werror -pedantic -Iinclude -fsanitize=address,undefined -fno-sanitize-recover=all'
+
+build() { # NAME WORDS..
+    name=$1
+    shift
+    # shellcheck disable=SC2086
+    "$compiler" $flags -o "$room/$name" "$@" >"$room/log" 2>&1 || { cat "$room/log"; fail "$name is not compiled by $compiler"; }
+}
+
+# The objects of files, each compiled once for all programs.
+objects() { # FILES..
+    for file; do
+        object=$room/$(basename "$file" .c).o
+        # shellcheck disable=SC2086
+        [ -s "$object" ] || "$compiler" $flags $with -c "$file" -o "$object" >&2 || fail "$file is not compiled by $compiler" >&2
+        printf '%s ' "$object"
+    done
+}
+
+run() { # NAME WORDS..: its last line is to be '0 differences'
+    name=$1
+    shift
+    "$room/$name" "$@" >"$room/log" 2>&1 || { tail -n 40 "$room/log"; fail "$name, built by $compiler, does not end well"; }
+    [ "$(tail -n 1 "$room/log")" = '0 differences' ] || { tail -n 40 "$room/log"; fail "$name does not come to its end"; }
+    passed=$((passed + 1))
+}
+
+# The lines that stored cases give, by the peer in the library's place.
+stored() { # PROGRAM CASES EXPECTED
+    "$room/$1" <"$2" >"$room/got" 2>"$room/log" || { cat "$room/log"; fail "the peer, built by $compiler, stops on $2"; }
+    cmp "$room/got" "$3" || fail "of $2 the peer makes other lines than $3 has"
+    passed=$((passed + 1))
+}
+
+# A talk of the program in bench/ on its sample, damaged requests, a dump of each kind, and cases: all end well.
+talks_well() {
+    sample=bench/sample
+    rm -f "$room/book" "$room/book.knowledge"
+    for words in "--limit 400 --answer-bytes 200 --ask-bytes 60 $sample/book.store $room/book" "$sample/book.store $room/book" \
+        "--hostile 7 --times 2000 --limit 400 $sample/book.store" "--dump $sample/book.store" "--dump $sample/first.request" \
+        "--dump $sample/first.answer" "--dump $room/book.knowledge" "--replay $sample/sample.cases" "--replay tests/answers.in"; do
+        # shellcheck disable=SC2086
+        "$room/talk" $words >"$room/log" 2>&1 || { tail -n 40 "$room/log"; fail "bench $words, built by $compiler, does not end well"; }
+    done
+    cmp "$room/book" "$sample/book.store" || fail "the book of the program in bench/, built by $compiler, is not the store"
+    passed=$((passed + 1))
+}
+
+# ---- each compiler
+done_with='' compilers='gcc clang'
+command -v gcc >/dev/null 2>&1 || command -v clang >/dev/null 2>&1 || compilers=cc
+for compiler in $compilers; do
+    command -v "$compiler" >/dev/null 2>&1 || continue
+    printf 'int main(void) { return 0; }\n' >"$room/none.c"
+    # shellcheck disable=SC2086
+    "$compiler" $flags -o "$room/none" "$room/none.c" >/dev/null 2>&1 && "$room/none" || continue
+    rm -f "$room"/*.o
+    # shellcheck disable=SC2046,SC2086
+    {
+        build answer -Dhub_answer=peer_answer tests/answer.c $(objects $peer_core)
+        build bench -Dhub_ask=peer_ask -Dhub_read=peer_read -Dhub_element=peer_element tests/bench.c $(objects $peer_core)
+        build compare $(objects $peer_core $peer_compare) $archive
+        build series $(objects $peer_core $peer_series) $archive
+        build speed $(objects $peer_core $peer_speed) $archive
+        if [ -n "$archive" ]; then
+            build talk bench/*.c $archive
+        else
+            build talk -Dhub_answer=peer_answer -Dhub_ask=peer_ask -Dhub_read=peer_read -Dhub_element=peer_element bench/*.c \
+                $(objects $peer_core)
+        fi
+    }
+    talks_well
+    stored answer tests/answers.in tests/answers.out
+    stored bench tests/benches.in tests/benches.out
+    run compare --cases "$cases" --save "$room/case"
+    run compare --large --save "$room/case"
+    run series --talks "$talks" --save "$room/case"
+    done_with="$done_with $compiler"
+done
+[ -n "$done_with" ] || fail 'no compiler here (gcc, clang or cc) has the address and undefined-behaviour sanitizers'
+printf 'peer/sanitize.sh: %s under the sanitizers, %s cases and %s talks, by%s\n' "$said" "$cases" "$talks" "$done_with"
+printf '%s passed, 0 failed\n' "$passed"

@@ -1,0 +1,95 @@
+#!/bin/sh
+# Holds the driver to what it is for: peers with one line spoiled are compared with the library, and each has to be told from it.
+# Each line says which case or talk told one, and the last line how many were.
+set -u
+cd "$(dirname "$0")/.." || exit 1
+. peer/files.sh
+
+fail() {
+    printf 'peer/spoiled.sh: FAILED: %s\n' "$*"
+    exit 1
+}
+
+archive=target/staticlib/libhub.a
+[ -s "$archive" ] || fail "there is no $archive: make archive writes it"
+room=$(mktemp -d) || fail 'there is no room for temporary files'
+trap 'rm -rf "$room"' EXIT
+trap 'exit 1' HUP INT TERM
+found=0
+
+# A copy of the peer with one line of a file spoiled, built into a program.
+build() { # PROGRAM FILE RIGHT WRONG
+    rm -rf "$room/peer"
+    mkdir "$room/peer" || fail 'there is no room for a copy of the peer'
+    cp peer/*.c peer/*.h "$room/peer/"
+    grep -Fq "$3" "peer/$2.c" || fail "peer/$2.c has no line with: $3"
+    RIGHT=$3 WRONG=$4 awk '
+        { at = done ? 0 : index($0, ENVIRON["RIGHT"]) }
+        at { $0 = substr($0, 1, at - 1) ENVIRON["WRONG"] substr($0, at + length(ENVIRON["RIGHT"])); done = 1 }
+        { print }' "peer/$2.c" >"$room/peer/$2.c"
+    others=$peer_compare files=''
+    [ "$1" = compare ] || others=$peer_series
+    for file in $peer_core $others; do
+        files="$files $room/$file"
+    done
+    # shellcheck disable=SC2086
+    sh tools/cc "$room/$1" "-I$PWD/include" $files "$archive" >"$room/log" 2>&1 ||
+        { cat "$room/log"; fail "peer/$2.c with '$4' is not compiled"; }
+}
+
+# By the cases, and again by the case that is saved.
+spoil() { # FILE RIGHT WRONG
+    build compare "$@"
+    sh tools/run "$room/compare" --save "$room/case" >"$room/log" 2>&1 && fail "no case tells a peer with '$3' for '$2'"
+    where=$(sed -n 's/^library and peer differ in \(case [0-9]*\).*/\1/p' "$room/log")
+    [ -n "$where" ] || { cat "$room/log"; fail "the driver ends in another way with '$3'"; }
+    sh tools/run "$room/compare" --replay "$room/case" >"$room/again" 2>&1 && fail "the case for '$3' tells nothing when replayed"
+    printf 'told by %s: %s: %s for %s\n' "$where" "$1" "${3:-nothing}" "$2"
+    found=$((found + 1))
+}
+
+# By the talks.
+spoil_talk() { # FILE RIGHT WRONG
+    build series "$@"
+    sh tools/run "$room/series" --save "$room/case" >"$room/log" 2>&1 && fail "no talk tells a peer with '$3' for '$2'"
+    where=$(sed -n 's/^\(talk [0-9]*\), .*/\1/p' "$room/log")
+    [ -n "$where" ] || { cat "$room/log"; fail "the talks end in another way with '$3'"; }
+    printf 'told by %s: %s: %s for %s\n' "$where" "$1" "${3:-nothing}" "$2"
+    found=$((found + 1))
+}
+
+spoil page 'bytes > asked->limit' 'bytes >= asked->limit'
+spoil page 'price.count > MOST_RANGES' 'price.count >= MOST_RANGES'
+spoil page 'page->length > room' 'page->length >= room'
+spoil ranges 'number + 1 == at->from' 'number + 2 == at->from'
+spoil ranges 'set->count--' 'set->count -= 0'
+spoil ranges 'row->from > range->to + 1' 'row->from > range->to'
+spoil ranges 'range->to != UINT64_MAX && ' ''
+spoil ranges 'a.high < b.high' 'a.high > b.high'
+spoil objects 'nest->depth == nest->most' 'nest->depth > nest->most'
+spoil objects 'h.length > in->length - in->at' 'h.length >= in->length - in->at'
+spoil objects 'little(p + 2, 2) > 12' 'little(p + 2, 2) > 11'
+spoil numbers 'if (x < least)' 'if (x + 1 < least)'
+spoil numbers 'id->number < 0x20000' 'id->number < 0x10000'
+spoil store 'store->count == MOST_ELEMENTS' 'store->count + 1 == MOST_ELEMENTS'
+spoil store 'store->count == MOST_ELEMENTS' 'store->count > MOST_ELEMENTS'
+spoil store 'a->number == b->number' 'a->number % 4096 == b->number % 4096'
+spoil store 'store->serials, &e->serial, place' 'store->ids, &e->id, place'
+spoil filters 'i == MOST_IDS' 'i > MOST_IDS'
+spoil filters 'before == MOST_FILTERS' 'before > MOST_FILTERS'
+spoil knowledge 'range.from > range.to' 'range.from >= range.to'
+spoil knowledge 'reading->count == MOST_RANGES' 'reading->count > MOST_RANGES'
+spoil knowledge 'reading->count++' 'reading->count += h.type == RANGE'
+spoil knowledge 'SPECIALIZED, 4, most' 'SPECIALIZED, 3, most'
+spoil request '(flags & 3) != 3' '(flags & 1) != 1'
+spoil answer 'type == 1' 'type == 2'
+spoil ask 'limit != UINT64_MAX' 'limit < UINT64_MAX - 1'
+spoil answer_read '(status & 1) == 0' 'status == 0'
+spoil answer_read 'RESPONSE, 1, DEPTH_READ' 'RESPONSE, 1, DEPTH'
+spoil answer_read 'position >= r.package.count' 'position > r.package.count'
+spoil_talk page 'page->partial = 1' 'page->partial = 0'
+spoil_talk page 'page->partial = 0' 'page->partial = 1'
+spoil_talk page 'bytes > asked->limit' 'bytes >= asked->limit'
+spoil_talk filters 'type == type' 'type >= type'
+spoil_talk ranges 'at[-1].to = number' 'at[-1].to = number + 1'
+printf '%s spoiled peers were told from the library\n' "$found"
