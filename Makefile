@@ -1,13 +1,60 @@
-# make test is what the gate, .ci/run, runs: its last line is rt ci's own, 'N passed, 0 failed'.
-.PHONY: test archive run
+# make test is what the gate, .ci/run, runs: its last line is 'N passed, 0 failed'.
+# make install puts the header, the archive and hub.pc under DESTDIR and PREFIX, and make uninstall takes them away again.
+# What a rule that fails has written is taken away.
+.DELETE_ON_ERROR:
+.PHONY: test archive shared install uninstall run replay speed
+
+PREFIX = /usr/local
+INCLUDEDIR = $(PREFIX)/include
+LIBDIR = $(PREFIX)/lib
+DESTDIR =
+
+archive_file = target/staticlib/libhub.a
+sources = crates.txt toolchain $(shell find crates -name '*.rt' -o -name '*.antt')
+version = $(shell sed -n 's/^\#define HUB_VERSION "\(.*\)"$$/\1/p' include/hub.h)
 
 test:
 	@sh .ci/test.sh
 
-archive:
-	@rt staticlib hub
+archive: $(archive_file)
 
-run:
-	@echo 'There is no program for users yet. The calls for daemons in C are declared in include/hub.h:'
-	@echo 'hub_answer for the hub; hub_ask, hub_read and hub_element for the bench.'
-	@echo 'make archive writes the archive with them, target/staticlib/libhub.a; make test proves every crate and runs the tests.'
+# Whoever installs need not be who proved: nothing is made again while no source is newer.
+$(archive_file): $(sources)
+	@sh tools/toolchain
+	@rt staticlib hub
+	@touch $@
+
+# On x86-64 it is one line: cc -shared -o libhub.so -Wl,--whole-archive libhub.a -Wl,--no-whole-archive
+shared: $(archive_file)
+	@sh tools/shared target/staticlib/libhub.so $(archive_file)
+
+install: $(archive_file)
+	@case '$(PREFIX)$(INCLUDEDIR)$(LIBDIR)' in *[\&\|\ ]*) echo 'make install: PREFIX has a blank, & or |, which hub.pc cannot have'; exit 2 ;; esac
+	@for folder in '$(DESTDIR)$(INCLUDEDIR)' '$(DESTDIR)$(LIBDIR)' '$(DESTDIR)$(LIBDIR)/pkgconfig'; do \
+	    [ -d "$$folder" ] || install -d -m 755 "$$folder" || exit 1; done
+	@install -m 644 include/hub.h '$(DESTDIR)$(INCLUDEDIR)/hub.h'
+	@install -m 644 $(archive_file) '$(DESTDIR)$(LIBDIR)/libhub.a'
+	@sed -e 's|@PREFIX@|$(PREFIX)|' -e 's|@INCLUDEDIR@|$(INCLUDEDIR)|' -e 's|@LIBDIR@|$(LIBDIR)|' -e 's|@VERSION@|$(version)|' \
+	    tools/hub.pc.in >'$(DESTDIR)$(LIBDIR)/pkgconfig/hub.pc'
+	@chmod 644 '$(DESTDIR)$(LIBDIR)/pkgconfig/hub.pc'
+
+uninstall:
+	@rm -f '$(DESTDIR)$(INCLUDEDIR)/hub.h' '$(DESTDIR)$(LIBDIR)/libhub.a' '$(DESTDIR)$(LIBDIR)/pkgconfig/hub.pc'
+
+# A talk of a bench with a hub on the sample, in several answers; run again it goes on where the book stands.
+run: target/bench
+	@mkdir -p target/run
+	@sh tools/run target/bench --limit 400 --answer-bytes 200 bench/sample/book.store target/run/book
+
+# Looks into a fault from the field: CASE is a file of cases, as bench/sample/sample.cases is one. A file that begins with a line of
+# the program cases is run by library and peer.
+replay: target/bench
+	@test -n '$(CASE)' || { echo 'make replay CASE=FILE: a file of cases, such as bench/sample/sample.cases'; exit 2; }
+	@if sh peer/replay.sh --knows '$(CASE)' 2>/dev/null; then sh peer/replay.sh '$(CASE)'; else sh tools/run target/bench --replay '$(CASE)'; fi
+
+target/bench: $(wildcard bench/*.c bench/*.h) include/hub.h tools/cc $(archive_file)
+	@sh tools/cc $@ bench/*.c $(archive_file)
+
+# Library against peer and memcpy, as ratios.
+speed: $(archive_file)
+	@sh peer/speed.sh

@@ -1,7 +1,7 @@
 #!/bin/sh
 # What make test does, in this order: the toolchain is the one that the file toolchain names; every source file is in
-# the layout; rt ci passes; the calls exported to C do from C what they should; no library rests on an axiom. Only if all
-# of it holds is the last line rt ci's own, 'N passed, 0 failed', and the exit status 0.
+# the layout; rt ci passes; the tests in C pass; no library rests on an axiom. Only if all of it holds is the last line
+# 'N passed, 0 failed', where N counts what rt ci has passed and the tests in C, and the exit status 0.
 set -u
 cd "$(dirname "$0")/.." || exit 1
 
@@ -12,10 +12,7 @@ fail() {
 }
 
 # ---- the toolchain
-needed=$(cat toolchain) || fail 'the file toolchain, which names the toolchain needed, cannot be read'
-command -v rt >/dev/null 2>&1 || fail "the Rattle toolchain is needed ($needed), and there is no command rt on the PATH"
-found=$(rt version) || fail "the Rattle toolchain is needed ($needed), and rt version fails"
-[ "$found" = "$needed" ] || fail "another Rattle toolchain: needed '$needed', found '$found'"
+missing=$(sh tools/toolchain) || fail "$missing"
 
 # ---- the layout
 rt fmt --check || fail 'rt fmt --check finds files that are not in the layout (rt fmt sets them right)'
@@ -28,12 +25,22 @@ trap 'exit 1' HUP INT TERM
 { rt ci; echo $? >"$room/status"; } | tee "$room/log"
 status=$(cat "$room/status")
 [ "$status" = 0 ] || exit "${status:-1}"
-last=$(tail -n 1 "$room/log")
-printf '%s\n' "$last" | grep -Eq '^[1-9][0-9]* passed, 0 failed$' ||
-    fail "rt ci ended with status 0, and its last line is not 'N passed, 0 failed'"
+passed=0
+count() { # WHAT: adds what the last line of the log says has passed
+    last=$(tail -n 1 "$room/log")
+    printf '%s\n' "$last" | grep -Eq '^[1-9][0-9]* passed, 0 failed$' ||
+        fail "$1 ended with status 0, and its last line is not 'N passed, 0 failed'"
+    passed=$((passed + ${last%% *}))
+}
+count 'rt ci'
 
-# ---- the calls exported to C
-sh tests/c.sh || fail 'the tests of the calls exported to C (tests/c.sh) fail'
+# ---- the tests in C; the first makes the archive, with which the others go on
+for script in tests/c.sh tests/header.sh tests/install.sh tests/bench.sh tests/peer.sh; do
+    sh "$script" >"$room/log" 2>&1 || { cat "$room/log"; fail "$script"; }
+    # All but the last line, so that the last line of the whole run is the only one of its kind.
+    sed '$d' "$room/log"
+    count "$script"
+done
 
 # ---- no axiom
 # The only axioms that rt admits are the contracts of C functions. It counts them (axioms=) for a program, which may
@@ -67,4 +74,4 @@ for crate in $crates; do
 done
 [ -z "$bad" ] || fail 'only a program may rest on axioms'
 
-printf '%s\n' "$last"
+printf '%s passed, 0 failed\n' "$passed"
