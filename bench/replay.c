@@ -126,7 +126,7 @@ static int run_case(size_t number, const struct one_case *c) {
 /* One line; empty ones and those that begin with # are passed over. */
 static int one_line(const char *name, size_t number, char *line, size_t *cases) {
     struct one_case c = {{NULL, 0, 0}, {NULL, 0, 0}, 0};
-    char *words[MOST_WORDS];
+    char *words[MOST_WORDS] = {NULL};
     size_t n = words_of(line, words);
     if (n == 0 || words[0][0] == '#') {
         return ENDED_WELL;
