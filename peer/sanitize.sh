@@ -1,7 +1,7 @@
 #!/bin/sh
-# peer/sanitize.sh [CASES [TALKS]]: the peer, its drivers and the program in bench/ built natively under the address and undefined-behaviour sanitizers, by
-# each compiler of the machine that has them, and run. On x86-64 the library is linked in; elsewhere it cannot be, and the peer is
-# held to the stored results and to itself. The last line is 'N passed, 0 failed'.
+# peer/sanitize.sh [CASES [TALKS]]: the peer, its drivers and the program in bench/ built natively under the address and
+# undefined-behaviour sanitizers, by each compiler of the machine that has them, and run. On x86-64 the library is linked in;
+# elsewhere it cannot be, and the peer is held to the stored results and to itself. The last line is 'N passed, 0 failed'.
 set -u
 cd "$(dirname "$0")/.." || exit 1
 . peer/files.sh
@@ -25,21 +25,24 @@ if [ "$(uname -m)" = x86_64 ]; then
 fi
 flags='-std=c99 -O1 -g -Wall -Wextra -Werror -pedantic -Iinclude -fsanitize=address,undefined -fno-sanitize-recover=all'
 
+# A program of the words; the peer's own files are compiled once for all programs.
 build() { # NAME WORDS..
     name=$1
     shift
+    for word; do
+        shift
+        case $word in
+        peer/*.c)
+            object=$room/$(basename "$word" .c).o
+            # shellcheck disable=SC2086
+            [ -s "$object" ] || "$compiler" $flags $with -c "$word" -o "$object" || fail "$word is not compiled by $compiler"
+            word=$object
+            ;;
+        esac
+        set -- "$@" "$word"
+    done
     # shellcheck disable=SC2086
     "$compiler" $flags -o "$room/$name" "$@" >"$room/log" 2>&1 || { cat "$room/log"; fail "$name is not compiled by $compiler"; }
-}
-
-# The objects of files, each compiled once for all programs.
-objects() { # FILES..
-    for file; do
-        object=$room/$(basename "$file" .c).o
-        # shellcheck disable=SC2086
-        [ -s "$object" ] || "$compiler" $flags $with -c "$file" -o "$object" >&2 || fail "$file is not compiled by $compiler" >&2
-        printf '%s ' "$object"
-    done
 }
 
 run() { # NAME WORDS..: its last line is to be '0 differences'
@@ -58,14 +61,20 @@ stored() { # PROGRAM CASES EXPECTED
 }
 
 # A talk of the program in bench/ on its sample, damaged requests, a dump of each kind, and cases: all end well.
+ends_well() { # WORDS..
+    "$room/talk" "$@" >"$room/log" 2>&1 || { tail -n 40 "$room/log"; fail "bench $*, built by $compiler, does not end well"; }
+}
 talks_well() {
     sample=bench/sample
     rm -f "$room/book" "$room/book.knowledge"
-    for words in "--limit 400 --answer-bytes 200 --ask-bytes 60 $sample/book.store $room/book" "$sample/book.store $room/book" \
-        "--hostile 7 --times 2000 --limit 400 $sample/book.store" "--dump $sample/book.store" "--dump $sample/first.request" \
-        "--dump $sample/first.answer" "--dump $room/book.knowledge" "--replay $sample/sample.cases" "--replay tests/answers.in"; do
-        # shellcheck disable=SC2086
-        "$room/talk" $words >"$room/log" 2>&1 || { tail -n 40 "$room/log"; fail "bench $words, built by $compiler, does not end well"; }
+    ends_well --limit 400 --answer-bytes 200 --ask-bytes 60 $sample/book.store "$room/book"
+    ends_well $sample/book.store "$room/book"
+    ends_well --hostile 7 --times 2000 --limit 400 $sample/book.store
+    for file in $sample/book.store $sample/first.request $sample/first.answer "$room/book.knowledge"; do
+        ends_well --dump "$file"
+    done
+    for file in $sample/sample.cases tests/answers.in; do
+        ends_well --replay "$file"
     done
     cmp "$room/book" "$sample/book.store" || fail "the book of the program in bench/, built by $compiler, is not the store"
     passed=$((passed + 1))
@@ -80,18 +89,18 @@ for compiler in $compilers; do
     # shellcheck disable=SC2086
     "$compiler" $flags -o "$room/none" "$room/none.c" >/dev/null 2>&1 && "$room/none" || continue
     rm -f "$room"/*.o
-    # shellcheck disable=SC2046,SC2086
+    # shellcheck disable=SC2086
     {
-        build answer -Dhub_answer=peer_answer tests/answer.c $(objects $peer_core)
-        build bench -Dhub_ask=peer_ask -Dhub_read=peer_read -Dhub_element=peer_element tests/bench.c $(objects $peer_core)
-        build compare $(objects $peer_core $peer_compare) $archive
-        build series $(objects $peer_core $peer_series) $archive
-        build speed $(objects $peer_core $peer_speed) $archive
+        build answer -Dhub_answer=peer_answer tests/answer.c $peer_core
+        build bench -Dhub_ask=peer_ask -Dhub_read=peer_read -Dhub_element=peer_element tests/bench.c $peer_core
+        build compare $peer_core $peer_compare $archive
+        build series $peer_core $peer_series $archive
+        build speed $peer_core $peer_speed $archive
         if [ -n "$archive" ]; then
             build talk bench/*.c $archive
         else
             build talk -Dhub_answer=peer_answer -Dhub_ask=peer_ask -Dhub_read=peer_read -Dhub_element=peer_element bench/*.c \
-                $(objects $peer_core)
+                $peer_core
         fi
     }
     talks_well

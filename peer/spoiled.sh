@@ -27,13 +27,12 @@ build() { # PROGRAM FILE RIGHT WRONG
         { at = done ? 0 : index($0, ENVIRON["RIGHT"]) }
         at { $0 = substr($0, 1, at - 1) ENVIRON["WRONG"] substr($0, at + length(ENVIRON["RIGHT"])); done = 1 }
         { print }' "peer/$2.c" >"$room/peer/$2.c"
-    others=$peer_compare files=''
+    others=$peer_compare
     [ "$1" = compare ] || others=$peer_series
-    for file in $peer_core $others; do
-        files="$files $room/$file"
-    done
+    # The files of the copy are named from its folder, so that their names have no blanks.
+    here=$PWD
     # shellcheck disable=SC2086
-    sh tools/cc "$room/$1" "-I$PWD/include" $files "$archive" >"$room/log" 2>&1 ||
+    (cd "$room" && sh "$here/tools/cc" "$1" "-I$here/include" $peer_core $others "$here/$archive") >"$room/log" 2>&1 ||
         { cat "$room/log"; fail "peer/$2.c with '$4' is not compiled"; }
 }
 
