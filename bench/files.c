@@ -1,4 +1,5 @@
-/* Files (files.h). No file is looked at but by opening it, as what a look would tell can be old when it is opened. */
+/* Files (files.h). No file is looked at but by opening it, as what a look would tell can be old when it is opened; only file_is
+   looks before, to tell apart words that were written by mistake. */
 #define _POSIX_C_SOURCE 200809L
 
 #include "files.h"
@@ -9,6 +10,7 @@
 #include <stdio.h>
 #include <stdlib.h>
 #include <string.h>
+#include <sys/stat.h>
 #include <unistd.h>
 
 static int say_fault(const char *name, const char *what, int status) {
@@ -55,6 +57,21 @@ int file_read_if_there(const char *name, size_t most, struct bytes *into, int *t
 int file_read(const char *name, size_t most, struct bytes *into) {
     FILE *f = fopen(name, "rb");
     return f == NULL ? say_fault(name, "it cannot be opened", CANNOT_OPEN) : read_open(f, name, most, into);
+}
+
+/* What is told of a file. The headers may be another processor's (tools/headers), whose struct is shorter than what the C library
+   writes; device and inode stand first in both. */
+union look {
+    struct stat told;
+    char room[512];
+};
+
+int file_is(const char *one, const char *other) {
+    union look a, b;
+    if (stat(one, &a.told) != 0 || stat(other, &b.told) != 0) {
+        return 0;
+    }
+    return a.told.st_dev == b.told.st_dev && a.told.st_ino == b.told.st_ino;
 }
 
 char *name_with(const char *name, const char *ending) {

@@ -10,6 +10,9 @@ int file_read(const char *name, size_t most, struct bytes *into);
 /* The same of a file that may be absent: *there is then 0, which is no fault. */
 int file_read_if_there(const char *name, size_t most, struct bytes *into, int *there);
 
+/* Whether two names, however they are spelled, are those of one file that is there. */
+int file_is(const char *one, const char *other);
+
 /* The name with an ending behind it, in memory to be freed. */
 char *name_with(const char *name, const char *ending);
 

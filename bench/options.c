@@ -183,14 +183,14 @@ static int all_of_use(const struct options *o, int count, char **words) {
     return ENDED_WELL;
 }
 
-/* A file that a talk reads is none of those that it writes, or saving the book would destroy it. Names are compared as they
-   are spelled: two spellings of one file are not found. */
+/* A file that a talk reads is none of those that it writes, or saving the book would destroy it. It is the same file if the name
+   is, or if device and inode are: `./book` is found to be `book`, and a link to it too. */
 static int not_written(const char *word, const char *book) {
     static const char *const endings[] = {"", ".new", ".knowledge", ".knowledge.new"};
     int same = 0;
     for (size_t i = 0; word != NULL && i < sizeof endings / sizeof endings[0]; i++) {
         char *name = name_with(book, endings[i]);
-        same = same || strcmp(word, name) == 0;
+        same = same || strcmp(word, name) == 0 || file_is(word, name);
         free(name);
     }
     return same ? wrong("it is to be read, and is a file that the talk writes: the book or one beside it", word) : ENDED_WELL;

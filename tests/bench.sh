@@ -1,6 +1,7 @@
 #!/bin/sh
-# Tests of the bench program: whole talks, talks that are cut, books and knowledges that do not belong together, every exit
-# status but 12, and what it prints of dumps, damaged requests and stored cases. The archive is made if it is not there.
+# Tests of the bench program: whole talks, talks that are cut, books and knowledges that do not belong together, each step of a
+# save failed and cut, every exit status but 12, and what it prints of dumps, damaged requests and stored cases. The archive is
+# made if it is not there.
 set -u
 cd "$(dirname "$0")/.." || exit 1
 
@@ -262,6 +263,26 @@ for ending in '' .new .knowledge .knowledge.new; do
         "$room/three" "$book"
     cmp "$whole" "$book$ending" || fail "a store that is named book$ending is changed"
 done
+# Nor is it one of them by another name: by a path of another spelling, or by a link. Another file with the same bytes is none.
+for ending in '' .new .knowledge .knowledge.new; do
+    fresh
+    cp "$whole" "$book$ending"
+    fault 2 "$room/f/../f/./book$ending: it is to be read, and is a file that the talk writes" "book$ending " \
+        "$room/f/../f/./book$ending" "$book"
+    fault 2 "$book$ending: it is to be read, and is a file that the talk writes" "book$ending " --filters "$book$ending" \
+        "$room/three" "$room/f/./book"
+    cmp "$whole" "$book$ending" || fail "a store that is book$ending by another name is changed"
+done
+for link in 'ln -s' ln; do
+    fresh
+    cp "$whole" "$book"
+    $link "$book" "$room/f/link"
+    fault 2 "$room/f/link: it is to be read, and is a file that the talk writes" 'book link ' "$room/f/link" "$book"
+    fault 2 "$book: it is to be read, and is a file that the talk writes" 'book link ' "$book" "$room/f/link"
+done
+fresh
+cp "$whole" "$book"
+talk 1 0 "$whole" "$whole" "$book"
 fresh
 fault 9 'it cannot be opened to be written: No such file' '* ' "$whole" "$room/f/absent/book"
 
@@ -314,6 +335,90 @@ rmdir "$book.knowledge.new"
 rm "$book.knowledge"
 mkdir "$book.knowledge"
 fault 3 "$book.knowledge: it cannot be read" 'book book.knowledge ' "$whole" "$book"
+
+# ---- saving, step by step: the order of the steps, and what is left if one fails or the power goes before it
+parts=$(printf '%s\n' bench/*.c | grep -v -e files.c)
+# shellcheck disable=SC2086
+sh tools/cc "$room/failing" tests/failing_files.c $parts "$archive" || fail 'tests/failing_files.c is not compiled and linked'
+program=$room/failing
+cat >"$room/order" <<'END'
+1 unlink book.new
+2 make book.new
+3 write book.new
+4 flush book.new
+5 to disk book.new
+6 close book.new
+7 unlink book.knowledge.new
+8 make book.knowledge.new
+9 write book.knowledge.new
+10 flush book.knowledge.new
+11 to disk book.knowledge.new
+12 close book.knowledge.new
+13 rename book
+14 to disk folder
+15 rename book.knowledge
+16 to disk folder
+END
+put "$room/early" "$room/early.knowledge"
+export STEPS="$room/steps"
+talk 1 7 "$whole" "$whole" "$book"
+unset STEPS
+cmp "$room/steps" "$room/order" || { cat "$room/steps"; fail 'a book is saved by other steps, or in another order'; }
+cp "$book.knowledge" "$room/whole.knowledge"
+
+# Whether book and knowledge are these.
+are() { # STEP BOOK KNOWLEDGE
+    cmp "$2" "$book" || fail "after $1 the book is not $2"
+    cmp "$3" "$book.knowledge" || fail "after $1 the knowledge is not $3"
+}
+# A step that fails: its status and its message, nothing aside is left, and the next talk, with a disk that is whole, brings the rest.
+step_fails() { # STEP STATUS MESSAGE BOOK KNOWLEDGE NEW
+    put "$room/early" "$room/early.knowledge"
+    export FAIL_AT="$1"
+    if [ "$2" = 0 ]; then
+        bench 0 "$3" "$whole" "$book"
+    else
+        fault "$2" "$3: Input/output error" 'book book.knowledge ' "$whole" "$book"
+    fi
+    unset FAIL_AT
+    are "step $1, which failed," "$4" "$5"
+    talk 1 "$6" "$whole" "$whole" "$book"
+    are "step $1 and the next talk" "$whole" "$room/whole.knowledge"
+}
+for step in 1 2 3 4 5 6 7 8 9 10 11 12 13; do
+    case $step in
+    1 | 2) message="$book.new: it cannot be opened to be written" ;;
+    7 | 8) message="$book.knowledge.new: it cannot be opened to be written" ;;
+    13) message="$book: the new file cannot take this name" ;;
+    *) message="$(sed -n "${step}s|.* |$room/f/|p" "$room/order"): it cannot be written" ;;
+    esac
+    step_fails $step 9 "$message" "$room/early" "$room/early.knowledge" 7
+done
+step_fails 14 0 'new 7; book: elements 11, bytes 1756,' "$whole" "$room/whole.knowledge" 0 # a folder may refuse
+step_fails 15 9 "$book.knowledge: the new file cannot take this name" "$whole" "$room/early.knowledge" 0
+step_fails 16 0 'new 7; book: elements 11, bytes 1756,' "$whole" "$room/whole.knowledge" 0
+
+# The power goes before a step: the pair is the old one, the new one, or the new book with a knowledge that does not count.
+for step in 1 2 3 4 5 6 7 8 9 10 11 12 13 14 15 16; do
+    put "$room/early" "$room/early.knowledge"
+    export CUT_AT=$step
+    bench 99 'the power goes' "$whole" "$book"
+    unset CUT_AT
+    if [ $step -le 13 ]; then
+        are "a cut before step $step" "$room/early" "$room/early.knowledge"
+        talk 1 7 "$whole" "$whole" "$book"
+    elif [ $step -le 15 ]; then
+        are "a cut before step $step" "$whole" "$room/early.knowledge"
+        talk 1 0 "$whole" "$whole" "$book"
+        grep -q 'is passed over: everything comes again' "$room/out" || fail "after a cut before step $step the old knowledge counts"
+    else
+        are "a cut before step $step" "$whole" "$room/whole.knowledge"
+        talk 1 0 "$whole" "$whole" "$book"
+    fi
+    are "a cut before step $step and the next talk" "$whole" "$room/whole.knowledge"
+    [ "$(cd "$room/f" && printf '%s ' *)" = 'book book.knowledge ' ] || fail "a cut before step $step leaves a file for good"
+done
+program=$room/bench
 
 # A book that is full stays as it is.
 elements 1 288 300 >"$room/one"
@@ -398,7 +503,7 @@ fault 3 "$room/absent: it cannot be opened" '* ' --replay "$room/cases"
 printf 'store=three request=large out=10\n' >"$room/cases"
 bench 0 'hub_answer: 1, input 1, place 16777216, length 0' --replay "$room/cases"
 
-printf 'tests/bench.sh: %s talks, %s faults, %s texts and %s replayed answers as they should be\n' \
-    "$talks" "$faults" "$printed" "$(wc -l <tests/answers.in | tr -d ' ')"
-# Talks, faults, texts and replayed answers are a test each.
-printf '4 passed, 0 failed\n'
+printf 'tests/bench.sh: %s talks, %s faults, %s steps of a save, %s texts and %s replayed answers as they should be\n' \
+    "$talks" "$faults" "$(wc -l <"$room/order" | tr -d ' ')" "$printed" "$(wc -l <tests/answers.in | tr -d ' ')"
+# Talks, faults, the steps of a save, texts and replayed answers are a test each.
+printf '5 passed, 0 failed\n'
