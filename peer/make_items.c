@@ -17,6 +17,10 @@ int spoils(struct maker *m) {
     return m->decisions++ == m->spoiled;
 }
 
+static void any_byte(struct luck *l, struct text *t) {
+    text_byte(t, (unsigned)luck_below(l, 256));
+}
+
 /* ---- numbers and names */
 
 static void compact_of(struct text *t, uint64_t x, unsigned n) {
@@ -64,7 +68,7 @@ static void wrong_compact(struct maker *m, struct text *t, uint64_t x) {
         text_byte(t, 1u << luck_below(&m->wrong, 8));
         break;
     case 5:
-        text_byte(t, (unsigned)luck_below(&m->wrong, 256));
+        any_byte(&m->wrong, t);
         break;
     default:
         break;
@@ -108,7 +112,7 @@ void wrong_extended(struct maker *m, struct text *t, const struct made_name *id)
         extended_of(t, id, (unsigned)luck_below(&m->wrong, 4));
         break;
     case 3:
-        text_byte(t, (unsigned)luck_below(&m->wrong, 256));
+        any_byte(&m->wrong, t);
         text_add(t, id->guid, (size_t)luck_below(&m->wrong, 17));
         break;
     default:
@@ -140,7 +144,7 @@ void make_serial(struct maker *m, struct text *t, const struct made_name *serial
         text_byte(t, 0);
         break;
     case 1:
-        text_byte(t, (unsigned)luck_below(&m->wrong, 256));
+        any_byte(&m->wrong, t);
         text_add(t, serial->guid, 16);
         text_little(t, serial->number, 8);
         break;
@@ -223,7 +227,7 @@ static void no_start(struct luck *l, struct text *t, unsigned type) {
         plain_end(t, some_type(l));
         break;
     case 2:
-        text_byte(t, (unsigned)luck_below(l, 256));
+        any_byte(l, t);
         break;
     default:
         break;
@@ -291,7 +295,7 @@ static void wrong_end(struct maker *m, struct text *t, unsigned type) {
         any_start(&m->wrong, t, some_type(&m->wrong), (unsigned)luck_below(&m->wrong, 2), luck_below(&m->wrong, 4));
         break;
     case 5:
-        text_byte(t, (unsigned)luck_below(&m->wrong, 256));
+        any_byte(&m->wrong, t);
         break;
     default:
         break;
@@ -314,7 +318,7 @@ void make_object(struct maker *m, struct text *t, unsigned type, unsigned compou
     size_t length = data->length;
     if (spoils(m)) {
         if (luck_one_in(&m->wrong, 2) || data->length == 0) {
-            text_byte(data, (unsigned)luck_below(&m->wrong, 256));
+            any_byte(&m->wrong, data);
         } else {
             data->length--;
         }
@@ -348,7 +352,7 @@ void part_made(struct maker *m, struct text *t, size_t from) {
         any_start(&m->wrong, t, some_type(&m->wrong), 0, 0);
         break;
     default:
-        text_byte(t, (unsigned)luck_below(&m->wrong, 256));
+        any_byte(&m->wrong, t);
         break;
     }
     text_free(&again);

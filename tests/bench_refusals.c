@@ -1,10 +1,11 @@
 /* Every refusal that hub_ask, hub_read and hub_element can give, provoked: its number, the input, the place and the needed length,
    with the output left alone. The places are counted by hand from the layouts of document 01; a comment beside a group says
-   where its parts stand. Lengths and counts at their limits are tried in bench_limits.c and counts.c. The exit status is 1 if
-   a line is not ok. */
+   where its parts stand. The store's faults stand in faults.h. Lengths and counts at their limits are tried in bench_limits.c and
+   counts.c. The exit status is 1 if a line is not ok. */
 #include "../include/hub.h"
 #include "build.h"
 #include "damage.h"
+#include "faults.h"
 #include "lent.h"
 #include "limits.h"
 #include "told.h"
@@ -16,25 +17,17 @@
 /* A bit for each number that was given as it should be, by each call. */
 static unsigned asked = 0, was_read = 0, found_in_store = 0, found_in_answer = 0;
 
-static unsigned bit(int good, uint64_t number) {
-    return good ? 1u << number : 0;
-}
-
 /* ---- requests written */
 
 static void filters_refused(const char *what, struct text filters, uint64_t number, uint64_t place) {
     struct text none = {0};
-    int good = ask_refused(filters, none, 4096, refusal(number, 0, place));
-    asked |= bit(good, number);
-    beside(what, good);
+    provoked(&asked, what, number, ask_refused(filters, none, 4096, refusal(number, 0, place)));
     free(filters.at);
 }
 
 static void knowledge_refused(const char *what, struct text knowledge, uint64_t number, uint64_t place) {
     struct text none = {0};
-    int good = ask_refused(none, knowledge, 4096, refusal(number, 1, place));
-    asked |= bit(good, number);
-    beside(what, good);
+    provoked(&asked, what, number, ask_refused(none, knowledge, 4096, refusal(number, 1, place)));
     free(knowledge.at);
 }
 
@@ -73,8 +66,7 @@ static void of_knowledge(void) {
     filters_refused("filters of 16,777,217 bytes", exact(long_input), HUB_INPUT_TOO_LONG, LONGEST);
     knowledge_refused("a knowledge of 16,777,217 bytes", long_input, HUB_INPUT_TOO_LONG, LONGEST);
     int good = ask_refused(none, knowledge, 45 + 47, short_by_one) && ask_refused(none, knowledge, 0, short_by_one);
-    asked |= bit(good, HUB_OUTPUT_TOO_SHORT);
-    beside("an output one byte too short, and none", good);
+    provoked(&asked, "an output one byte too short, and none", HUB_OUTPUT_TOO_SHORT, good);
     free(knowledge.at);
 }
 
@@ -82,12 +74,10 @@ static void of_knowledge(void) {
 
 /* Both calls that read an answer refuse it alike, hub_element before it looks at the position. */
 static void answer_read_refused(const char *what, struct text answer, uint64_t number, uint64_t place) {
-    int good = read_refused(answer, refusal(number, 0, place));
-    int alike = finds(HUB_IN_ANSWER, answer, 0, refusal(number, 0, place));
-    alike = alike && finds(HUB_IN_ANSWER, answer, UINT64_MAX, refusal(number, 0, place));
-    was_read |= bit(good, number);
-    found_in_answer |= bit(alike, number);
-    beside(what, good && alike);
+    struct result r = refusal(number, 0, place);
+    provoked(&was_read, what, number, read_refused(answer, r));
+    provoked(&found_in_answer, what, number,
+             finds(HUB_IN_ANSWER, answer, 0, r) && finds(HUB_IN_ANSWER, answer, UINT64_MAX, r));
     free(answer.at);
 }
 
@@ -139,29 +129,9 @@ static void of_its_elements(void) {
 /* ---- elements of a store */
 
 static void store_found_refused(const char *what, struct text store, uint64_t number, uint64_t place) {
-    int good = finds(HUB_IN_STORE, store, 0, refusal(number, 0, place));
-    good = good && finds(HUB_IN_STORE, store, UINT64_MAX, refusal(number, 0, place));
-    found_in_store |= bit(good, number);
-    beside(what, good);
+    struct result r = refusal(number, 0, place);
+    provoked(&found_in_store, what, number, finds(HUB_IN_STORE, store, 0, r) && finds(HUB_IN_STORE, store, UINT64_MAX, r));
     free(store.at);
-}
-
-/* As in refusals.c. */
-static void of_the_store(void) {
-    struct text store = store_of(7, 1), two = store_of(7, 2), nested = {0}, long_input = {0};
-    add_nested(&nested, 15);
-    add_like(&long_input, LONGEST + 1, 0x0C);
-    store_found_refused("a store of 16,777,217 bytes", long_input, HUB_INPUT_TOO_LONG, LONGEST);
-    store_found_refused("a store without its last end", cut(store, 49), HUB_RUNS_PAST, 49);
-    store_found_refused("an id in no form", put(store, 5, 0x01), HUB_NO_FORM, 5);
-    store_found_refused("an element ended by another's end", put(store, 48, 0x09), HUB_WRONG_END, 48);
-    store_found_refused("a byte behind the package", put_behind(store, 0x00), HUB_WRONG_LAYOUT, 50);
-    store_found_refused("17 open", with(store, 48, nested), HUB_TOO_DEEP, 48 + 2 * 14);
-    store_found_refused("257 elements", many_store(257, 0), HUB_TOO_MANY, 3 + 256 * 47);
-    store_found_refused("a null id", null_id(store, 3), HUB_NULL_NAME, 5);
-    store_found_refused("an id that was seen before", put(two, 51, 0x0C), HUB_SEEN_BEFORE, 51);
-    free(store.at);
-    free(two.at);
 }
 
 /* The last position, and the one behind it. */
@@ -179,13 +149,13 @@ static void positions(void) {
 }
 
 int main(void) {
-    unsigned all = 0x7FFEu & ~(1u << 13), no_output = all & ~(1u << HUB_OUTPUT_TOO_SHORT);
+    unsigned all = EVERY_NUMBER, no_output = all & ~(1u << HUB_OUTPUT_TOO_SHORT);
     unsigned no_names = 1u << HUB_NULL_NAME | 1u << HUB_SEEN_BEFORE;
     of_filters();
     of_knowledge();
     of_the_answer();
     of_its_elements();
-    of_the_store();
+    each_store_fault(store_found_refused);
     positions();
     beside("hub_ask gave each of its numbers", asked == (all & ~no_names & ~(1u << HUB_WRONG_VERSION)));
     beside("hub_read gave each of its numbers", was_read == no_output);

@@ -2,19 +2,10 @@
    be compiled; linked and run it looks at what the header itself says. The exit status is 1 if a line is not ok. */
 #include "../include/hub.h"
 #include "../include/hub.h"
+#include "header_twin.h"
 
 #include <stdio.h>
 #include <string.h>
-
-#ifdef __cplusplus
-extern "C" {
-#endif
-const char *twin_text(uint64_t number);
-uint64_t twin_number(const uint8_t *report);
-uint64_t twin_call(void);
-#ifdef __cplusplus
-}
-#endif
 
 /* The limits are constants: they can be the lengths of arrays, and the preprocessor can compare them. */
 static uint8_t report[HUB_READ_REPORT_BYTES];

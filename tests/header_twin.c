@@ -1,15 +1,5 @@
 /* The other file of header.c: the same header in the same program. */
-#include "../include/hub.h"
-
-#ifdef __cplusplus
-extern "C" {
-#endif
-const char *twin_text(uint64_t number);
-uint64_t twin_number(const uint8_t *report);
-uint64_t twin_call(void);
-#ifdef __cplusplus
-}
-#endif
+#include "header_twin.h"
 
 const char *twin_text(uint64_t number) {
     return hub_refusal_text(number);

@@ -1,9 +1,11 @@
 /* Every refusal of hub_answer, provoked: its number, the input, the place and the needed length, with the output left alone. The
-   places are counted by hand from the layouts of document 01; a comment beside a group says where its parts stand. Lengths and
-   counts at their limits are tried in limits.c and counts.c. The exit status is 1 if a line is not ok. */
+   places are counted by hand from the layouts of document 01; a comment beside a group says where its parts stand. The store's
+   faults stand in faults.h. Lengths and counts at their limits are tried in limits.c and counts.c. The exit status is 1 if a line
+   is not ok. */
 #include "../include/hub.h"
 #include "build.h"
 #include "damage.h"
+#include "faults.h"
 #include "lent.h"
 #include "limits.h"
 #include "told.h"
@@ -17,9 +19,7 @@ static unsigned seen = 0; /* a bit for each number that was given as it should b
 /* The store is at fault, and there is room for any answer. */
 static void store_refused(const char *what, struct text store, uint64_t number, uint64_t place) {
     struct text request = plain_request();
-    int good = answer_refused(store, request, 4096, refusal(number, 0, place));
-    seen |= good ? 1u << number : 0;
-    beside(what, good);
+    provoked(&seen, what, number, answer_refused(store, request, 4096, refusal(number, 0, place)));
     free(request.at);
     free(store.at);
 }
@@ -27,31 +27,9 @@ static void store_refused(const char *what, struct text store, uint64_t number, 
 /* The request is at fault, and the store is not. */
 static void request_refused(const char *what, struct text request, uint64_t number, uint64_t place) {
     struct text store = store_of(7, 1);
-    int good = answer_refused(store, request, 4096, refusal(number, 1, place));
-    seen |= good ? 1u << number : 0;
-    beside(what, good);
+    provoked(&seen, what, number, answer_refused(store, request, 4096, refusal(number, 1, place)));
     free(store.at);
     free(request.at);
-}
-
-/* One element: package 0, its byte 2, element 3, id 5, serial number 22, type 47, ends 48 and 49; 50 bytes. */
-static void of_the_store(void) {
-    struct text store = store_of(7, 1), two = store_of(7, 2);
-    store_refused("a store without its last end", cut(store, 49), HUB_RUNS_PAST, 49);
-    store_refused("an element cut within its id", cut(store, 10), HUB_RUNS_PAST, 5);
-    store_refused("an id in no form", put(store, 5, 0x01), HUB_NO_FORM, 5);
-    store_refused("a serial number in no form", put(store, 22, 0x01), HUB_NO_FORM, 22);
-    store_refused("a type outside its form's range", put(store, 47, 0x01), HUB_NO_FORM, 47);
-    store_refused("an end where nothing is open", put(store, 0, 0x55), HUB_WRONG_END, 0);
-    store_refused("an element ended by another's end", put(store, 48, 0x09), HUB_WRONG_END, 48);
-    store_refused("an element in place of the package", put(store, 0, 0x0C), HUB_WRONG_LAYOUT, 0);
-    store_refused("a byte behind the package", put_behind(store, 0x00), HUB_WRONG_LAYOUT, 50);
-    store_refused("an element with a null id", null_id(store, 3), HUB_NULL_NAME, 5);
-    store_refused("an element with a null serial number", null_serial(store, 3), HUB_NULL_NAME, 22);
-    store_refused("an id that was seen before", put(two, 51, 0x0C), HUB_SEEN_BEFORE, 51);
-    store_refused("a serial number that was seen before", put(two, 85, 7), HUB_SEEN_BEFORE, 68);
-    free(store.at);
-    free(two.at);
 }
 
 /* Version 0 and 2, signature 4, request 12, user agent 16, its end 20, sub-request 22, its type 27, 0x51 29, its byte 33,
@@ -89,28 +67,16 @@ static void of_its_parts(void) {
     free(request.at);
 }
 
-/* An element of 46 bytes whose objects begin at its byte 45, and a user agent whose objects begin at 20. */
-static void depth(void) {
-    struct text store = store_of(7, 1), request = plain_request(), nested = {0};
-    add_nested(&nested, 15);
-    store_refused("17 open in a store", with(store, 48, exact(nested)), HUB_TOO_DEEP, 48 + 2 * 14);
-    request_refused("17 open in a request", with(request, 20, exact(nested)), HUB_TOO_DEEP, 20 + 2 * 14);
-    free(store.at);
-    free(request.at);
-    free(nested.at);
-}
-
-/* The rest: what falls on no item, and inputs that are too long. */
+/* The rest: a user agent, whose objects begin at 20, with too many inside; what falls on no item; and a request that is too long. */
 static void others(void) {
-    struct text store = store_of(7, 1), request = plain_request(), long_input = {0};
+    struct text store = store_of(7, 1), request = plain_request(), nested = {0}, long_input = {0};
     struct result short_by_one = {HUB_OUTPUT_TOO_SHORT, 0, 0, 132};
+    add_nested(&nested, 15);
+    request_refused("17 open in a request", with(request, 20, nested), HUB_TOO_DEEP, 20 + 2 * 14);
     add_like(&long_input, LONGEST + 1, 0x0C);
-    store_refused("a store of 16,777,217 bytes", exact(long_input), HUB_INPUT_TOO_LONG, LONGEST);
     request_refused("a request of 16,777,217 bytes", long_input, HUB_INPUT_TOO_LONG, LONGEST);
     int good = answer_refused(store, request, 131, short_by_one) && answer_refused(store, request, 0, short_by_one);
-    seen |= good ? 1u << HUB_OUTPUT_TOO_SHORT : 0;
-    beside("an output one byte too short, and none", good);
-    store_refused("257 elements", many_store(257, 0), HUB_TOO_MANY, 3 + 256 * 47);
+    provoked(&seen, "an output one byte too short, and none", HUB_OUTPUT_TOO_SHORT, good);
     free(store.at);
     free(request.at);
 }
@@ -130,12 +96,11 @@ static void texts(void) {
 }
 
 int main(void) {
-    of_the_store();
+    each_store_fault(store_refused);
     of_the_request();
     of_its_parts();
-    depth();
     others();
     texts();
-    beside("every number from 1 to 14 but 13 was given", seen == (0x7FFEu & ~(1u << 13)));
+    beside("every number from 1 to 14 but 13 was given", seen == EVERY_NUMBER);
     return ended();
 }
