@@ -46,8 +46,8 @@ run: target/bench
 	@mkdir -p target/run
 	@sh tools/run target/bench --limit 400 --answer-bytes 200 bench/sample/book.store target/run/book
 
-# Looks into a fault from the field: CASE is a file of cases, as bench/sample/sample.cases is one. A file that begins with a line of
-# the program cases is run by library and peer.
+# Looks into a fault from the field: CASE is a file of cases, as bench/sample/sample.cases is one. A file in which every line is one
+# of the program cases is run by library and peer.
 replay: target/bench
 	@test -n '$(CASE)' || { echo 'make replay CASE=FILE: a file of cases, such as bench/sample/sample.cases'; exit 2; }
 	@if sh peer/replay.sh --knows '$(CASE)' 2>/dev/null; then sh peer/replay.sh '$(CASE)'; else sh tools/run target/bench --replay '$(CASE)'; fi

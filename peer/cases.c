@@ -187,7 +187,7 @@ int read_case(char *line, struct one_case *c) {
     c->room = 0;
     c->kind = n > 0 && strcmp(w[0], "received") == 0;
     text_clear(&c->second);
-    if (n == 6 && strcmp(w[0], "answer") == 0) {
+    if ((n == 4 || n == 6) && strcmp(w[0], "answer") == 0) { /* the exported call has no tables: their lengths may be left out */
         c->call = ANSWER;
         c->room = (size_t)strtoull(w[3], NULL, 10);
         return read_hex(w[1], &c->first) && read_hex(w[2], &c->second);

@@ -67,6 +67,17 @@ compare bench "$room/bench.in" "$room/bench.out"
 printf 'tests/peer.sh: %s stored cases by the peer\n' "$stored"
 passed=$((passed + 1))
 
+# ---- cases from the field: make replay has them run by both, if each line is one that the peer knows
+request=$(awk '$1 == "answer" && NF == 6 { print $3; exit }' crates/cases/stdin)
+printf 'answer ac020055 %s 4096\nanswer ac020055 %s 4096 1536 2048\nread 00\n' "$request" "$request" >"$room/field"
+sh peer/replay.sh "$room/field" >"$room/log" 2>&1 || { cat "$room/log"; fail 'peer/replay.sh does not run stored lines'; }
+[ "$(grep -c '^library and peer agree' "$room/log")" = 3 ] || { cat "$room/log"; fail 'peer/replay.sh does not come to its end'; }
+for line in 'store=a request=b out=1' '# words' ''; do
+    { cat "$room/field" && printf '%s\n' "$line"; } >"$room/mixed"
+    ! sh peer/replay.sh --knows "$room/mixed" 2>/dev/null || fail "the peer is to run a file with the line '$line'"
+done
+passed=$((passed + 1))
+
 # ---- generated cases and talks, by both
 # shellcheck disable=SC2086
 compile compare $peer_core $peer_compare "$archive"
