@@ -24,7 +24,7 @@ $(archive_file): $(sources)
 	@rt staticlib hub
 	@touch $@
 
-# On x86-64 it is one line: cc -shared -o libhub.so -Wl,--whole-archive libhub.a -Wl,--no-whole-archive
+# On x86-64 it is one line of cc, which README.md has.
 shared: $(archive_file)
 	@sh tools/shared target/staticlib/libhub.so $(archive_file)
 

@@ -150,6 +150,25 @@ before=$(cd "$room/f" && ls -i)
 talk 1 0 $sample/book.store $sample/book.store "$book"
 [ "$before" = "$(cd "$room/f" && ls -i)" ] || fail 'a talk that brings nothing writes the book anew'
 
+# ---- the umask decides the modes of what is saved, whatever modes were there before
+modes() { # UMASK MODE NEW OPTIONS..
+    mask=$1 mode=$2 new=$3 before=$(umask)
+    shift 3
+    umask "$mask"
+    bench 0 "new $new;" "$@" $sample/book.store "$book"
+    umask "$before"
+    for file in "$book" "$book.knowledge"; do
+        got=$(ls -l "$file" | cut -c 1-10)
+        [ "$got" = "$mode" ] || fail "with the umask $mask $file has the mode $got, not $mode"
+    done
+    talks=$((talks + 1))
+}
+fresh
+modes 077 -rw------- 4 --limit 0 --stop-after 4
+chmod 600 "$book" "$book.knowledge"
+modes 022 -rw-r--r-- 1 --limit 0 --stop-after 1
+modes 027 -rw-r----- 6
+
 # ---- a talk that is stopped goes on where the book stands
 fresh
 bench 0 'stopped: answers 4, refused for room 0, elements 4' --limit 0 --stop-after 4 $sample/book.store "$book"

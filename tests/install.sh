@@ -1,7 +1,7 @@
 #!/bin/sh
 # make install, make uninstall and make shared: what is installed into a folder of its own has the right files and modes, hub.pc
 # tells how to compile with it, a program is compiled with nothing else and runs, and after make uninstall no file is left. The
-# shared library is made and opened. The last line is 'N passed, 0 failed'.
+# shared library is made and opened, and made by the line that README.md has. The last line is 'N passed, 0 failed'.
 set -u
 cd "$(dirname "$0")/.." || exit 1
 passed=0
@@ -65,6 +65,21 @@ sh tools/cc "$room/small" "$room/small.c" "-I$room/root/opt/hub/include" "-L$roo
     fail 'a program is not compiled and linked with what is installed'
 said=$(sh tools/run "$room/small") || fail 'that program does not run'
 [ "$said" = "$version: the output is too short, 45 bytes are needed" ] || fail "that program says '$said'"
+passed=$((passed + 1))
+
+# ---- README.md's line for a shared library, beside the archive that is installed; only on x86-64 can cc link it
+line=$(sed -n 's/^    \(cc -shared .*\)$/\1/p' README.md)
+[ -n "$line" ] || fail 'README.md has no line for a shared library'
+if [ "$(uname -m)" = x86_64 ] && command -v cc >/dev/null 2>&1; then
+    mkdir "$room/beside" && cp "$room/root/opt/hub/lib/libhub.a" "$room/beside" || fail 'there is no room for a copy of the archive'
+    (cd "$room/beside" && eval "$line") || fail 'the line for a shared library in README.md does not make one'
+    cc "-I$room/root/opt/hub/include" -o "$room/beside/small" "$room/small.c" "$room/beside/libhub.so" ||
+        fail 'a program is not linked with the shared library'
+    said=$(LD_LIBRARY_PATH="$room/beside" "$room/beside/small") || fail 'a program does not run with the shared library'
+    [ "$said" = "$version: the output is too short, 45 bytes are needed" ] || fail "with the shared library a program says '$said'"
+else
+    printf 'tests/install.sh: cc does not link for x86-64 here, so the line for a shared library is not run\n'
+fi
 passed=$((passed + 1))
 
 # ---- and nothing is left
