@@ -6,13 +6,12 @@ use mathlib.Core.Bool.{Bool, true, false}
 use mathlib.Core.List.{List, [], _∷_, _++_, map, append-assoc, map-append, append-nil}
 use Prim.Native.Nat.{ℕ, zero, suc, _+_, _-_, _^_, _≤_, _<_}
 use native.Mathlib.Omega.{arith}
-use lib.ListN.{length, take, drop, getD, length-append}
+use lib.ListN.{length, drop, getD, length-append}
 use lib.Seq.{take-at, drop-at, take-append-seam}
 use borrow.Author.Tests.{le-ltb}
 use Rattle.laws.specs.Bytes.{bytes}
 use Rattle.laws.specs.Once.{seen}
 use Rattle.laws.proofs.Parts.{part-length}
-use Rattle.numbers.specs.Refusals.{faultAt}
 use Rattle.numbers.specs.Compact.{compactBytes}
 use Rattle.numbers.specs.ExtendedGuid.{extendedGuidBytes, ExtendedGuidFits}
 use Rattle.numbers.specs.declared.extended_guid.ExtendedGuid.{ExtendedGuid}
@@ -32,7 +31,6 @@ use Rattle.store.specs.Element.{sameKey, idsIn, serialsIn, elementAt}
 use Rattle.store.specs.KnowledgeWritten.{knowledgeBytes}
 use Rattle.store.specs.Store.{Walk, walked, packageStart}
 use Rattle.store.specs.Written.{packageFront}
-use Rattle.store.specs.declared.accessor.Found.the-variants as found
 use Rattle.store.specs.declared.element.Key.{Key}
 use Rattle.store.specs.declared.element.Element.{Element}
 use Rattle.store.specs.declared.element.ReadElement.the-variants.{Is}
@@ -45,10 +43,9 @@ use Rattle.request.specs.Message.{versions}
 use Rattle.pages.specs.Tables.{answerFront, answerMiddle}
 use Rattle.pages.specs.Written.{versionBytes, answerSignature, responseBytes, storedBytes, elementsBytes, subResponseData, subResponseBytes, partialByte, changesData, changesBytes, endsBytes, answerBytes}
 use Rattle.pages.proofs.Lengths.{answer-parts, length-front, length-back, length-middle, length-sub-data, extended-most, length-changes-data}
-use Rattle.client.specs.Back.{StandsIn, placedAt, setDown}
+use Rattle.client.specs.Back.{StandsIn, placedAt, setDown, knowledgePlace, ReadsBack}
 use Rattle.client.specs.Read.{longestAnswer, statusByte, responseFields, responseStart, packageIn, elementsStart, subResponseFields, subResponse, indexField, changesFields, changesStart, changes, idIn, knowledgeIn, endsOf, markAt, knowledgeEnd, markOf, receivedFrom, restOf, packageEnd, answerEnd, answerOn, answerIn}
 use Rattle.client.specs.Accessor.{receivedAt, receivedBytes}
-use Rattle.client.specs.declared.answer.ReadAnswer.the-variants as answer
 
 -- ---- the elements, set down one behind the other
 
@@ -255,37 +252,6 @@ ends-read w at u h =
     rw (reads-ends u .here w at [] h′) (finish-written w (at + length endsBytes) 0 (behind w at endsBytes [] h′))
 
 -- ---- the whole
-
--- where the knowledge of an answer stands: behind the front, the elements, and what follows them
-abbrev pub knowledgePlace : List ℕ → ℕ → ExtendedGuid → List Element → Bool → ℕ
-knowledgePlace s id index page partial = 20 + length (elementsBytes s page) + length (answerMiddle id index partial)
-
--- w reads back as an answer with these parts, whose elements stand in s
-pub record ReadsBack (s : List ℕ) (id : ℕ) (index : ExtendedGuid) (page : List Element) (partial : Bool) (l : List Range) (w : List ℕ) : Type 0 where
-  -- no refusal, and what was meant
-  pub read : answerIn w
-      ≡ answer.Is
-      (record {
-        id = id;
-        partial = partial;
-        index = index;
-        elements = 20;
-        count = length page;
-        knowledge = knowledgePlace s id index page partial;
-        length = length (knowledgeBytes l);
-      })
-  -- the page's elements, with their own lengths, types, ids and serial numbers
-  pub elements-are : packageIn w .elements ≡ setDown 20 page
-  -- and with their own bytes; at no further position stands one
-  pub bytes-are : (i : ℕ) (d : Element) → i < length page → receivedBytes w i ≡ storedBytes s (getD page i d)
-  pub no-more : (i : ℕ) → length page ≤ i → receivedAt w i ≡ found.Refused (faultAt 9 0)
-  -- the knowledge's own bytes, and the ranges that are read from them
-  pub knowledge-is : take (length (knowledgeBytes l)) (drop (knowledgePlace s id index page partial) w) ≡ knowledgeBytes l
-  pub ranges-are : knowledgeIn w (markAt w (packageEnd w)) .ranges ≡ l
-  -- which are a normal list that can be written again
-  pub normal : Normal l
-  pub fit : AllFit l
-  pub most : length l ≤ 512
 
 module _ (s : List ℕ) (id : ℕ) (index : ExtendedGuid) (page : List Element) (partial : Bool) (l : List Range) (w : List ℕ)
     (is : w ≡ answerBytes s id index page partial l) (stand : Each (StandsIn s) page) (ids : Fresh (λ x. x .id) [] page)

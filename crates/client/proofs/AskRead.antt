@@ -33,13 +33,13 @@ use Rattle.store.proofs.KnowledgeForward.{knowledge-end}
 use Rattle.store.proofs.KnowledgeCarry.{knowledge-carry}
 use Rattle.request.specs.Filter.{oneNumber, filtersFrom}
 use Rattle.request.specs.Meaning.{filtersRead}
-use Rattle.request.specs.Message.{versions, requestSignature, userAgent, subRequestFields, subRequest, queryChanges, argumentFields, arguments, constraint, knowledgePart, packagePart, identified, constrainedFrom, constrained, filtered, filtersOf, ended, requestKnowing, requestAnswer, requestIn}
-use Rattle.request.specs.declared.message.Request.the-variants as request
+use Rattle.request.specs.Message.{versions, requestSignature, userAgent, subRequestFields, subRequest, queryChanges, argumentFields, arguments, constraint, knowledgePart, packagePart, identified, constrainedFrom, constrained, filtered, ended, requestKnowing, requestAnswer, requestIn}
 use Rattle.request.proofs.Turns.{filters-end}
 use Rattle.request.proofs.FiltersCarry.{filters-between}
 use Rattle.pages.specs.Written.{versionBytes}
 use Rattle.client.specs.AskWritten.{userAgentBytes, subRequestData, subRequestBytes, queryBytes, argumentData, argumentBytes, constraintBytes, askFront, askEnds, askBytes}
 use Rattle.client.specs.Ask.{filtersGiven, knowledgeOf, knowledgeGiven}
+use Rattle.client.specs.Back.{ReadBack}
 use Rattle.client.proofs.AskLengths.{length-sub-data, length-arguments, no-constraint, a-constraint}
 use Rattle.client.proofs.AskGiven.{knowledge-whole, started, filters-whole}
 
@@ -255,12 +255,6 @@ module _ (id : ℕ) (fits : id < 2 ^ 64) where
         (reads-then (query-read id) (arguments-read 0) .here s (length naming) rest d ∙ ap (λ (n : ℕ). At n 0) (sym front-long)))
 
 -- ---- the whole
-
-pub record ReadBack (id limit : ℕ) (f k : List ℕ) (n : ℕ) (s t : List ℕ) : Type 0 where
-  -- the id, the limit, where the filters stand, how many they are, and how many ranges are known
-  pub answer : requestIn s t ≡ request.Asked id limit (length (askFront id) + length (constraintBytes limit)) n (length (knowledgeOf k .ranges))
-  pub filters : filtersOf s ≡ filtersRead n f (At 0 0)
-  pub known : requestKnowing s t .ranges ≡ knowledgeOf k .ranges
 
 module _ (id limit : ℕ) (f k : List ℕ) (p n q v : ℕ) (fits : id < 2 ^ 64) (limited : limit < 2 ^ 64) (filters : filtersGiven f ≡ At p n)
     (knows : knowledgeGiven k ≡ At q v) (s : List ℕ) (is : s ≡ askBytes id limit f k) (t : List ℕ) where

@@ -27,7 +27,7 @@ use Rattle.talk.proofs.Things.{each-first, each-kept, each-so}
 use Rattle.store.specs.Chain.{Chain, Fresh, Tiles}
 use Rattle.store.specs.Element.{sameKey, idsIn, serialsIn, elementAt}
 use Rattle.store.specs.KnowledgeWritten.{rangesBytes}
-use Rattle.store.specs.Store.{storeWalk}
+use Rattle.store.specs.Store.{storeWalk, Stands}
 use Rattle.store.specs.declared.element.Key.{Key}
 use Rattle.store.specs.declared.element.Element.{Element}
 use Rattle.store.specs.declared.element.ReadElement.the-variants.{Is}
@@ -36,7 +36,6 @@ use Rattle.store.proofs.ElementFits.{KeysFit, elements-fit, keys-fit, store-fro
 use Rattle.store.proofs.ElementWritten.{compact-most}
 use Rattle.store.proofs.Fields.{element-parts}
 use Rattle.store.proofs.Found.{store-most}
-use Rattle.store.proofs.Taken.{Stands}
 use Rattle.request.specs.Meaning.{Filter}
 use Rattle.request.specs.Message.{filtersOf, requestIn}
 use Rattle.request.specs.declared.message.Request.the-variants as request
@@ -45,13 +44,14 @@ use Rattle.pages.specs.Answer.{Ask, answered, pageRanges, pageBytes, pageMeasur
 use Rattle.pages.specs.Choice.{wantedIn, rangesWith, storedLength, storageIndex}
 use Rattle.pages.specs.Decision.{sendable}
 use Rattle.pages.specs.Tables.{wholeOf, fixedLength}
+use Rattle.pages.specs.Cases.{Asks, Sends}
 use Rattle.pages.proofs.Lengths.{AllWithin, extended-most, answer-length}
 use Rattle.pages.proofs.Pricing.{bytes-most, normal-with, fit-with}
-use Rattle.pages.proofs.Refusing.{Asks, Sends, call-sends, answered-asks}
+use Rattle.pages.proofs.Refusing.{call-sends, answered-asks}
 use Rattle.pages.proofs.Stops.{sendable-ranges}
-use Rattle.client.specs.Back.{StandsIn}
+use Rattle.client.specs.Back.{StandsIn, ReadsBack}
 use Rattle.client.specs.Read.{longestAnswer}
-use Rattle.client.proofs.AnswerBack.{ReadsBack, answer-back}
+use Rattle.client.proofs.AnswerBack.{answer-back}
 
 -- ---- the elements of a store
 

@@ -1,15 +1,14 @@
 -- What the call that writes a request has written reads as exactly what was handed in; and where that is the knowledge of an answer,
 -- the next request carries exactly the set that the answer told.
 -- Assumes nothing.
-use mathlib.Core.Path.{_≡_, refl, sym, ap, _∙_, subst}
-use mathlib.Core.List.{List, [], _++_}
+use mathlib.Core.Path.{_≡_, refl, sym, ap, _∙_}
+use mathlib.Core.List.{List, _++_}
 use Prim.Native.Nat.{ℕ, _^_, _≤_, _<_}
-use native.Mathlib.Omega.{arith}
 use lib.ListN.{length, take, drop}
 use lib.Seq.{take-at}
 use borrow.Author.Tests.{lt-ltb, le-ltb}
 use Rattle.laws.proofs.Cases.{by-lt, impossible}
-use Rattle.numbers.specs.Refusals.{longestInput, tooShort}
+use Rattle.numbers.specs.Refusals.{longestInput}
 use Rattle.numbers.specs.declared.refusal.Wrote.{Wrote}
 use Rattle.numbers.specs.declared.refusal.Wrote.the-variants as wrote
 use Rattle.numbers.proofs.OneAnswers.{wrote-telling}
@@ -18,15 +17,15 @@ use Rattle.objects.specs.declared.reading.Reading.the-variants.{At, Refused}
 use Rattle.store.specs.KnowledgeWritten.{knowledgeBytes}
 use Rattle.store.specs.declared.element.Element.{Element}
 use Rattle.talk.specs.declared.range.Range.{Range}
-use Rattle.request.specs.Meaning.{filtersRead}
-use Rattle.request.specs.Message.{filtersOf, requestKnowing}
+use Rattle.request.specs.Message.{requestKnowing}
 use Rattle.client.specs.AskWritten.{askBytes}
-use Rattle.client.specs.Ask.{filtersGiven, knowledgeOf, knowledgeGiven, writtenIn, judgedKnowledge, judgedFilters, askWrote, outputAfter, WritesRequest}
+use Rattle.client.specs.Ask.{filtersGiven, knowledgeGiven, writtenIn, judgedKnowledge, judgedFilters, askWrote, outputAfter, WritesRequest}
 use Rattle.client.specs.Read.{answerIn}
+use Rattle.client.specs.Back.{ReadBack}
 use Rattle.client.specs.declared.answer.Received.{Received}
 use Rattle.client.specs.declared.answer.ReadAnswer.{ReadAnswer}
 use Rattle.client.specs.declared.answer.ReadAnswer.the-variants as answer
-use Rattle.client.proofs.AskRead.{ReadBack, ask-read}
+use Rattle.client.proofs.AskRead.{ask-read}
 use Rattle.client.proofs.AskAgain.{knowledge-sent-back}
 use Rattle.client.proofs.CallBack.{CallReadsBack}
 

@@ -22,16 +22,16 @@ use Rattle.talk.specs.declared.range.Range.{Range}
 use Rattle.talk.proofs.Counts.{length-with}
 use Rattle.talk.proofs.Delivery.{length-wanted}
 use Rattle.store.specs.KnowledgeWritten.{knowledgeBytes}
-use Rattle.store.specs.Store.{storeWalk}
+use Rattle.store.specs.Store.{storeWalk, Stands}
 use Rattle.store.specs.declared.element.Element.{Element}
 use Rattle.store.proofs.ElementWritten.{compact-most}
 use Rattle.store.proofs.Found.{store-most}
-use Rattle.store.proofs.Taken.{Stands}
 use Rattle.request.specs.Message.{filtersOf}
 use Rattle.pages.specs.Answer.{Ask, answered, numberIn, askOf, knownIn, outcome, outputAfter, pageBytes, pageRanges}
 use Rattle.pages.specs.Choice.{knowsKey, serialRange, wantedIn}
-use Rattle.pages.proofs.PageCases.{smallest, page-answered}
-use Rattle.pages.proofs.Refusing.{Asks, asked-outcome}
+use Rattle.pages.specs.Cases.{smallest, Asks}
+use Rattle.pages.proofs.PageCases.{page-answered}
+use Rattle.pages.proofs.Refusing.{asked-outcome}
 use Rattle.client.specs.Ask.{filtersGiven, knowledgeGiven, knowledgeOf, askWrote}
 use Rattle.client.specs.Ask as ask
 use Rattle.client.specs.AskWritten.{constraintBytes, askFront, askBytes}

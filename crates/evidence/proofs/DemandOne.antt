@@ -27,28 +27,28 @@ use Rattle.numbers.specs.declared.refusal.Wrote.the-variants as wrote
 use Rattle.talk.specs.declared.range.Range.{Range}
 use Rattle.store.specs.Accessor.{tellFound}
 use Rattle.store.specs.Element.{sameKey}
-use Rattle.store.specs.Store.{storeWalk}
+use Rattle.store.specs.Store.{storeWalk, Stands}
 use Rattle.store.specs.Tables.{rowsOf}
 use Rattle.store.specs.Written.{Content, packageFront, packageBytes, elementsFrom, AllFit}
 use Rattle.store.specs.declared.accessor.Found.{Found}
 use Rattle.store.specs.declared.accessor.Found.the-variants as found
 use Rattle.store.specs.declared.element.Element.{Element}
 use Rattle.store.proofs.PackageWritten.{package-written}
-use Rattle.store.proofs.Taken.{Stands}
 use Rattle.request.specs.Message.{requestIn}
 use Rattle.request.specs.declared.message.Request.the-variants as request′
 use Rattle.pages.specs.Answer.{Ask, Outcome, refused, answered, numberIn, pageRanges, rangeRows, tellAnswered, told, rowsAfter, rangesAfter, outcome, answerOf, Gives, Answers, outputAfter as answerAfter}
+use Rattle.pages.specs.Cases.{Asks, OverLong, TooShort, Sends}
 use Rattle.pages.specs.declared.answer.Answered.{Answered}
 use Rattle.pages.specs.declared.answer.Answered.the-variants.{Sent, Refused}
 use Rattle.pages.proofs.OneAnswers.{answer-telling}
-use Rattle.pages.proofs.Refusing.{Asks, OverLong, TooShort, Sends, tables-fine, thirteen-if, thirteen-only-if, one-only-if, one-if-store, one-if-request, fourteen-of-call, call-of-fourteen, nine-of-call, call-of-nine, answered-asks, call-sends}
+use Rattle.pages.proofs.Refusing.{tables-fine, thirteen-if, thirteen-only-if, one-only-if, one-if-store, one-if-request, fourteen-of-call, call-of-fourteen, nine-of-call, call-of-nine, answered-asks, call-sends}
 use Rattle.client.specs.AskWritten.{askBytes}
 use Rattle.client.specs.Ask.{askWrote, outputAfter as requestAfter}
 use Rattle.client.specs.Read.{answerIn, tellReadAnswer}
+use Rattle.client.specs.Back.{ReadBack}
 use Rattle.client.specs.declared.answer.Received.{Received}
 use Rattle.client.specs.declared.answer.ReadAnswer.{ReadAnswer}
 use Rattle.client.specs.declared.answer.ReadAnswer.the-variants as answer
-use Rattle.client.proofs.AskRead.{ReadBack}
 use Rattle.client.proofs.NextAsk.{written-reads}
 use Rattle.hub.specs.Report.{threeNumbers, refusalReport}
 use Rattle.hub.specs.Call.{reportBytes, hubOutcome, HubGives, HubAnswers}

@@ -23,9 +23,8 @@ use Rattle.request.specs.Message.{filtersOf}
 use Rattle.request.proofs.RequestFits.{known-fit, known-normal}
 use Rattle.pages.specs.Answer.{Ask, knownIn, pageBytes, Answers}
 use Rattle.pages.specs.Choice.{knowsKey}
+use Rattle.pages.specs.Cases.{Few, smallest, Asks}
 use Rattle.pages.specs.declared.answer.Answered.the-variants as answer
-use Rattle.pages.proofs.PageCases.{Few, smallest}
-use Rattle.pages.proofs.Refusing.{Asks}
 use Rattle.client.specs.Ask.{knowledgeOf}
 use Rattle.hub.specs.Call.{HubAnswers}
 use Rattle.evidence.specs.Bench.{knowsBy, saidBy}

@@ -17,15 +17,14 @@ use Rattle.talk.specs.Series.{isSome, withKeys}
 use Rattle.store.specs.Element.{sameKey}
 use Rattle.store.specs.declared.element.Element.{Element}
 use Rattle.store.specs.declared.element.Key.{Key}
-use Rattle.store.specs.Store.{storeWalk}
-use Rattle.store.proofs.Taken.{Stands}
+use Rattle.store.specs.Store.{storeWalk, Stands}
 use Rattle.request.specs.Message.{filtersOf, requestIn}
 use Rattle.request.specs.declared.message.Request.the-variants.{Asked}
 use Rattle.pages.specs.Answer.{Ask, askOf, knownIn, pageMeasure}
 use Rattle.pages.specs.Choice.{knowsKey, rangesWith, wantedIn, storageIndex}
 use Rattle.pages.specs.Decision.{sendable}
 use Rattle.pages.specs.Written.{answerBytes}
-use Rattle.client.proofs.AnswerBack.{ReadsBack}
+use Rattle.client.specs.Back.{ReadsBack}
 use Rattle.evidence.specs.Calling.{GivesAnswer}
 use Rattle.evidence.specs.Talk.{KeyFits, serialOf, elementsOf, wantedOf, rangesIn}
 use Rattle.evidence.proofs.Sending as sending

@@ -31,8 +31,9 @@ use Rattle.request.proofs.RequestFits.{known-fit, known-normal}
 use Rattle.pages.specs.Answer.{Ask, answered, numberIn, told, knownIn, outcome, pageBytes, pageRanges, Answers}
 use Rattle.pages.specs.declared.answer.Answered.the-variants as answer
 use Rattle.pages.specs.Choice.{knowsKey, serialRange, wantedIn}
-use Rattle.pages.proofs.PageCases.{Few, smallest, page-answered}
-use Rattle.pages.proofs.Refusing.{Asks, asked-outcome, tables-fine, nine-of-call}
+use Rattle.pages.specs.Cases.{Few, smallest, Asks}
+use Rattle.pages.proofs.PageCases.{page-answered}
+use Rattle.pages.proofs.Refusing.{asked-outcome, tables-fine, nine-of-call}
 use Rattle.hub.specs.Call.{HubAnswers}
 use Rattle.hub.proofs.Laws.{tables-enough}
 use Rattle.evidence.specs.Calling.{GivesRefusal}

@@ -15,9 +15,8 @@ use Rattle.objects.specs.declared.reading.Reading.the-variants.{At, Refused}
 use Rattle.talk.specs.Each.{Each}
 use Rattle.talk.specs.Series.{Answer, joinedPages, FirstUnmarked}
 use Rattle.talk.proofs.Series.{all-sent}
-use Rattle.store.specs.Store.{storeWalk}
+use Rattle.store.specs.Store.{storeWalk, Stands}
 use Rattle.store.specs.declared.element.Element.{Element}
-use Rattle.store.proofs.Taken.{Stands}
 use Rattle.client.specs.Ask.{filtersGiven, knowledgeGiven}
 use Rattle.evidence.specs.Bench.{filtersIn, knowsBy, saidBy, Choice, BenchTalk, choicesIn, Ample}
 use Rattle.evidence.specs.Talk.{wantedOf, AllReadAs}

@@ -15,11 +15,10 @@ use Rattle.numbers.specs.declared.refusal.Wrote.{Wrote}
 use Rattle.numbers.specs.declared.refusal.Wrote.the-variants as wrote
 use Rattle.objects.specs.declared.reading.Reading.{Reading}
 use Rattle.objects.specs.declared.reading.Reading.the-variants as reading
-use Rattle.store.specs.Store.{storeWalk}
+use Rattle.store.specs.Store.{storeWalk, Stands}
 use Rattle.store.specs.Accessor.{elementIn, foundOn, foundIn}
 use Rattle.store.specs.declared.accessor.Found.the-variants as found
 use Rattle.store.specs.declared.element.Element.{Element}
-use Rattle.store.proofs.Taken.{Stands}
 use Rattle.store.proofs.FaultNumbers.{store-number, store-input, store-needed}
 use Rattle.store.proofs.Found.{found-none}
 use Rattle.store.proofs.Places.{store-fault}
@@ -28,8 +27,9 @@ use Rattle.request.specs.declared.message.Request.the-variants as request′
 use Rattle.request.proofs.FaultNumbers.{request-number, request-input, request-needed}
 use Rattle.request.proofs.Places.{request-fault}
 use Rattle.pages.specs.Answer.{Ask, Outcome, refused, pageBytes, pageRanges, pageOutcome, onRequest, onStore, outcome, answerOf}
-use Rattle.pages.proofs.PageCases.{smallest, Few, nine-if, fourteen-if, page-answered}
-use Rattle.pages.proofs.Refusing.{Asks, Course, course, thirteen-if, tables-fine, call-of-fourteen, call-of-nine}
+use Rattle.pages.specs.Cases.{smallest, Few, Asks}
+use Rattle.pages.proofs.PageCases.{nine-if, fourteen-if, page-answered}
+use Rattle.pages.proofs.Refusing.{Course, course, thirteen-if, tables-fine, call-of-fourteen, call-of-nine}
 use Rattle.client.specs.AskWritten.{askBytes}
 use Rattle.client.specs.Ask.{filtersGiven, knowledgeGiven, writtenIn, judgedKnowledge, judgedFilters, askWrote}
 use Rattle.client.specs.Read.{longestAnswer, packageIn, answerEnd, answerOn, answerIn}

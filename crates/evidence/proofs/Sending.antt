@@ -20,12 +20,11 @@ use Rattle.talk.proofs.Delivery.{page-takes}
 use Rattle.talk.proofs.PageRule.{greatest-one}
 use Rattle.talk.proofs.Things.{each-first, each-kept, each-so}
 use Rattle.store.specs.Element.{sameKey}
-use Rattle.store.specs.Store.{storeWalk}
+use Rattle.store.specs.Store.{storeWalk, Stands}
 use Rattle.store.specs.declared.element.Element.{Element}
 use Rattle.store.specs.declared.element.Key.{Key}
 use Rattle.store.proofs.Chains.{store-read}
 use Rattle.store.proofs.ElementFits.{KeysFit, keys-fit}
-use Rattle.store.proofs.Taken.{Stands}
 use Rattle.request.specs.Message.{filtersOf, requestIn}
 use Rattle.request.specs.declared.message.Request.the-variants as request
 use Rattle.request.proofs.RequestFits.{known-normal}
@@ -33,11 +32,12 @@ use Rattle.pages.specs.Answer.{Ask, answered, askOf, knownIn, outcome, onDecide
 use Rattle.pages.specs.Choice.{knowsKey, rangesWith, wantedIn, storageIndex}
 use Rattle.pages.specs.Decision.{sendable}
 use Rattle.pages.specs.Written.{answerBytes}
+use Rattle.pages.specs.Cases.{Asks}
 use Rattle.pages.specs.declared.page.Decided.{Decided}
 use Rattle.pages.specs.declared.page.Decided.the-variants.{Sent, Crowded, Short}
-use Rattle.pages.proofs.Refusing.{Asks, asked-outcome}
+use Rattle.pages.proofs.Refusing.{asked-outcome}
 use Rattle.pages.proofs.Stops.{sent-law}
-use Rattle.client.proofs.AnswerBack.{ReadsBack}
+use Rattle.client.specs.Back.{ReadsBack}
 use Rattle.client.proofs.CallBack.{CallReadsBack, call-back}
 use Rattle.evidence.specs.Calling.{GivesAnswer}
 use Rattle.evidence.specs.Talk.{KeyFits, serialOf, elementsOf, wantedOf, rangesIn}

@@ -13,10 +13,9 @@ use Rattle.talk.proofs.Delivery.{judged-converges}
 use Rattle.talk.proofs.Series.{converges}
 use Rattle.store.specs.Element.{sameKey}
 use Rattle.store.specs.declared.element.Element.{Element}
-use Rattle.store.specs.Store.{storeWalk}
+use Rattle.store.specs.Store.{storeWalk, Stands}
 use Rattle.store.specs.declared.element.Key.{Key}
 use Rattle.store.proofs.Chains.{same-turn, serials-once, store-read}
-use Rattle.store.proofs.Taken.{Stands}
 use Rattle.request.specs.Meaning.{Filter}
 use Rattle.evidence.specs.Talk.{KeyFits, serialOf, elementsOf, leavesIn, Talk, AllReadAs}
 use Rattle.evidence.proofs.Sending.{serials-fit}

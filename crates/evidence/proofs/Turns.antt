@@ -25,11 +25,12 @@ use Rattle.client.specs.Ask.{filtersGiven, knowledgeGiven, knowledgeOf, askWrot
 use Rattle.client.specs.Ask as ask
 use Rattle.client.specs.AskWritten.{askBytes}
 use Rattle.client.specs.Read.{answerIn}
+use Rattle.client.specs.Back.{ReadBack}
 use Rattle.client.specs.declared.answer.Received.{Received}
 use Rattle.client.specs.declared.answer.ReadAnswer.{ReadAnswer}
 use Rattle.client.specs.declared.answer.ReadAnswer.the-variants as answer
 use Rattle.client.proofs.AskAgain.{knowledge-size, knowledge-sent-back}
-use Rattle.client.proofs.AskRead.{ReadBack, ask-read}
+use Rattle.client.proofs.AskRead.{ask-read}
 use Rattle.client.proofs.FaultNumbers.{ask-refused}
 use Rattle.client.proofs.NextAsk.{filters-fine, knowledge-fine, room-enough}
 use Rattle.hub.specs.Report.{threeNumbers}

@@ -7,8 +7,7 @@ use lib.ListN.{length}
 use Rattle.numbers.specs.Refusals.{faultAt, tooShort, longestInput}
 use Rattle.numbers.specs.declared.refusal.Refusal.{Refusal}
 use Rattle.objects.specs.declared.reading.Reading.the-variants.{Refused}
-use Rattle.store.specs.Store.{storeWalk}
-use Rattle.store.proofs.Taken.{Stands}
+use Rattle.store.specs.Store.{storeWalk, Stands}
 use Rattle.request.specs.Message.{inRequest}
 use Rattle.client.specs.AskWritten.{askBytes}
 use Rattle.client.specs.Ask.{filtersGiven, knowledgeGiven}

@@ -8,13 +8,11 @@ use lib.ListN.{length, getD}
 use Rattle.numbers.specs.Refusals.{faultAt, tooShort}
 use Rattle.numbers.specs.declared.refusal.Refusal.{Refusal}
 use Rattle.objects.specs.declared.reading.Reading.the-variants as reading
-use Rattle.store.specs.Store.{storeWalk}
-use Rattle.store.proofs.Taken.{Stands}
+use Rattle.store.specs.Store.{storeWalk, Stands}
 use Rattle.request.specs.Message.{requestIn}
 use Rattle.request.specs.declared.message.Request.the-variants as request′
 use Rattle.pages.specs.Answer.{Ask, pageBytes, pageRanges}
-use Rattle.pages.proofs.PageCases.{Few, smallest}
-use Rattle.pages.proofs.Refusing.{Asks}
+use Rattle.pages.specs.Cases.{Few, smallest, Asks}
 
 -- "one of the numbered refusals of document 01, with the place of the fault": a number from 1 to 14, one of the inputs, a place that lies
 -- within it (an item's place is "where its first byte stands or would stand", so it may be the input's end), and a needed length for 14

@@ -19,7 +19,7 @@ use Rattle.request.specs.Message.{filtersOf, requestKnowing}
 use Rattle.pages.specs.Answer.{knownIn}
 use Rattle.pages.specs.Choice.{knowsKey}
 use Rattle.client.specs.Read.{packageEnd, markAt, knowledgeIn}
-use Rattle.client.proofs.AnswerBack.{ReadsBack}
+use Rattle.client.specs.Back.{ReadsBack}
 use Rattle.evidence.specs.Calling.{GivesAnswer, GivesRefusal}
 
 -- ---- what is wanted

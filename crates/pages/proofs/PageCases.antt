@@ -11,6 +11,7 @@ use Rattle.numbers.specs.Refusals.{faultAt, tooShort}
 use Rattle.talk.specs.Page.{pageCount}
 use Rattle.pages.specs.Decision.{Measure, sendable, sent, decision}
 use Rattle.pages.specs.Answer.{Ask, refused, answered, numberIn, pageRanges, pageBytes, pageMeasure, onDecided, pageDecided, pageOutcome}
+use Rattle.pages.specs.Cases.{smallest, Few}
 use Rattle.pages.specs.declared.page.Decided.{Decided}
 use Rattle.pages.specs.declared.page.Decided.the-variants.{Crowded, Short}
 
@@ -50,14 +51,6 @@ module _ (most limit room : ℕ) (m : Measure) (n : ℕ) where
   case-of = by-eq n 0 when-none (λ z. when-some (omega arith))
 
 -- ---- the page for what was asked
-
--- "the page of 1 (of 0, if nothing is wanted)"
-abbrev pub smallest : Ask → ℕ
-smallest a = min 1 (length (a .wanted))
-
--- a page of 1 does not need over 512 ranges
-abbrev pub Few : Ask → Type 0
-Few a = 0 < length (a .wanted) → length (pageRanges a 1) ≤ 512
 
 module _ (a : Ask) (room : ℕ) where
   abbrev PageCase : Decided → Type 0

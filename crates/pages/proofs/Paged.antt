@@ -23,7 +23,7 @@ use Rattle.pages.specs.Choice.{isKnown, wantedIn, storageIndex, rangesWi
 use Rattle.pages.specs.Decision.{decision}
 use Rattle.pages.specs.Written.{answerBytes}
 use Rattle.pages.specs.Tables.{takenIn, fixedLength, StoreHeld, chosenIn, tableMeasure, Decides}
-use Rattle.pages.specs.Answer.{rangeRows, Ask, pageRanges, pageBytes, pageMeasure, onDecided, pageDecided, pageOutcome, knownIn, answered, told, rowsAfter, rangesAfter, outputAfter, Gives}
+use Rattle.pages.specs.Answer.{rangeRows, Ask, pageRanges, pageBytes, pageMeasure, onDecided, pageDecided, pageOutcome, knownIn, told, rowsAfter, rangesAfter, outputAfter, Gives}
 use Rattle.pages.specs.Held.{RequestHeld, askIn, knownAfter}
 use Rattle.pages.specs.declared.page.Bounds.{Bounds}
 use Rattle.pages.specs.declared.page.Decided.{Decided}

@@ -13,36 +13,24 @@ use Rattle.numbers.specs.Refusals.{faultAt, tooShort, longestInput, overLong}
 use Rattle.numbers.specs.declared.refusal.Refusal.{Refusal}
 use Rattle.objects.specs.declared.reading.Reading.{Reading}
 use Rattle.objects.specs.declared.reading.Reading.the-variants as reading
-use Rattle.talk.specs.Page.{Greatest}
 use Rattle.talk.specs.declared.range.Range.{Range}
-use Rattle.store.specs.Store.{storeWalk}
+use Rattle.store.specs.Store.{storeWalk, Stands}
 use Rattle.store.specs.declared.element.Element.{Element}
-use Rattle.store.proofs.Taken.{Stands}
 use Rattle.store.proofs.FaultNumbers.{store-number}
 use Rattle.request.specs.Message.{inRequest, requestIn}
 use Rattle.request.specs.declared.message.Request.{Request}
 use Rattle.request.specs.declared.message.Request.the-variants as request
 use Rattle.request.proofs.FaultNumbers.{request-number}
 use Rattle.request.proofs.Whole.{over-long-read}
-use Rattle.pages.specs.Decision.{sendable, decision}
+use Rattle.pages.specs.Decision.{decision}
 use Rattle.pages.specs.Answer.{Ask, Outcome, refused, answered, numberIn, pageRanges, pageBytes, pageMeasure, onDecided, pageDecided, pageOutcome, askOf, onRequest, onStore, outcome, answerOf}
+use Rattle.pages.specs.Cases.{Asks, OverLong, smallest, TooShort, Sends}
 use Rattle.pages.specs.declared.page.Decided.{Decided}
 use Rattle.pages.specs.declared.page.Decided.the-variants as decided
 use Rattle.pages.proofs.Stops.{sent-law}
-use Rattle.pages.proofs.PageCases.{smallest, Few, nine-only-if, nine-if, fourteen-only-if, fourteen-if, page-numbers}
+use Rattle.pages.proofs.PageCases.{nine-only-if, nine-if, fourteen-only-if, fourteen-if, page-numbers}
 
 -- ---- the course of a call
-
--- both inputs read, and this is asked
-pub record Asks (s q : List ℕ) (a : Ask) : Type 0 where
-  pub id : ℕ
-  pub limit : ℕ
-  pub place : ℕ
-  pub count : ℕ
-  pub known : ℕ
-  pub store-reads : Stands (storeWalk s .last)
-  pub request-reads : requestIn q [] ≡ request.Asked id limit place count known
-  pub asked : a ≡ askOf s (storeWalk s .elements) q id limit
 
 pub data Course (s q : List ℕ) (room : ℕ) : Outcome → Type 0 where
   store-fault : (r : Refusal) → storeWalk s .last ≡ reading.Refused r → Course s q room (refused r)
@@ -114,9 +102,6 @@ thirteen-only-if s q rows ranges room h =
 
 -- ---- 1: "an input is over 16,777,216 bytes"; the request's comes after all of the store's faults
 
-abbrev pub OverLong : List ℕ → List ℕ → Type 0
-OverLong s q = (longestInput < length s) ⊎ (Stands (storeWalk s .last) × (longestInput < length q))
-
 one-on : (s q : List ℕ) (room : ℕ) (o : Outcome) → Course s q room o → numberIn o ≡ 1 → OverLong s q
 unfolding numberIn
 one-on s q room _ (store-fault r e) h = by-lt longestInput (length s) inl (λ l. let w = store-number s r e .0 l in absurd (omega arith))
@@ -143,12 +128,6 @@ one-if-request s q room g h =
 
 -- ---- 14: "the output is shorter than the page of 1 (of 0, if nothing is wanted)"; the needed length is that page's
 
--- this is asked, and its smallest page does not fit, though it does not need over 512 ranges
-pub record TooShort (s q : List ℕ) (room : ℕ) (a : Ask) : Type 0 where
-  pub asks : Asks s q a
-  pub few : Few a
-  pub needs : room < length (pageBytes a (smallest a))
-
 fourteen-on : (s q : List ℕ) (room : ℕ) (o : Outcome) → Course s q room o → numberIn o ≡ 14
     → (a : Ask) × (TooShort s q room a) × (o ≡ refused (tooShort (length (pageBytes a (smallest a)))))
 unfolding numberIn
@@ -174,13 +153,6 @@ pub call-of-nine : (s q : List ℕ) (room : ℕ) (a : Ask) → Asks s q a → 0 
 call-of-nine s q room a x p c = asked-outcome s q a room x ∙ nine-if a room p c
 
 -- ---- where nothing is refused, the greatest page is sent
-
-pub record Sends (a : Ask) (room : ℕ) (w : List ℕ) (all : List Element) (l : List Range) : Type 0 where
-  pub count : ℕ
-  pub greatest : Greatest (sendable 512 (a .limit) room (pageMeasure a)) (length (a .wanted)) count
-  pub bytes-are : w ≡ pageBytes a count
-  pub elements-are : all ≡ a .elements
-  pub ranges-are : l ≡ pageRanges a count
 
 sends-on : (a : Ask) (room : ℕ) (d : Decided) → decision 512 (a .limit) room (pageMeasure a) (length (a .wanted)) ≡ d → (w : List ℕ) (all : List Element) (l : List Range)
     → onDecided a d ≡ answered w all l → Sends a room w all l

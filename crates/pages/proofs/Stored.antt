@@ -13,13 +13,12 @@ use Rattle.numbers.specs.declared.refusal.Refusal.{Refusal}
 use Rattle.objects.specs.declared.reading.Reading.{Reading}
 use Rattle.objects.specs.declared.reading.Reading.the-variants as reading
 use Rattle.talk.specs.Each.{Each}
-use Rattle.store.specs.Store.{storeWalk, storedOf, storeAnswer, WalkedTo}
+use Rattle.store.specs.Store.{storeWalk, storedOf, storeAnswer, WalkedTo, Stands}
 use Rattle.store.specs.Tables.{keyAt, rowOf, idOf, rowsOf, idsOf}
 use Rattle.store.specs.declared.element.Element.{Element}
 use Rattle.store.specs.declared.package.Stored.the-variants as stored
 use Rattle.store.proofs.Rows.{length-flat}
 use Rattle.store.proofs.Found.{store-most, store-holds}
-use Rattle.store.proofs.Taken.{Stands}
 use Rattle.store.proofs.Chains.{over-long, store-read}
 use Rattle.store.proofs.ElementFits.{ElementFits, elements-fit}
 use Rattle.request.specs.Choice.{elementOf, elementsFrom, elementsIn}

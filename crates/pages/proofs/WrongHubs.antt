@@ -31,12 +31,11 @@ use Rattle.talk.specs.Wanted.{keep, wanted}
 use Rattle.talk.specs.declared.range.Range.{Range}
 use Rattle.store.specs.Knowledge.{rangeOf, knows}
 use Rattle.store.specs.KnowledgeWritten.{rangeBytes, rangesBytes, knowledgeBytes}
-use Rattle.store.specs.Store.{packageStart, walkFrom, storeWalk}
+use Rattle.store.specs.Store.{packageStart, walkFrom, storeWalk, Stands}
 use Rattle.store.specs.Written.{guidOf, packageFront}
 use Rattle.store.specs.declared.element.Key.{Key}
 use Rattle.store.specs.declared.element.Element.{Element}
 use Rattle.store.proofs.KnowledgeLengths.{length-range}
-use Rattle.store.proofs.Taken.{Stands}
 use Rattle.request.specs.Filter.{filtersFrom}
 use Rattle.request.specs.Message.{versions, userAgent, subRequestFields, subRequest, queryChanges, argumentFields, arguments, constraint, knowledgePart, packagePart, identified, constrainedFrom, ended, requestKnowing, requestAnswer, requestIn}
 use Rattle.request.specs.declared.message.Request.the-variants as request
@@ -45,13 +44,14 @@ use Rattle.pages.specs.Decision.{Measure, isSendable, decision}
 use Rattle.pages.specs.Written.{versionBytes, answerSignature, responseBytes, elementsBytes, packageOf, subResponseData, subResponseBytes, partialByte, changesData, changesBytes, endsBytes, answerBytes}
 use Rattle.pages.specs.Tables.{wholeOf, fixedLength, takenIn}
 use Rattle.pages.specs.Answer.{Ask, Outcome, refused, answered, numberIn, pageRanges, pageBytes, pageMeasure, pageDecided, pageOutcome, askOf, answerOf, told, outputAfter, Answers}
+use Rattle.pages.specs.Cases.{smallest, Asks}
 use Rattle.pages.specs.declared.page.Decided.the-variants.{Sent}
 use Rattle.pages.specs.declared.answer.Answered.{Answered}
 use Rattle.pages.specs.declared.answer.Answered.the-variants as answer
 use Rattle.pages.proofs.Lengths.{answer-length}
 use Rattle.pages.proofs.Stops.{sendable-limit, sent-law}
-use Rattle.pages.proofs.PageCases.{smallest, page-answered, fourteen-only-if}
-use Rattle.pages.proofs.Refusing.{Asks, asked-outcome, tables-fine}
+use Rattle.pages.proofs.PageCases.{page-answered, fourteen-only-if}
+use Rattle.pages.proofs.Refusing.{asked-outcome, tables-fine}
 
 -- what stands behind the same
 behind-same : (w : List ℕ) {x y : List ℕ} → w ++ x ≡ w ++ y → x ≡ y

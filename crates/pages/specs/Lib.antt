@@ -3,4 +3,5 @@ pub mod Decision
 pub mod Written
 pub mod Tables
 pub mod Answer
+pub mod Cases
 pub mod Held

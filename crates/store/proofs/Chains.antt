@@ -20,7 +20,7 @@ use Rattle.objects.specs.declared.header.Header.the-variants as header
 use Rattle.objects.specs.declared.reading.Reading.{Reading}
 use Rattle.objects.specs.declared.reading.Reading.the-variants as reading
 use Rattle.store.specs.Element.{sameKey, elementAt, dataOf, idsIn, serialsIn}
-use Rattle.store.specs.Store.{packageStart, Walk, walked, closing, onElement, walkFrom, packageWalk, finished, storeWalk}
+use Rattle.store.specs.Store.{packageStart, Walk, walked, closing, onElement, walkFrom, packageWalk, finished, storeWalk, Stands}
 use Rattle.store.specs.Chain.{Chain, Fresh, Tiles}
 use Rattle.store.specs.declared.element.Key.{Key}
 use Rattle.store.specs.declared.element.Element.{Element}
@@ -32,7 +32,7 @@ use Rattle.objects.specs.declared.nesting.Passed.the-variants as passed
 use Rattle.objects.proofs.Ahead.{run-next}
 use Rattle.store.proofs.Fields.{element-parts, data-at-least}
 use Rattle.store.proofs.ElementCarry.{element-made}
-use Rattle.store.proofs.Taken.{Stands, element-unseen}
+use Rattle.store.proofs.Taken.{element-unseen}
 use Rattle.store.proofs.Walks.{walk-ends, walk-element}
 
 -- ---- the walk

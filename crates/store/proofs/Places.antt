@@ -15,7 +15,7 @@ use Rattle.objects.specs.declared.reading.Reading.{Reading}
 use Rattle.objects.specs.declared.reading.Reading.the-variants as reading
 use Rattle.objects.proofs.Keep.{good-front, good-start, good-end, good-inside, good-finish}
 use Rattle.store.specs.Element.{dataOf, elementOn, elementAt, idsIn, serialsIn}
-use Rattle.store.specs.Store.{packageStart, onElement, walkFrom, packageWalk, storeWalk}
+use Rattle.store.specs.Store.{packageStart, onElement, walkFrom, packageWalk, storeWalk, Stands}
 use Rattle.store.specs.declared.element.Key.{Key}
 use Rattle.store.specs.declared.element.Fields.{Fields}
 use Rattle.store.specs.declared.element.Element.{Element}
@@ -23,7 +23,6 @@ use Rattle.store.specs.declared.element.ReadElement.{ReadElement}
 use Rattle.store.specs.declared.element.ReadElement.the-variants as element
 use Rattle.store.proofs.Fields.{good-data, element-within}
 use Rattle.store.proofs.Walks.{good-package, walk-ends, walk-over, walk-element}
-use Rattle.store.proofs.Taken.{Stands}
 use Rattle.store.proofs.Chains.{StoreRead}
 
 -- ---- a fault's place

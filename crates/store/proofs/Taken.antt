@@ -9,6 +9,7 @@ use Rattle.objects.specs.Steps.{placeOf, serialHere, idHere, runHere, closedAt,
 use Rattle.objects.specs.declared.reading.Reading.{Reading}
 use Rattle.objects.specs.declared.reading.Reading.the-variants as reading
 use Rattle.store.specs.Element.{sameKey, namedKey, numberedKey, freshKey, keyHere, onKey, judged, idField, serialField, fieldsOf, opened, dataOf, elementAt}
+use Rattle.store.specs.Store.{Stands}
 use Rattle.store.specs.declared.element.Key.{Key}
 use Rattle.store.specs.declared.element.Element.{Element}
 use Rattle.store.specs.declared.element.ReadingKey.{ReadingKey}
@@ -17,10 +18,6 @@ use Rattle.store.specs.declared.element.ReadElement.the-variants as elem
 use Rattle.store.proofs.Fields.{element-parts}
 
 -- no fault stands
-abbrev pub Stands : Reading → Type 0
-Stands (reading.At p v) = Unit {0}
-Stands (reading.Refused r) = ⊥
-
 abbrev StandsKey : ReadingKey → Type 0
 StandsKey (At q k) = Unit {0}
 StandsKey (Refused r) = ⊥

@@ -67,6 +67,11 @@ unfoldable pub storeWalk : List ℕ → Walk
 storeWalk s =
     pick (ltb longestInput (length s)) (walked [] (Refused overLong)) (finished s (packageWalk nothingOpen s (At 0 0)))
 
+-- no fault stands: where a walk ends so, all of it was read
+abbrev pub Stands : Reading → Type 0
+Stands (At p v) = Unit {0}
+Stands (Refused r) = ⊥
+
 -- ---- what reading a package and a store answers, and what the tables then hold
 
 -- how many elements, and the place behind the package's end
