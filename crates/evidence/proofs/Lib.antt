@@ -4,6 +4,8 @@ pub mod BytesWritten
 pub mod Said
 pub mod Refusals
 pub mod Calling
+pub mod Results
+pub mod RefusalNumbers
 pub mod DemandOne
 pub mod Sending
 pub mod DemandTwo

@@ -9,7 +9,7 @@ use native.Mathlib.Omega.{arith}
 use lib.ListN.{length}
 use borrow.Author.Tests.{lt-ltb, le-ltb, eq-eqb, ne-eqb}
 use Rattle.laws.proofs.Cases.{by-lt, by-eq, impossible}
-use Rattle.numbers.specs.Refusals.{faultAt, tooShort, longestInput}
+use Rattle.numbers.specs.Refusals.{faultAt, tooShort, longestInput, tellWrote}
 use Rattle.numbers.specs.declared.refusal.Refusal.{Refusal}
 use Rattle.numbers.specs.declared.refusal.Wrote.{Wrote}
 use Rattle.numbers.specs.declared.refusal.Wrote.the-variants as wrote
@@ -137,6 +137,16 @@ why-fault s q rows ranges room r (Why.request t g h) = of-request s q r h
 why-fault s q rows ranges room r (Why.crowded t a x p c e) = rw e (front-fault s (q ∷ []) 9 (omega arith) (omega arith))
 why-fault s q rows ranges room r (Why.short t a x f l e) = rw e (short-fault s (q ∷ []) (length (pageBytes a (smallest a))))
 
+-- with tables that are long enough, a store and a request that are read, only the refusals of a page are left: 9 and 14
+pub only-pages : (s q : List ℕ) (rows ranges room : ℕ) (r : Refusal) → Tables rows ranges → Stands (storeWalk s .last)
+    → ((x : Refusal) → requestIn q [] ≡ request′.Refused x → ⊥) → Why s q rows ranges room r → (r .number ≡ 9) ⊎ (r .number ≡ 14)
+only-pages s q rows ranges room r t g h (Why.tables (inl l) e) = let w = t .0 in absurd (omega arith)
+only-pages s q rows ranges room r t g h (Why.tables (inr l) e) = let w = t .1 in absurd (omega arith)
+only-pages s q rows ranges room r t g h (Why.store u e) = absurd (subst Stands e g)
+only-pages s q rows ranges room r t g h (Why.request u w e) = absurd (h r e)
+only-pages s q rows ranges room r t g h (Why.crowded u a y p c e) = inl (ap (λ (z : Refusal). z .number) e)
+only-pages s q rows ranges room r t g h (Why.short u a y f l e) = inr (ap (λ (z : Refusal). z .number) e)
+
 -- ---- a request written
 
 module _ (id limit : ℕ) (f k : List ℕ) (room : ℕ) (r : Refusal) where
@@ -239,6 +249,11 @@ unfolding askWrote
 ask-done id limit f k room n h =
     let w = askBytes id limit f k in
     written-done w n room (knowledge-done w n (knowledgeGiven k) _ (filters-done w n (filtersGiven f) _ h))
+
+-- and so it was by a call that tells 0, since a refusal's number is never 0
+pub request-written : (id limit : ℕ) (f k : List ℕ) (room : ℕ) (o : Wrote) → askWrote id limit f k room ≡ o → 0 ≡ tellWrote o .number → (n : ℕ) × (o ≡ wrote.Done n)
+request-written id limit f k room (wrote.Done n) e h = (n, refl)
+request-written id limit f k room (wrote.Refused r) e h = let w = ask-fault id limit f k room r e .least in absurd (omega arith)
 
 -- ---- an answer read
 

@@ -10,9 +10,7 @@ use lib.ListN.{length, take, drop, length-take, length-drop}
 use lib.Seq.{take-at}
 use Rattle.laws.specs.Bytes.{AllBytes}
 use Rattle.laws.specs.Placed.{placed}
-use Rattle.numbers.specs.Refusals.{tellWrote}
 use Rattle.numbers.specs.declared.refusal.Wrote.{Wrote}
-use Rattle.numbers.specs.declared.refusal.Wrote.the-variants as wrote
 use Rattle.objects.specs.Steps.{valueOf}
 use Rattle.talk.specs.Series.Chain.{done, next}
 use Rattle.talk.specs.Series.Trace.{over, then}
@@ -31,26 +29,19 @@ use Rattle.client.specs.declared.answer.ReadAnswer.{ReadAnswer}
 use Rattle.client.specs.declared.answer.ReadAnswer.the-variants as answer
 use Rattle.client.proofs.AskAgain.{knowledge-size, knowledge-sent-back}
 use Rattle.client.proofs.AskRead.{ask-read}
-use Rattle.client.proofs.FaultNumbers.{ask-refused}
 use Rattle.client.proofs.NextAsk.{filters-fine, knowledge-fine, room-enough}
 use Rattle.hub.specs.Report.{threeNumbers}
 use Rattle.hub.specs.Bench.{wroteReport, HubAsks, reportAfter, HubReads}
 use Rattle.evidence.specs.Calling.{reportNumber, GivesAnswer, exported}
 use Rattle.evidence.specs.Talk.{AnsweredAsk, Talk, rangesIn}
 use Rattle.evidence.specs.Bench.{filtersIn, knowsBy, Turn, BenchTalk}
+use Rattle.evidence.proofs.Refusals.{request-written}
 use Rattle.evidence.proofs.Calling.{read-within}
 use Rattle.evidence.proofs.DemandTwo.{DemandTwo, demand-two}
 use Rattle.evidence.proofs.BytesWritten.{knowledge-bytes, ask-bytes}
 use Rattle.evidence.proofs.ReportNumbers.{three-numbers, read-numbers}
 
 -- ---- the request
-
--- a refusal's number is never 0
-request-written : (id limit : ℕ) (f k : List ℕ) (room : ℕ) (o : Wrote) → askWrote id limit f k room ≡ o → 0 ≡ tellWrote o .number → (n : ℕ) × (o ≡ wrote.Done n)
-request-written id limit f k room (wrote.Done n) e h = (n, refl)
-request-written id limit f k room (wrote.Refused r) e h =
-    let a = ask-refused id limit f k room r e .number (λ z. omega arith) in
-    absurd (omega arith)
 
 -- q is the request of these, and reads as exactly these
 pub record AskReads (id limit : ℕ) (f k q : List ℕ) : Type 0 where

@@ -28,6 +28,10 @@ pub record Fault (inputs : List (List ℕ)) (r : Refusal) : Type 0 where
 abbrev pub Tables : ℕ → ℕ → Type 0
 Tables rows ranges = (1536 ≤ rows) × (2048 ≤ ranges)
 
+-- some numbers are told exactly where something holds
+abbrev pub IfAndOnlyIf : Type 0 → Type 0 → Type 0
+IfAndOnlyIf A B = (A → B) × (B → A)
+
 -- why a call on the store s and the request q, lent tables of so many numbers and an output of so many bytes, refuses with r
 pub data Why (s q : List ℕ) (rows ranges room : ℕ) (r : Refusal) : Type 0 where
   -- 13: "store table under 1,536 numbers or knowledge table under 2,048"
