@@ -12,3 +12,5 @@ pub mod Elements
 pub mod Setting
 pub mod Putting
 pub mod WrongChoices
+pub mod Indexing
+pub mod Following

@@ -2,7 +2,7 @@
 -- Assumes nothing.
 use mathlib.Core.Path.{_≡_, refl, sym, _∙_}
 use mathlib.Core.Bool.{Bool, true, false}
-use mathlib.Core.List.{List, [], _++_}
+use mathlib.Core.List.{List, [], _∷_, _++_}
 use Prim.Native.Nat.{ℕ, zero, suc, _+_, _-_, _≤_, _<_}
 use native.Mathlib.Omega.{arith}
 use borrow.Author.Tests.{ne-eqb}
@@ -10,17 +10,15 @@ use lib.ListN.{length, drop}
 use lib.Dec.{eqb}
 use Rattle.laws.specs.Pick.{pick}
 use Rattle.laws.specs.Once.{seen}
-use Rattle.numbers.specs.declared.extended_guid.ExtendedGuid.the-variants as id
 use Rattle.objects.specs.Steps.{placeOf, valueOf, need, idHere, startHere, runHere}
 use Rattle.objects.specs.declared.reading.Reading.{Reading}
-use Rattle.objects.specs.declared.reading.ReadingId.{ReadingId}
-use Rattle.objects.specs.declared.reading.ReadingId.the-variants as id′
-use Rattle.store.specs.Element.{keyOf, sameKey}
+use Rattle.store.specs.Element.{sameKey}
+use Rattle.store.specs.declared.element.Key.{Key}
 use Rattle.store.specs.declared.element.Element.{Element}
 use Rattle.request.specs.Filter.{oneNumber, idStep, idsFrom, idsField, idsPart, typePart, kindPart, filterOpened, filterKind, filterAt}
 use Rattle.request.specs.Meaning.{Filter, keyIn, keysFrom, keysIn, filterRead, filtersRead, matches, letsIn}
-use Rattle.request.specs.Choice.{elementsIn, flagOf, flagsOf, setFlags, setByFilter, matchedBy, matchedId, withIds, kindMatches}
-use Rattle.request.specs.declared.choice.Matched.the-variants.{All, OfType}
+use Rattle.request.specs.Choice.{elementsIn, flagOf, flagsOf, setFlags, setByFilter, matchedBy, withIds, kindMatches}
+use Rattle.request.specs.declared.choice.Matched.the-variants.{All, OfType, WithId}
 use Rattle.request.proofs.Choosing.{same-flags, none-set, set-with-more, setByAll, filters-set}
 use Rattle.request.proofs.Elements.{length-elements}
 use Rattle.request.proofs.Turns as turns
@@ -31,12 +29,15 @@ or-none : (t : Bool) → t ≡ pick t true false
 or-none true = refl
 or-none false = refl
 
--- one id that was read matches those that have it
-id-matched : (r : ReadingId) (x : Element) → matchedBy (matchedId r) x ≡ withIds (keyIn r) x
-unfolding matchedBy matchedId keyIn seen
-id-matched (id′.At p id.Null) x = refl
-id-matched (id′.At p (id.Named g n)) x = or-none (sameKey (x .id) (keyOf g n))
-id-matched (id′.Refused r) x = refl
+-- the elements with one id
+pub one-id : (k : Key) (to : ℕ) (all : List Element) (flags : List ℕ) → setFlags (matchedBy (WithId k)) to all flags ≡ setFlags (withIds (k ∷ [])) to all flags
+unfolding matchedBy seen
+one-id k to all flags = same-flags (matchedBy (WithId k)) (withIds (k ∷ [])) to all flags (λ x. or-none (sameKey (x .id) k))
+
+-- no id sets nothing
+pub no-id : (to : ℕ) (all : List Element) (flags : List ℕ) → flags ≡ setFlags (withIds []) to all flags
+unfolding seen
+no-id to all flags = sym (none-set (withIds []) to all flags (λ x. refl))
 
 -- what holds whenever the loop's test is reached: what is told is what the ids still to come set, and they are read from here
 pub record SettingIds (d : List ℕ) (to : ℕ) (all : List Element) (count : ℕ) (told flags : List ℕ) (c : Reading) (i : ℕ) : Type 0 where
@@ -69,21 +70,19 @@ below : (i : ℕ) → i ≤ 64 → (i ≡ 64 → ⊥) → i < 64
 below i m l = omega arith
 
 module _ {d : List ℕ} {to : ℕ} {all : List Element} {count : ℕ} {told flags : List ℕ} {c : Reading} {i : ℕ} (u : SettingIds d to all count told flags c i) where
-  pub ids-more : i < count → (i ≡ 64 → ⊥) → SettingIds d to all count told (setFlags (matchedBy (matchedId (idHere d c))) to all flags) (idStep d c) (i + 1)
+  pub ids-more : i < count → (i ≡ 64 → ⊥) → SettingIds d to all count told (setFlags (withIds (keyIn (idHere d c))) to all flags) (idStep d c) (i + 1)
   ids-more h l =
       let m : i < 64 = below i (u .most) l in
       let k = keys-more d count i c h m in
       let b = keysFrom (64 - (i + 1)) d (count - (i + 1)) (idStep d c) in
-      let t = same-flags (matchedBy (matchedId (idHere d c))) (withIds (keyIn (idHere d c))) to all flags (id-matched (idHere d c)) in
       record {
         most = omega arith;
-        rest = rw t (rw k at (u .rest) ∙ set-with-more (keyIn (idHere d c)) b to all flags);
+        rest = rw k at (u .rest) ∙ set-with-more (keyIn (idHere d c)) b to all flags;
         read = u .read ∙ turns.ids-more d count i c h m;
       }
 
   none-left : keysFrom (64 - i) d (count - i) c ≡ [] → flags ≡ told
-  unfolding seen
-  none-left e = sym (rw e at (u .rest) ∙ none-set (withIds []) to all flags (λ x. refl))
+  none-left e = no-id to all flags ∙ sym (rw e at (u .rest))
 
   -- no more than 64 are looked at
   over : i ≡ 64 → flags ≡ told

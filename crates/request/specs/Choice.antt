@@ -9,19 +9,16 @@ use lib.ListN.{getD, drop}
 use lib.Dec.{eqb}
 use Rattle.laws.specs.Pick.{pick}
 use Rattle.laws.specs.Once.{seen}
-use Rattle.numbers.specs.declared.extended_guid.ExtendedGuid.the-variants as id
 use Rattle.objects.specs.Steps.{valueOf, startHere, runHere}
 use Rattle.objects.specs.declared.reading.Reading.{Reading}
-use Rattle.objects.specs.declared.reading.ReadingId.{ReadingId}
-use Rattle.objects.specs.declared.reading.ReadingId.the-variants as id′
-use Rattle.store.specs.Element.{keyOf, sameKey}
+use Rattle.store.specs.Element.{sameKey}
 use Rattle.store.specs.Tables.{keyAt}
 use Rattle.store.specs.declared.element.Key.{Key}
 use Rattle.store.specs.declared.element.Element.{Element}
 use Rattle.request.specs.Filter.{typePart}
 use Rattle.request.specs.Meaning.{Filter, keysIn, matches, filtersRead, letsIn}
 use Rattle.request.specs.declared.choice.Matched.{Matched}
-use Rattle.request.specs.declared.choice.Matched.the-variants.{Nothing, All, OfType, WithId}
+use Rattle.request.specs.declared.choice.Matched.the-variants.{All, OfType, WithId}
 
 -- ---- the elements that stand in the working tables
 
@@ -67,16 +64,9 @@ setByFilter f all flags = setFlags (matches f all) (flagOf (eqb (f .operation) 1
 -- ---- what is matched at one go through the elements
 
 unfoldable pub matchedBy : Matched → Element → Bool
-matchedBy Nothing x = false
 matchedBy All x = true
 matchedBy (OfType t) x = eqb (x .kind) t
 matchedBy (WithId k) x = sameKey (x .id) k
-
--- by an id that was read: a null id matches nothing
-unfoldable pub matchedId : ReadingId → Matched
-matchedId (id′.At p id.Null) = Nothing
-matchedId (id′.At p (id.Named g x)) = WithId (keyOf g x)
-matchedId (id′.Refused r) = Nothing
 
 -- the test of a filter of ids
 abbrev pub withIds : List Key → Element → Bool

@@ -2,3 +2,4 @@ pub mod Filter
 pub mod Meaning
 pub mod Message
 pub mod Choice
+pub mod Index

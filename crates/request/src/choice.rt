@@ -1,12 +1,14 @@
 // The filters of a request, put to the elements of a store: a flag for each element says whether they leave it in. A filter is
 // read once, and put to every element as it is read, so that the bytes of a request are not read again for each.
 ghost use mathlib.Core.Path.{_≡_};
-ghost use Prim.Native.Nat.{_+_, _*_, _≤_};
+ghost use Prim.Native.Nat.{_+_, _*_, _≤_, _<_};
 ghost use lib.ListN.{length};
 ghost use lib.Dec.{eqb};
 ghost use Rattle.request.specs.Filter.{idsField, kindPart, filterAt};
-ghost use Rattle.request.specs.Meaning.{keysIn, filterRead};
-ghost use Rattle.request.specs.Choice.{elementOf, elementsIn, flagOf, setFlags, setByFilter, matchedBy, matchedId, withIds, kindMatches, Chooses};
+ghost use Rattle.request.specs.Meaning.{keyIn, keysIn, filterRead};
+ghost use Rattle.request.specs.Choice.{elementOf, elementsIn, flagOf, setFlags, setByFilter, matchedBy, withIds, kindMatches, Chooses};
+ghost use Rattle.request.specs.Index.{markOf, NoHeads, Indexed};
+ghost use Rattle.request.specs.declared.choice.Matched.the-variants.{WithId};
 use crate::filter::ALL;
 use crate::filter::FILTER;
 use crate::filter::FILTER_IDS;
@@ -27,7 +29,6 @@ use store::table::same_key;
 
 // What is matched at one go through the elements.
 pub enum Matched {
-    Nothing,
     All,
     OfType(u64),
     WithId(Key),
@@ -39,7 +40,6 @@ fn is_matched(m: Matched, rows: &[u64], ids: &[u64], i: usize) -> bool
     ensures { λ r. ⌜ r ≡ matchedBy m (elementOf (now (rows .entry)) (now (ids .entry)) i) ⌝ }
 {
     match m {
-        Matched::Nothing => false,
         Matched::All => true,
         Matched::OfType(t) => rows[i * 6 + 2] == t,
         Matched::WithId(k) => same_key(key_at(ids, i * 3), k),
@@ -60,23 +60,108 @@ fn set_matched(m: Matched, rows: &[u64], ids: &[u64], n: usize, flags: &mut [u8]
     }
 }
 
-// What an id that was read matches: a null id, which no element has, matches nothing.
-fn matched_id(c: ReadingId) -> Matched
-    ensures { λ r. ⌜ r ≡ matchedId c ⌝ }
+// Where the mark of an id stands among 1,024.
+fn mark_of(k: Key) -> usize
+    ensures { λ r. ⌜ (r ≡ markOf k) × (r < 1024) ⌝ }
+{
+    ((k.number % 1024 + k.low % 1024) % 1024) as usize
+}
+
+// The elements by the marks of their ids, so that an id of a filter is not put to each of them: in `heads` the last element of each
+// mark, in `links` the one before each element that has the same mark, both counted from 1, and 0 where there is none. Nothing is
+// written where `links` has no room for all.
+fn index_ids(ids: &[u64], n: usize, heads: &mut [u16], links: &mut [u16])
+    requires { ⌜ (n * 3 ≤ length (now ids)) × (1024 ≤ length (now heads)) × (length (now links) ≤ 256) × NoHeads (now heads) ⌝ }
+    ensures { λ _. ⌜ Indexed (now (heads .exit)) (now (links .exit)) (now (ids .entry)) n ⌝ }
+{
+    if links.len() < n {
+        return;
+    }
+    let mut i = 0;
+    while i < n {
+        let mark = mark_of(key_at(ids, i * 3));
+        links[i] = heads[mark];
+        heads[mark] = (i + 1) as u16;
+        i += 1;
+    }
+}
+
+// The flags of the elements with this id are set. Equal ids have equal marks, so only the elements with its mark are looked at, from
+// the last to the first; all are, where there are too many for the index.
+fn set_key(
+    k: Key,
+    rows: &[u64],
+    ids: &[u64],
+    n: usize,
+    heads: &[u16],
+    links: &[u16],
+    flags: &mut [u8],
+    to: u8,
+)
+    requires { ⌜ (n * 6 ≤ length (now rows)) × (n * 3 ≤ length (now ids)) × (n ≤ length (now flags)) × Indexed (now heads) (now links) (now ids) n ⌝ }
+    ensures { λ _. ⌜ now (flags .exit) ≡ setFlags (matchedBy (WithId k)) to (elementsIn (now (rows .entry)) (now (ids .entry)) n) (now (flags .entry)) ⌝ }
+{
+    if links.len() < n {
+        set_matched(Matched::WithId(k), rows, ids, n, flags, to);
+        return;
+    }
+    let mut left = heads[mark_of(k)] as usize;
+    while 0 < left {
+        let i = left - 1;
+        if is_matched(Matched::WithId(k), rows, ids, i) {
+            flags[i] = to;
+        }
+        left = links[i] as usize;
+    }
+}
+
+// An id that was read: a null id, which no element has, sets nothing.
+fn set_id(
+    c: ReadingId,
+    rows: &[u64],
+    ids: &[u64],
+    n: usize,
+    heads: &[u16],
+    links: &[u16],
+    flags: &mut [u8],
+    to: u8,
+)
+    requires { ⌜ (n * 6 ≤ length (now rows)) × (n * 3 ≤ length (now ids)) × (n ≤ length (now flags)) × Indexed (now heads) (now links) (now ids) n ⌝ }
+    ensures { λ _. ⌜ now (flags .exit) ≡ setFlags (withIds (keyIn c)) to (elementsIn (now (rows .entry)) (now (ids .entry)) n) (now (flags .entry)) ⌝ }
 {
     match c {
-        ReadingId::Refused(_) => Matched::Nothing,
+        ReadingId::Refused(_) => {}
         ReadingId::At(_, x) => match x {
-            ExtendedGuid::Null => Matched::Nothing,
-            ExtendedGuid::Named(g, number) => Matched::WithId(key_of(g, number as u64)),
+            ExtendedGuid::Null => {}
+            ExtendedGuid::Named(g, number) => {
+                set_key(
+                    key_of(g, number as u64),
+                    rows,
+                    ids,
+                    n,
+                    heads,
+                    links,
+                    flags,
+                    to,
+                );
+            }
         },
     }
 }
 
-// The ids of a filter, in the part that their data run is: one go through the elements for each. The answer is the reading behind
-// them, a refusal at the 65th.
-fn set_with_ids(d: &[u8], rows: &[u64], ids: &[u64], n: usize, flags: &mut [u8], to: u8) -> Reading
-    requires { ⌜ (n * 6 ≤ length (now rows)) × (n * 3 ≤ length (now ids)) × (n ≤ length (now flags)) ⌝ }
+// The ids of a filter, in the part that their data run is: each is looked up as it is read. The answer is the reading behind them,
+// a refusal at the 65th.
+fn set_with_ids(
+    d: &[u8],
+    rows: &[u64],
+    ids: &[u64],
+    n: usize,
+    heads: &[u16],
+    links: &[u16],
+    flags: &mut [u8],
+    to: u8,
+) -> Reading
+    requires { ⌜ (n * 6 ≤ length (now rows)) × (n * 3 ≤ length (now ids)) × (n ≤ length (now flags)) × Indexed (now heads) (now links) (now ids) n ⌝ }
     ensures { λ r. ⌜ (r ≡ idsField (now (d .entry))) × (now (flags .exit) ≡ setFlags (withIds (keysIn (now (d .entry)))) to (elementsIn (now (rows .entry)) (now (ids .entry)) n) (now (flags .entry))) ⌝ }
 {
     let mut at = one_number(d);
@@ -88,7 +173,7 @@ fn set_with_ids(d: &[u8], rows: &[u64], ids: &[u64], n: usize, flags: &mut [u8],
         if i == MOST_IDS {
             return next.need(false, 9, at.place());
         }
-        set_matched(matched_id(id), rows, ids, n, flags, to);
+        set_id(id, rows, ids, n, heads, links, flags, to);
         at = next;
         i += 1;
     }
@@ -104,10 +189,12 @@ fn put_kind(
     rows: &[u64],
     ids: &[u64],
     n: usize,
+    heads: &[u16],
+    links: &[u16],
     flags: &mut [u8],
     to: u8,
 ) -> Reading
-    requires { ⌜ (n * 6 ≤ length (now rows)) × (n * 3 ≤ length (now ids)) × (n ≤ length (now flags)) ⌝ }
+    requires { ⌜ (n * 6 ≤ length (now rows)) × (n * 3 ≤ length (now ids)) × (n ≤ length (now flags)) × Indexed (now heads) (now links) (now ids) n ⌝ }
     ensures { λ r. ⌜ (r ≡ kindPart (now (s .entry)) kind c) × (now (flags .exit) ≡ setFlags (kindMatches (now (s .entry)) kind c) to (elementsIn (now (rows .entry)) (now (ids .entry)) n) (now (flags .entry))) ⌝ }
 {
     if kind == ALL {
@@ -121,7 +208,7 @@ fn put_kind(
     }
     if kind == WITH_IDS {
         let listed = c.start(s, FILTER, FILTER_IDS, false, true);
-        let e = set_with_ids(listed.run(s), rows, ids, n, flags, to);
+        let e = set_with_ids(listed.run(s), rows, ids, n, heads, links, flags, to);
         return listed.closed(s, e);
     }
     c
@@ -145,9 +232,11 @@ pub fn put_filter(
     rows: &[u64],
     ids: &[u64],
     n: usize,
+    heads: &[u16],
+    links: &[u16],
     flags: &mut [u8],
 ) -> Reading
-    requires { ⌜ (n * 6 ≤ length (now rows)) × (n * 3 ≤ length (now ids)) × (n ≤ length (now flags)) ⌝ }
+    requires { ⌜ (n * 6 ≤ length (now rows)) × (n * 3 ≤ length (now ids)) × (n ≤ length (now flags)) × Indexed (now heads) (now links) (now ids) n ⌝ }
     ensures { λ r. ⌜ (r ≡ filterAt (now (s .entry)) c) × (now (flags .exit) ≡ setByFilter (filterRead (now (s .entry)) c) (elementsIn (now (rows .entry)) (now (ids .entry)) n) (now (flags .entry))) ⌝ }
 {
     let o = c.start(s, SUB_REQUEST, FILTER, true, true);
@@ -155,7 +244,7 @@ pub fn put_filter(
     let last = f.last;
     let k = o.closed(s, last);
     let to = flag_of(f.operation);
-    put_kind(s, f.kind, k, rows, ids, n, flags, to).end(s, FILTER)
+    put_kind(s, f.kind, k, rows, ids, n, heads, links, flags, to).end(s, FILTER)
 }
 
 // So many filters from c on, put to the n elements of the tables: all elements start in, and each filter in turn sets those it
@@ -174,10 +263,16 @@ pub fn choose(
     ensures { λ _. ⌜ Chooses (now (s .entry)) c count (now (rows .entry)) (now (ids .entry)) n (now (flags .entry)) (now (flags .exit)) ⌝ }
 {
     set_matched(Matched::All, rows, ids, n, flags, 1);
+    if count == 0 {
+        return;
+    }
+    let mut heads = [0u16; 1024];
+    let mut links = [0u16; 256];
+    index_ids(ids, n, &mut heads, &mut links);
     let mut at = c;
     let mut i = 0;
     while i < count {
-        at = put_filter(s, at, rows, ids, n, flags);
+        at = put_filter(s, at, rows, ids, n, &heads, &links, flags);
         i += 1;
     }
 }

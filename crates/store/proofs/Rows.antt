@@ -10,7 +10,10 @@ use native.Mathlib.Numerals.{add-one}
 use native.Mathlib.Omega.{arith}
 use lib.ListN.{length, take, drop, length-append}
 use lib.Seq.{take-at, drop-at, drop-drop}
+use lib.Dec.{eqb}
+use borrow.Author.Tests.{eq-eqb, ne-eqb, eqb-true}
 use Rattle.laws.specs.Once.{seen}
+use Rattle.laws.proofs.Cases.{by-eq, impossible}
 use Rattle.store.specs.Element.{sameKey}
 use Rattle.store.specs.Tables.{keyAt, keysAt, flat}
 use Rattle.store.specs.declared.element.Key.{Key}
@@ -80,6 +83,19 @@ keys-front t width offset n =
 -- a key within its row, and its row within the table
 pub key-room : (i n width offset size : ℕ) → i < n → offset + 3 ≤ width → n * width ≤ size → i * width + offset + 3 ≤ size
 key-room i n width offset size h o s = omega (arith, mul-le-mul-right width h, suc-mul i width)
+
+-- equal keys are equal in each number
+pub same-numbers : (a b : Key) → sameKey a b ≡ true → (a .low ≡ b .low) × (a .high ≡ b .high) × (a .number ≡ b .number)
+unfolding sameKey
+same-numbers a b e =
+    by-eq (a .low) (b .low)
+    (λ l.
+    by-eq (a .high) (b .high)
+    (λ h.
+    let z : eqb (a .number) (b .number) ≡ true = rw (eq-eqb _ _ l, eq-eqb _ _ h) at e in
+    (l, h, eqb-true (a .number) (b .number) z))
+    (λ h. let z : false ≡ true = rw (eq-eqb _ _ l, ne-eqb _ _ h) at e in impossible (cc)))
+    (λ l. let z : false ≡ true = rw (ne-eqb _ _ l) at e in impossible (cc))
 
 pub seen-first : (k x : Key) (l : List Key) → sameKey k x ≡ true → seen sameKey k (x ∷ l) ≡ true
 unfolding seen

@@ -28,7 +28,7 @@ use Rattle.store.specs.declared.element.ReadElement.the-variants as elem
 use Rattle.store.specs.declared.package.Packaged.{Packaged}
 use Rattle.store.specs.declared.package.Packaged.the-variants as packaged
 use Rattle.store.specs.declared.package.Stored.the-variants as stored
-use Rattle.store.proofs.Rows.{put-more, keys-flat}
+use Rattle.store.proofs.Rows.{put-more, keys-flat, same-numbers}
 use Rattle.store.proofs.Fields.{element-within}
 
 -- ---- rows and ids
@@ -97,17 +97,7 @@ held-start s c rows rowmarks ids idmarks g =
 
 -- one key more, with its mark set
 same-mark : (a b : Key) → sameKey a b ≡ true → markOf a ≡ markOf b
-unfolding sameKey
-same-mark a b e =
-    by-eq (a .low) (b .low)
-    (λ l.
-    by-eq (a .high) (b .high)
-    (λ h.
-    let z : eqb (a .number) (b .number) ≡ true = rw (eq-eqb _ _ l, eq-eqb _ _ h) at e in
-    let n : a .number ≡ b .number = eqb-true (a .number) (b .number) z in
-    rw (l, n))
-    (λ h. let z : false ≡ true = rw (eq-eqb _ _ l, ne-eqb _ _ h) at e in impossible (cc)))
-    (λ l. let z : false ≡ true = rw (ne-eqb _ _ l) at e in impossible (cc))
+same-mark a b e = let n = same-numbers a b e in rw (n .0, n .2)
 
 mark-lt : (k : Key) → markOf k < 4096
 mark-lt k = omega arith

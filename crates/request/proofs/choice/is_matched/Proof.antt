@@ -8,9 +8,6 @@ use Rattle.request.proofs.choice.is_matched.Tie as tie
 enum-told : tie.Need-enum-told
 enum-told c = search needs
 
-enum-told-2 : tie.Need-enum-told-2
-enum-told-2 c = search needs
-
 enum-known-m : tie.Need-enum-known-m
 enum-known-m c = search needs
 
@@ -43,23 +40,18 @@ unfolding matchedBy
 returns c = rw (c .enum-told .given .1)
 
 returns-2 : tie.Need-returns-2
-unfolding matchedBy
-returns-2 c = rw (c .enum-told2 .given .1)
+unfolding matchedBy elementOf
+returns-2 c = rw (c .before .before .m .given .1)
 
 returns-3 : tie.Need-returns-3
 unfolding matchedBy elementOf
-returns-3 c = rw (c .before .before .m .given .1)
-
-returns-4 : tie.Need-returns-4
-unfolding matchedBy elementOf
-returns-4 c = rw (c .before .before .before .m2 .given .1, c .same-key .ensures, c .before .key-at .ensures)
+returns-3 c = rw (c .before .before .before .m2 .given .1, c .same-key .ensures, c .before .key-at .ensures)
 
 pub is-matched-spec : {M : Type 1} → statement M
 is-matched-spec =
     tie.close
     (tie.spec
     enum-told
-    enum-told-2
     enum-known-m
     mul-result
     add-result
@@ -71,5 +63,4 @@ is-matched-spec =
     same-key-requires
     returns
     returns-2
-    returns-3
-    returns-4)
+    returns-3)

@@ -40,7 +40,7 @@ returns c =
     let k = c .before .before .before in
     let o = k .before .before in
     let f = o .before .before in
-    let a = f .before .before .before .before .before .before .before .args in
+    let a = f .before .before .before .before .before .before .before .before .before .args in
     let e = filter-of-kind (a .s .now) (a .c) (elementsIn (a .rows .now) (a .ids .now) (a .n)) (a .flags .now) in (
       rw (c .end .ensures, k .put-kind .ensures .0, o .before .closed .ensures, f .filter-fields .ensures, f .before .run .ensures, f .before .before .start .ensures),
       k .put-kind .ensures .1

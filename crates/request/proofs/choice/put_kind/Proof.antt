@@ -19,7 +19,7 @@ returns : tie.Need-returns
 returns c =
     let k = c .before .before in
     let t = k .before .before in
-    let a = t .before .before .before .before .before .args in
+    let a = t .before .before .before .before .before .before .before .args in
     let e = kind-all (a .s .now) (a .kind) (a .c) (a .to) (elementsIn (a .rows .now) (a .ids .now) (a .n)) (a .flags .now) (t .if1 .taken) in
     (e .0, k .set-matched .ensures ∙ e .1)
 
@@ -40,7 +40,7 @@ returns-2 c =
     let k = c .before .before in
     let v = k .before .before in
     let t = v .before .before in
-    let a = t .before .before .before .before .before .before .args in
+    let a = t .before .before .before .before .before .before .before .before .args in
     let e = kind-type (a .s .now) (a .kind) (a .c) (a .to) (elementsIn (a .rows .now) (a .ids .now) (a .n)) (a .flags .now) (t .if2 .taken) in
     (v .before .type-part .ensures ∙ e .0, k .set-matched2 .ensures ∙ rw (v .value .ensures, v .before .type-part .ensures) (e .1))
 
@@ -67,13 +67,13 @@ returns-3 c =
     let w = c .before .before .before in
     let r = w .before .before in
     let t = r .before .before in
-    let a = t .before .before .before .before .before .before .before .args in
+    let a = t .before .before .before .before .before .before .before .before .before .args in
     let e = kind-ids (a .s .now) (a .kind) (a .c) (a .to) (elementsIn (a .rows .now) (a .ids .now) (a .n)) (a .flags .now) (t .if3 .taken) in
     (rw (c .closed .ensures, w .set-with-ids .ensures .0, r .run .ensures, r .before .start .ensures) (e .0), w .set-with-ids .ensures .1 ∙ rw (r .run .ensures, r .before .start .ensures) (e .1))
 
 returns-4 : tie.Need-returns-4
 returns-4 c =
-    let a = c .before .before .before .before .before .before .before .args in
+    let a = c .before .before .before .before .before .before .before .before .before .args in
     kind-other (a .s .now) (a .kind) (a .c) (a .to) (elementsIn (a .rows .now) (a .ids .now) (a .n)) (a .flags .now) (c .before .before .if1 .left) (c .before .if2 .left) (c .if3 .left)
 
 pub put-kind-spec : {M : Type 1} → statement M

@@ -13,12 +13,12 @@ use Rattle.request.proofs.choice.set_with_ids.Statement.{statement}
 use Rattle.request.proofs.choice.set_with_ids.Tie as tie
 
 abbrev Inv-loop : tie.InvT-loop
-Inv-loop d rows ids n flags₀ to at₀ count i₀ flags at i =
+Inv-loop d rows ids n heads links flags₀ to at₀ count i₀ flags at i =
     (length flags ≡ length flags₀)
     × SettingIds d to (elementsIn rows ids n) count (setFlags (withIds (keysIn d)) to (elementsIn rows ids n) flags₀) flags at i
 
 abbrev μ-loop : tie.MeasureT-loop
-μ-loop d rows ids n flags₀ to at₀ count i₀ flags at i = count - i
+μ-loop d rows ids n heads links flags₀ to at₀ count i₀ flags at i = count - i
 
 one-number-requires : tie.Need-one-number-requires Inv-loop μ-loop
 one-number-requires c κs = search needs
@@ -51,14 +51,12 @@ returns c =
     let u = ids-over (l .loop .inv .1) (g .before .loop-test .taken) (c .before .before .if1 .taken) in
     (rw (c .need .ensures, c .before .place .ensures, c .before .before .before .on .ensures, g .extended-guid .ensures) (u .0), u .1)
 
-matched-id-requires : tie.Need-matched-id-requires Inv-loop μ-loop
-matched-id-requires c κs = search needs
-
-set-matched-requires : tie.Need-set-matched-requires Inv-loop μ-loop
-set-matched-requires c κs =
-    let l = c .before .before .before .before .before .before in
+set-id-requires : tie.Need-set-id-requires Inv-loop μ-loop
+set-id-requires c κs =
+    let l = c .before .before .before .before .before in
     let e = l .loop .inv .0 in
-    (omega arith, omega arith, omega arith)
+    let b = l .before .before .before .before .before .before .before .before .before in
+    (omega arith, omega arith, omega arith, b .pre .3)
 
 add-i : tie.Need-add-i Inv-loop μ-loop
 add-i c = omega arith
@@ -69,11 +67,11 @@ loop-less c = omega arith
 loop-again : tie.Need-loop-again Inv-loop μ-loop
 loop-again c =
     let m = c .before .before in
-    let o = m .before .before .before .before in
+    let o = m .before .before .before in
     let g = o .before in
     let l = g .before .before in
-    let u = ids-more (l .loop .inv .1) (g .before .loop-test .taken) (m .before .before .before .if1 .left) in
-    (m .set-matched .kept .1 .1 .1 .1 .0 ∙ l .loop .inv .0, rw (o .on .ensures, m .set-matched .ensures, m .before .before .matched-id .ensures, g .extended-guid .ensures) u)
+    let u = ids-more (l .loop .inv .1) (g .before .loop-test .taken) (m .before .before .if1 .left) in
+    (m .set-id .kept .1 .1 .1 .1 .1 .1 .0 ∙ l .loop .inv .0, rw (o .on .ensures, m .set-id .ensures, g .extended-guid .ensures) u)
 
 same-length-2 : tie.Need-same-length-2 Inv-loop μ-loop
 same-length-2 c = c .before .loop .inv .0
@@ -96,8 +94,7 @@ set-with-ids-spec =
     need-requires
     same-length
     returns
-    matched-id-requires
-    set-matched-requires
+    set-id-requires
     add-i
     loop-less
     loop-again
