@@ -1,16 +1,15 @@
 -- The index of the elements' ids, built row by row: what both tables hold after i rows. It is for `choice::index_ids`; nothing that
 -- is promised of a choice speaks of it.
 -- Assumes nothing.
-use mathlib.Core.Path.{_≡_, refl, sym, _∙_}
-use mathlib.Core.Bool.{true, false}
+use mathlib.Core.Path.{_≡_, sym, _∙_}
 use mathlib.Core.List.{List}
-use Prim.Native.Nat.{ℕ, zero, suc, _+_, _≤_, _<_}
+use Prim.Native.Nat.{ℕ, suc, _+_, _≤_, _<_}
 use native.Mathlib.Omega.{arith}
-use lib.ListN.{length, getD, set, length-set}
+use lib.ListN.{length, getD, set}
 use lib.Seq.{getD-set-same, getD-set-other}
 use borrow.Author.Tests.{eq-eqb, ne-eqb}
 use Rattle.laws.proofs.Cases.{by-eq}
-use Rattle.request.specs.Index.{markOf, markAt, lastWith, NoHeads, Linked, Indexed}
+use Rattle.request.specs.Index.{markAt, lastWith, NoHeads, Linked, Indexed}
 
 pub linked-start : (heads links ids : List ℕ) → NoHeads heads → Linked heads links ids 0
 unfolding lastWith

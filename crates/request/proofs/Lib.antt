@@ -14,3 +14,4 @@ pub mod Putting
 pub mod WrongChoices
 pub mod Indexing
 pub mod Following
+pub mod ShortIds

@@ -1,6 +1,11 @@
 // Filters, read one at a time: kind and operation, and the object that the kind has inside.
 ghost use mathlib.Core.Path.{_≡_};
-ghost use Rattle.request.specs.Filter.{kindTaken, kindField, filterFields, oneNumber, typePart, idsFrom, idsField, idsPart, kindPart, filterAt, filtersFrom};
+ghost use Prim.Native.Nat.{ℕ, _+_, _≤_, _<_};
+ghost use lib.ListN.{length};
+ghost use Rattle.numbers.specs.ExtendedGuid.{readExtendedGuid};
+ghost use Rattle.objects.specs.Steps.{idOn, onId};
+ghost use Rattle.objects.specs.declared.reading.Reading.the-variants.{At};
+ghost use Rattle.request.specs.Filter.{kindTaken, kindField, filterFields, oneNumber, typePart, idStep, idsFrom, idsField, idsPart, kindPart, filterAt, filtersFrom};
 use objects::reading::Reading;
 
 // The types of the objects.
@@ -79,6 +84,46 @@ pub fn type_part(s: &[u8], c: Reading) -> Reading
     o.closed(s, one_number(o.run(s)))
 }
 
+// How long the id at the front of a part is, where that is seen without reading it: in the form of 17 bytes, and in that of 18 where
+// the number is in the form's range, as it is 32 or more if its upper byte is 8 or more. Else 0.
+fn short_id(s: &[u8]) -> usize
+    ensures { λ r. ⌜ (0 < r → (r ≤ length (now (s .entry))) × ((at : ℕ) → onId (idOn at (readExtendedGuid (now (s .entry)))) ≡ At (at + r) 0)) ⌝ }
+{
+    if s.len() < 18 {
+        return 0;
+    }
+    let zeros = u8::trailing_zeros(s[0]);
+    if zeros == 2 {
+        return 17;
+    }
+    if zeros != 5 {
+        return 0;
+    }
+    if s[1] < 8 {
+        return 0;
+    }
+    18
+}
+
+// Past the id at c. Nobody asks for its GUID here, so where its length is seen the GUID is not read.
+fn past_id(d: &[u8], c: Reading) -> Reading
+    ensures { λ r. ⌜ r ≡ idStep (now (d .entry)) c ⌝ }
+{
+    match c {
+        Reading::Refused(r) => Reading::Refused(r),
+        Reading::At(at, _) => {
+            if d.len() < at {
+                return c.extended_guid(d).on();
+            }
+            let n = short_id(&d[at..]);
+            if n == 0 {
+                return c.extended_guid(d).on();
+            }
+            Reading::At(at + n, 0)
+        }
+    }
+}
+
 // n ids, from c on.
 fn ids_from(d: &[u8], n: u64, c: Reading) -> Reading
     ensures { λ r. ⌜ r ≡ idsFrom 64 (now (d .entry)) n c ⌝ }
@@ -86,7 +131,7 @@ fn ids_from(d: &[u8], n: u64, c: Reading) -> Reading
     let mut at = c;
     let mut i = 0;
     while i < n {
-        let next = at.extended_guid(d).on();
+        let next = past_id(d, at);
         if i == MOST_IDS {
             return next.need(false, 9, at.place());
         }

@@ -18,11 +18,8 @@ abbrev μ-loop : tie.MeasureT-loop
 loop-holds : tie.Need-loop-holds Inv-loop μ-loop
 loop-holds c = let e : c .before .args .n - 0 ≡ c .before .args .n = omega arith in (omega arith, omega arith, rw e)
 
-extended-guid-requires : tie.Need-extended-guid-requires Inv-loop μ-loop
-extended-guid-requires c κs = search needs
-
-on-requires : tie.Need-on-requires Inv-loop μ-loop
-on-requires c κs = search needs
+past-id-requires : tie.Need-past-id-requires Inv-loop μ-loop
+past-id-requires c κs = search needs
 
 place-requires : tie.Need-place-requires Inv-loop μ-loop
 place-requires c κs = search needs
@@ -32,10 +29,10 @@ need-requires c κs = search needs
 
 returns : tie.Need-returns Inv-loop μ-loop
 returns c =
-    let l = c .before .before .before .before .before .before in
+    let l = c .before .before .before .before .before in
     let a = l .before .before .args in
     let f = l .loop .inv .2 ∙ ids-over (a .d .now) (a .n) (l .loop .i) (l .loop .at) (omega arith) (c .before .before .if1 .taken) in
-    rw (c .need .ensures, c .before .place .ensures, c .before .before .before .on .ensures, c .before .before .before .before .extended-guid .ensures) (sym f)
+    rw (c .need .ensures, c .before .place .ensures, c .before .before .before .past-id .ensures) (sym f)
 
 add-i : tie.Need-add-i Inv-loop μ-loop
 add-i c = omega arith
@@ -45,10 +42,10 @@ loop-less c = omega arith
 
 loop-again : tie.Need-loop-again Inv-loop μ-loop
 loop-again c =
-    let l = c .before .before .before .before in
+    let l = c .before .before .before in
     let a = l .before .before .args in
     let f = l .loop .inv .2 ∙ ids-more (a .d .now) (a .n) (l .loop .i) (l .loop .at) (omega arith) (omega arith) in
-    (omega arith, omega arith, rw (c .before .on .ensures, c .before .before .extended-guid .ensures) f)
+    (omega arith, omega arith, rw (c .before .past-id .ensures) f)
 
 returns-2 : tie.Need-returns-2 Inv-loop μ-loop
 returns-2 c =
@@ -63,8 +60,7 @@ ids-from-spec =
     Inv-loop
     μ-loop
     loop-holds
-    extended-guid-requires
-    on-requires
+    past-id-requires
     place-requires
     need-requires
     returns
