@@ -179,6 +179,20 @@ module _ (t t₀ t′ : List ℕ) (k : ℕ) (y : Range) (fits : k * 4 + 4 ≤ le
   unfolding numbersOf
   put-last w inv = put-split ∙ ap (λ (p : List ℕ). p ++ drop (k * 4 + 4) t) inv ∙ ap (λ (r : List ℕ). w ++ r) put-same
 
+-- one row put over another: the rows behind it stand
+pub put-over : (t t′ : List ℕ) (i j count : ℕ) (x : Range) → j ≡ i + 1 → j ≤ count → count * 4 ≤ length t → t′ ≡ take (i * 4) t ++ (rangeNumbers x ++ drop (i * 4 + 4) t)
+    → t′ ≡ take (i * 4) t ++ (numbersOf (x ∷ rangesAt t j (count - j)) ++ drop (i * 4 + 4 + (count - j) * 4) t)
+unfolding numbersOf
+put-over t t′ i j count x e h f put =
+    let m = (count - j) * 4 in
+    let k : i * 4 + 4 ≡ j * 4 = omega arith in
+    let behind : numbersOf (rangesAt t j (count - j)) ++ drop (j * 4 + m) t ≡ drop (j * 4) t =
+    ap (λ (l : List ℕ). l ++ drop (j * 4 + m) t) (numbers-rows t j (count - j) (omega arith))
+    ∙ ap (λ (l : List ℕ). take m (drop (j * 4) t) ++ l) (sym (drop-drop m (j * 4) t))
+    ∙ take-append-drop m (drop (j * 4) t) in
+    let p : t′ ≡ take (i * 4) t ++ (rangeNumbers x ++ drop (j * 4) t) = rw k at put in
+    rw k (p ∙ ap (λ (l : List ℕ). take (i * 4) t ++ (rangeNumbers x ++ l)) (sym behind))
+
 -- ---- what `add_range` answers
 
 module _ (t : List ℕ) (count i j : ℕ) (y : Range) (w : List Range) (e : w ≡ rangesAt t 0 i ++ (y ∷ rangesAt t j (count - j))) where

@@ -110,13 +110,21 @@ fn put_range(t: &mut [u64], k: usize, x: Range)
     t[at + 3] = x.to;
 }
 
-// How many rows lie wholly before x: found by halving, as the rows are in order.
+// How many rows lie wholly before x: found by halving, as the rows are in order. The last row is looked at first, so that what
+// comes in order costs one comparison.
 pub fn rows_before(t: &[u64], count: usize, x: Range) -> usize
     requires { ⌜ (count * 4 ≤ length (now t)) × Normal (rangesAt (now t) 0 count) ⌝ }
     ensures { λ i. ⌜ FirstNotBefore (now (t .entry)) count x i ⌝ }
 {
+    if count == 0 {
+        return 0;
+    }
+    let last = count - 1;
+    if is_before(range_at(t, last), x) {
+        return count;
+    }
     let mut low = 0;
-    let mut high = count;
+    let mut high = last;
     while low < high {
         let middle = low + (high - low) / 2;
         if is_before(range_at(t, middle), x) {
@@ -151,6 +159,11 @@ pub fn shift(t: &mut [u64], i: usize, j: usize, count: usize, x: Range)
     requires { ⌜ (i ≤ j) × (j ≤ count) × (count * 4 ≤ length (now t)) × (i * 4 + 4 + (count - j) * 4 ≤ length (now t)) ⌝ }
     ensures { λ _. ⌜ now (t .exit) ≡ take (i * 4) (now (t .entry)) ++ (numbersOf (x ∷ rangesAt (now (t .entry)) j (count - j)) ++ drop (i * 4 + 4 + (count - j) * 4) (now (t .entry))) ⌝ }
 {
+    // One row for another: the rows behind it stand.
+    if j == i + 1 {
+        put_range(t, i, x);
+        return;
+    }
     let mut k = i;
     let mut n = j;
     let mut y = x;
