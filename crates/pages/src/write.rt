@@ -5,7 +5,6 @@ ghost use Prim.Native.Nat.{_+_, _*_, _≤_};
 ghost use lib.ListN.{length, take};
 ghost use Rattle.laws.specs.Placed.{Lays};
 ghost use Rattle.store.specs.RangeTable.{rangesAt};
-ghost use Rattle.store.specs.KnowledgeWritten.{knowledgeBytes};
 ghost use Rattle.pages.specs.Written.{versionBytes, elementsBytes, subResponseBytes, changesBytes, endsBytes, answerBytes, partialByte};
 ghost use Rattle.pages.specs.Tables.{chosenIn, answerFront, answerMiddle, fixedLength};
 use crate::wanted::element_at;
@@ -14,8 +13,7 @@ use numbers::extended_guid::ExtendedGuid;
 use numbers::extended_guid::extended_guid_length;
 use objects::layout::part;
 use store::element::PACKAGE;
-use store::knowledge_write::knowledge_length;
-use store::knowledge_write::write_knowledge;
+use store::knowledge_write::lay_knowledge;
 use store::lay::lay_byte;
 use store::lay::lay_end;
 use store::lay::lay_extended_guid;
@@ -137,15 +135,6 @@ fn lay_middle(out: &mut [u8], at: usize, id: u64, index: ExtendedGuid, partial: 
     let behind_package = lay_end(out, at, PACKAGE);
     let behind_sub_response = lay_sub_response(out, behind_package, id);
     lay_changes(out, behind_sub_response, index, partial)
-}
-
-// The knowledge of the first rows.
-fn lay_knowledge(out: &mut [u8], at: usize, table: &[u64], ranges: usize) -> usize
-    requires { ⌜ (ranges ≤ 512) × (ranges * 4 ≤ length (now table)) × (at + length (knowledgeBytes (rangesAt (now table) 0 ranges)) ≤ length (now out)) ⌝ }
-    ensures { λ r. ⌜ Lays at (knowledgeBytes (rangesAt (now (table .entry)) 0 ranges)) (now (out .entry)) r (now (out .exit)) ⌝ }
-{
-    write_knowledge(&mut out[at..], table, ranges);
-    at + knowledge_length(table, ranges)
 }
 
 // The ends.

@@ -13,6 +13,7 @@ pub mod OneAnswers
 pub mod WrongAnswers
 pub mod RangeRows
 pub mod RangeSearch
+pub mod ShortRanges
 pub mod Items
 pub mod Uniting
 pub mod KnowledgeForward

@@ -1,6 +1,6 @@
 // Ranges and entries of a cell knowledge, read one at a time.
 ghost use mathlib.Core.Path.{_≡_};
-ghost use Rattle.store.specs.Knowledge.{guidIn, rangeFields, itemOf, rangeItem, entryOf, entryItem, itemNext, itemKind, itemAt, onItem};
+ghost use Rattle.store.specs.Knowledge.{guidIn, rangeFields, itemOf, shortRange, rangeStart, rangeItem, entryOf, entryItem, itemNext, itemKind, itemAt, onItem};
 use crate::ranges::range_of;
 use numbers::guid::Guid;
 use numbers::refusal::Refusal;
@@ -16,6 +16,9 @@ pub const CELL: u64 = 0x14;
 pub const RANGE: u64 = 0x0F;
 
 pub const ENTRY: u64 = 0x17;
+
+// The first byte of a range's start of 16 bits. The second is twice the length of its data.
+pub const SHORT_RANGE: u8 = 0x78;
 
 // The fields of a range; `last` stands behind them.
 pub struct RangeFields {
@@ -65,11 +68,44 @@ fn item_of(x: Range, c: Reading) -> Item
     }
 }
 
+// Whether a range begins here by a start of 16 bits.
+fn is_short_range(s: &[u8], at: usize) -> bool
+    ensures { λ r. ⌜ r ≡ shortRange (now (s .entry)) at ⌝ }
+{
+    let n = s.len();
+    if n < at {
+        return false;
+    }
+    if n - at < 2 {
+        return false;
+    }
+    if s[at] != SHORT_RANGE {
+        return false;
+    }
+    s[at + 1] % 2 == 0
+}
+
+// The start of a range. Most are of 16 bits, and these are told by their two bytes alone.
+fn range_start(s: &[u8], c: Reading) -> Reading
+    ensures { λ r. ⌜ r ≡ rangeStart (now (s .entry)) c ⌝ }
+{
+    match c {
+        Reading::Refused(r) => Reading::Refused(r),
+        Reading::At(at, _) => {
+            if is_short_range(s, at) {
+                let n = s[at + 1] / 2;
+                return Reading::At(at + 2, n as u64);
+            }
+            c.start(s, CELL, RANGE, false, true)
+        }
+    }
+}
+
 // The range that begins here.
 fn range_item(s: &[u8], c: Reading) -> Item
     ensures { λ r. ⌜ r ≡ rangeItem (now (s .entry)) c ⌝ }
 {
-    let o = c.start(s, CELL, RANGE, false, true);
+    let o = range_start(s, c);
     let f = range_fields(o.run(s));
     let last = f.last;
     let x = f.range;

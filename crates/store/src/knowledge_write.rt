@@ -2,18 +2,21 @@
 // known before anything is written.
 ghost use mathlib.Core.Path.{_≡_};
 ghost use mathlib.Core.List.{_++_};
-ghost use Prim.Native.Nat.{_+_, _-_, _*_, _≤_};
+ghost use mathlib.Core.Bool.{false};
+ghost use Prim.Native.Nat.{_+_, _-_, _*_, _≤_, _<_};
 ghost use lib.ListN.{length, drop};
 ghost use Rattle.laws.specs.Placed.{Lays};
 ghost use Rattle.numbers.specs.Calls.{Writes};
+ghost use Rattle.objects.specs.Header.{startBytes};
 ghost use Rattle.store.specs.RangeTable.{rangesAt};
 ghost use Rattle.store.specs.KnowledgeWritten.{guidOf, rangeData, rangeBytes, rangesBytes, cellFront, cellBack, knowledgeBytes};
 use crate::item::CELL;
-use crate::item::RANGE;
+use crate::item::SHORT_RANGE;
 use crate::knowledge::CELL_HIGH;
 use crate::knowledge::CELL_LOW;
 use crate::knowledge::KNOWLEDGE;
 use crate::knowledge::SPECIALIZED;
+use crate::lay::lay_byte;
 use crate::lay::lay_end;
 use crate::lay::lay_guid;
 use crate::lay::lay_number;
@@ -80,13 +83,22 @@ fn lay_data(out: &mut [u8], at: usize, x: Range) -> usize
     lay_number(out, behind_from, x.to)
 }
 
+// The start of a range with n bytes of data, few enough for 16 bits.
+fn lay_range_start(out: &mut [u8], at: usize, n: usize) -> usize
+    requires { ⌜ (n < 128) × (at + 2 ≤ length (now out)) ⌝ }
+    ensures { λ r. ⌜ Lays at (startBytes 0x0F false n) (now (out .entry)) r (now (out .exit)) ⌝ }
+{
+    let behind_type = lay_byte(out, at, SHORT_RANGE);
+    lay_byte(out, behind_type, (n * 2) as u8)
+}
+
 // A range: how many bytes its data takes, all but the two of its header, stands in its start.
 fn lay_range(out: &mut [u8], at: usize, x: Range) -> usize
     requires { ⌜ at + length (rangeBytes x) ≤ length (now out) ⌝ }
     ensures { λ r. ⌜ Lays at (rangeBytes x) (now (out .entry)) r (now (out .exit)) ⌝ }
 {
     let n = range_length(x) - 2;
-    let behind_start = lay_start(out, at, RANGE, false, n as u64);
+    let behind_start = lay_range_start(out, at, n);
     lay_data(out, behind_start, x)
 }
 
@@ -129,19 +141,26 @@ fn lay_back(out: &mut [u8], at: usize) -> usize
     lay_end(out, behind_specialized, KNOWLEDGE)
 }
 
+// The knowledge of the first rows at a place.
+pub fn lay_knowledge(out: &mut [u8], at: usize, table: &[u64], rows: usize) -> usize
+    requires { ⌜ (rows * 4 ≤ length (now table)) × (at + length (knowledgeBytes (rangesAt (now table) 0 rows)) ≤ length (now out)) ⌝ }
+    ensures { λ r. ⌜ Lays at (knowledgeBytes (rangesAt (now (table .entry)) 0 rows)) (now (out .entry)) r (now (out .exit)) ⌝ }
+{
+    if rows == 0 {
+        let behind_start = lay_start(out, at, KNOWLEDGE, true, 0);
+        return lay_end(out, behind_start, KNOWLEDGE);
+    }
+    let behind_front = lay_front(out, at);
+    let behind_ranges = lay_ranges(out, behind_front, table, rows);
+    lay_back(out, behind_ranges)
+}
+
 // The knowledge of the first rows at the front of out.
 fn put_knowledge(out: &mut [u8], table: &[u64], rows: usize)
     requires { ⌜ (rows * 4 ≤ length (now table)) × (length (knowledgeBytes (rangesAt (now table) 0 rows)) ≤ length (now out)) ⌝ }
     ensures { λ _. ⌜ now (out .exit) ≡ knowledgeBytes (rangesAt (now (table .entry)) 0 rows) ++ drop (length (knowledgeBytes (rangesAt (now (table .entry)) 0 rows))) (now (out .entry)) ⌝ }
 {
-    if rows == 0 {
-        let behind_start = lay_start(out, 0, KNOWLEDGE, true, 0);
-        lay_end(out, behind_start, KNOWLEDGE);
-        return;
-    }
-    let behind_front = lay_front(out, 0);
-    let behind_ranges = lay_ranges(out, behind_front, table, rows);
-    lay_back(out, behind_ranges);
+    lay_knowledge(out, 0, table, rows);
 }
 
 // The knowledge of the first rows. Ruled out (proofs/KnowledgeWrongAnswers): a needed length of 2 for no row, as its end

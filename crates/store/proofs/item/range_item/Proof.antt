@@ -6,8 +6,8 @@ use borrow.Author.Needs.{needs}
 use Rattle.store.proofs.item.range_item.Statement.{statement}
 use Rattle.store.proofs.item.range_item.Tie as tie
 
-start-requires : tie.Need-start-requires
-start-requires c κs = search needs
+range-start-requires : tie.Need-range-start-requires
+range-start-requires c κs = search needs
 
 run-requires : tie.Need-run-requires
 run-requires c κs = search needs
@@ -23,13 +23,13 @@ item-of-requires c κs = search needs
 
 returns : tie.Need-returns
 unfolding rangeItem
-returns c = rw (c .item-of .ensures, c .before .closed .ensures, c .before .before .before .range-fields .ensures, c .before .before .before .before .run .ensures, c .before .before .before .before .before .start .ensures)
+returns c = rw (c .item-of .ensures, c .before .closed .ensures, c .before .before .before .range-fields .ensures, c .before .before .before .before .run .ensures, c .before .before .before .before .before .range-start .ensures)
 
 pub range-item-spec : {M : Type 1} → statement M
 range-item-spec =
     tie.close
     (tie.spec
-    start-requires
+    range-start-requires
     run-requires
     range-fields-requires
     closed-requires

@@ -20,8 +20,8 @@ range-length-requires c κs = search needs
 sub-n : tie.Need-sub-n
 sub-n c = omega (arith, range-is (c .before .before .args .x))
 
-lay-start-requires : tie.Need-lay-start-requires
-lay-start-requires c κs =
+lay-range-start-requires : tie.Need-lay-range-start-requires
+lay-range-start-requires c κs =
     let n = c .before .range-length .result - 2 in
     let h : n < 128 = omega arith in
     omega (arith, range-is (c .before .before .before .args .x), length-range-start n h)
@@ -47,10 +47,10 @@ returns c =
     let n : y .before .before .range-length .result - 2 ≡ length d = omega (arith, range-is (a .x)) in
     let l = length-range-start (length d) (omega arith) in
     let h : a .at + (2 + length d) ≤ length (a .out .now) = omega (arith, range-is (a .x)) in
-    let e : Lays (a .at) w (a .out .now) (y .lay-start .result) (y .lay-start .last .0) = rw n at (y .lay-start .ensures) in
-    lays-then (a .at) w d (a .out .now) (y .lay-start .result) (y .lay-start .last .0) (z .lay-data .result) (z .lay-data .last .0) (omega arith) e (z .lay-data .ensures)
+    let e : Lays (a .at) w (a .out .now) (y .lay-range-start .result) (y .lay-range-start .last .0) = rw n at (y .lay-range-start .ensures) in
+    lays-then (a .at) w d (a .out .now) (y .lay-range-start .result) (y .lay-range-start .last .0) (z .lay-data .result) (z .lay-data .last .0) (omega arith) e (z .lay-data .ensures)
 
 pub lay-range-spec : {M : Type 1} → statement M
 lay-range-spec =
     tie.close
-    (tie.spec range-length-requires sub-n lay-start-requires lay-data-requires same-length returns)
+    (tie.spec range-length-requires sub-n lay-range-start-requires lay-data-requires same-length returns)
