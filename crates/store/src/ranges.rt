@@ -30,17 +30,11 @@ pub struct Gathered {
 fn is_before(a: Range, b: Range) -> bool
     ensures { λ r. ⌜ r ≡ isBefore a b ⌝ }
 {
-    if a.upper < b.upper {
-        return true;
+    if a.upper != b.upper {
+        return a.upper < b.upper;
     }
-    if b.upper < a.upper {
-        return false;
-    }
-    if a.lower < b.lower {
-        return true;
-    }
-    if b.lower < a.lower {
-        return false;
+    if a.lower != b.lower {
+        return a.lower < b.lower;
     }
     if a.to == LAST {
         return false;
