@@ -1,6 +1,9 @@
 pub mod HeaderLaws
 pub mod HeaderForms
 pub mod Ahead
+pub mod Short
+pub mod Next
+pub mod Nested
 pub mod Shift
 pub mod Rules
 pub mod Local

@@ -1,6 +1,7 @@
 pub mod Header
 pub mod Nesting
 pub mod Steps
+pub mod Next
 pub mod Tellings
 pub mod Calls
 pub mod Cases

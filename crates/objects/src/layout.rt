@@ -2,8 +2,9 @@
 ghost use mathlib.Core.Path.{_≡_};
 ghost use Prim.Native.Nat.{_+_, _-_, _≤_, _<_, _^_};
 ghost use lib.ListN.{length, take, drop};
-ghost use Rattle.objects.specs.Steps.{sameBit, lengthTo, startOn, startHere, lengthIs, startOfLength, endHere, nextIs, inside, finish, carried, runHere, closedAt, closed, Good, GoodIn};
+ghost use Rattle.objects.specs.Steps.{sameBit, lengthTo, startOn, startHere, lengthIs, startOfLength, endOn, endHere, startIs, nextIs, inside, finish, carried, runHere, closedAt, closed, Good, GoodIn};
 ghost use Rattle.objects.specs.Header.{headerAt, lengthAt};
+ghost use Rattle.objects.specs.Next.{shortIs};
 ghost use Rattle.objects.specs.declared.reading.Reading.the-variants.{At};
 use crate::header::Header;
 use crate::header::Length;
@@ -11,6 +12,7 @@ use crate::header::header_at;
 use crate::header::length_at;
 use crate::nesting::Passed;
 use crate::nesting::read_run;
+use crate::nesting::short_number;
 use crate::reading::Reading;
 use numbers::refusal::Refusal;
 use numbers::refusal::at_place;
@@ -77,16 +79,7 @@ impl Reading {
     {
         match self {
             Reading::Refused(r) => Reading::Refused(r),
-            Reading::At(at, _) => match header_at(s, at) {
-                Header::Refused(r) => Reading::Refused(r),
-                Header::Start(_, _, _, _) => Reading::Refused(at_place(5, at)),
-                Header::End(k, used) => {
-                    if k == kind {
-                        return Reading::At(at + used, 0);
-                    }
-                    Reading::Refused(at_place(4, at))
-                }
-            },
+            Reading::At(at, _) => end_at(s, at, kind),
         }
     }
 
@@ -96,11 +89,7 @@ impl Reading {
     {
         match self {
             Reading::Refused(_) => false,
-            Reading::At(at, _) => match header_at(s, at) {
-                Header::Refused(_) => false,
-                Header::End(_, _) => false,
-                Header::Start(k, _, _, _) => k == kind,
-            },
+            Reading::At(at, _) => starts_at(s, at, kind),
         }
     }
 
@@ -169,7 +158,80 @@ fn same_bit(a: bool, b: bool) -> bool
     true
 }
 
+// Whether a start of this type stands at a place: by its two bytes where they are one.
+fn starts_at(s: &[u8], at: usize, kind: u64) -> bool
+    ensures { λ r. ⌜ r ≡ startIs kind (headerAt (now (s .entry)) at) ⌝ }
+{
+    let w = short_number(s, at);
+    if w % 4 == 0 {
+        return w / 8 % 64 == kind;
+    }
+    match header_at(s, at) {
+        Header::Refused(_) => false,
+        Header::End(_, _) => false,
+        Header::Start(k, _, _, _) => k == kind,
+    }
+}
+
+// The end of the open object of type `kind`: by its first byte where it has no second.
+fn end_at(s: &[u8], at: usize, kind: u64) -> Reading
+    ensures { λ r. ⌜ r ≡ endOn kind at (headerAt (now (s .entry)) at) ⌝ }
+{
+    let w = short_number(s, at);
+    if w % 4 == 1 {
+        if s[at] as u64 / 4 == kind {
+            return Reading::At(at + 1, 0);
+        }
+    }
+    match header_at(s, at) {
+        Header::Refused(r) => Reading::Refused(r),
+        Header::Start(_, _, _, _) => Reading::Refused(at_place(5, at)),
+        Header::End(k, used) => {
+            if k == kind {
+                return Reading::At(at + used, 0);
+            }
+            Reading::Refused(at_place(4, at))
+        }
+    }
+}
+
+// Whether a start of two bytes is of this type and compound bit.
+fn short_is(w: u64, kind: u64, compound: bool) -> bool
+    ensures { λ r. ⌜ r ≡ shortIs w kind compound ⌝ }
+{
+    if w % 4 != 0 {
+        return false;
+    }
+    if w / 8 % 64 != kind {
+        return false;
+    }
+    same_bit(w / 4 % 2 == 1, compound)
+}
+
+// The start that `Reading::start` asks for, by its two bytes where they are one; a length of over 127 does not come in two bytes.
 fn start_at(s: &[u8], at: usize, outer: u64, kind: u64, compound: bool, room: bool) -> Reading
+    ensures { λ r. ⌜ r ≡ startOn (now (s .entry)) outer kind compound room at (headerAt (now (s .entry)) at) ⌝ }
+{
+    if room {
+        let w = short_number(s, at);
+        if short_is(w, kind, compound) {
+            let n = w / 8 / 64;
+            if n < 128 {
+                return Reading::At(at + 2, n);
+            }
+        }
+    }
+    start_by_header(s, at, outer, kind, compound, room)
+}
+
+fn start_by_header(
+    s: &[u8],
+    at: usize,
+    outer: u64,
+    kind: u64,
+    compound: bool,
+    room: bool,
+) -> Reading
     ensures { λ r. ⌜ r ≡ startOn (now (s .entry)) outer kind compound room at (headerAt (now (s .entry)) at) ⌝ }
 {
     match header_at(s, at) {

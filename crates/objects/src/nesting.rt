@@ -1,12 +1,16 @@
-// One object and a run of objects, which call each other: the depth falls with each compound object that is opened, the
-// bytes left from turn to turn. The run is a loop, so that the stack grows with the depth alone.
+// One object and a run of objects, which call each other: the depth falls with each compound object that is opened, the bytes left from
+// turn to turn. A run is one loop, which opens and closes most compound objects inside it by itself, and leaves to a call those whose
+// type is long or has no room beside the others. So the stack grows with the depth alone. Most headers are short, a start of two bytes
+// or an end of one, and these are told by their bytes, without a `Header`.
 ghost use mathlib.Core.Path.{_≡_};
-ghost use Prim.Native.Nat.{_-_};
+ghost use Prim.Native.Nat.{_+_, _-_, _*_, _/_, _<_, _^_};
 ghost use Rattle.objects.specs.Nesting.{dataPast, objectAt, runAt};
+ghost use Rattle.objects.specs.Next.{shortNumber, nextAt, MayOpen, objectOn, fits, endedAt};
 use crate::header::Header;
 use crate::header::Length;
 use crate::header::header_at;
 use crate::header::length_at;
+use numbers::bytes::read_le;
 use numbers::refusal::Refusal;
 use numbers::refusal::at_place;
 
@@ -42,28 +46,176 @@ pub fn data_past(s: &[u8], at: usize, n: u64) -> Passed
     }
 }
 
+// What stands at a place of a run: an object that was passed over whole; the start of a compound object, with its type and the place
+// behind its own data; an end, with its type and the place behind it; or a fault.
+pub enum Next {
+    Past(usize),
+    Opens(u64, usize),
+    Ends(u64, usize),
+    Refused(Refusal),
+}
+
+// The two bytes at a place as a number. Where they are not there it is 3, which is neither a start of two bytes nor an end of one.
+pub fn short_number(s: &[u8], at: usize) -> u64
+    ensures { λ r. ⌜ r ≡ shortNumber (now (s .entry)) at ⌝ }
+{
+    if left_of(s.len(), at) < 2 {
+        return 3;
+    }
+    read_le(&s[at..], 2)
+}
+
+// The same as `next_at`, by a header of any form.
+fn next_by_header(s: &[u8], at: usize, depth: usize) -> Next
+    ensures { λ r. ⌜ r ≡ nextAt (now (s .entry)) at depth ⌝ }
+{
+    match header_at(s, at) {
+        Header::Refused(r) => Next::Refused(r),
+        Header::End(kind, used) => Next::Ends(kind, at + used),
+        Header::Start(kind, compound, n, used) => {
+            if compound {
+                if depth == 0 {
+                    return Next::Refused(at_place(6, at));
+                }
+                match data_past(s, at + used, n) {
+                    Passed::Refused(r) => Next::Refused(r),
+                    Passed::To(e) => Next::Opens(kind, e),
+                }
+            } else {
+                match data_past(s, at + used, n) {
+                    Passed::Refused(r) => Next::Refused(r),
+                    Passed::To(e) => Next::Past(e),
+                }
+            }
+        }
+    }
+}
+
+// What stands at a place of a run, with so many compound objects still to be opened. A length of over 127 does not come in two bytes:
+// the compiler sees that and leaves the test out, and the proof needs no law about bytes.
+fn next_at(s: &[u8], at: usize, depth: usize) -> Next
+    ensures { λ r. ⌜ r ≡ nextAt (now (s .entry)) at depth ⌝ }
+{
+    let w = short_number(s, at);
+    let low = w % 4;
+    if low == 0 {
+        let n = w / 8 / 64;
+        let left = (s.len() - at - 2) as u64;
+        if left < n {
+            return next_by_header(s, at, depth);
+        }
+        if 127 < n {
+            return next_by_header(s, at, depth);
+        }
+        let e = at + 2 + n as usize;
+        if w / 4 % 2 == 0 {
+            return Next::Past(e);
+        }
+        if depth == 0 {
+            return Next::Refused(at_place(6, at));
+        }
+        return Next::Opens(w / 8 % 64, e);
+    }
+    if low == 1 {
+        return Next::Ends(s[at] as u64 / 4, at + 1);
+    }
+    next_by_header(s, at, depth)
+}
+
+// The object that stands at a place, by what was found there: the run inside it has one level fewer.
+fn object_on(s: &[u8], at: usize, depth: usize, next: Next) -> Passed
+    requires { ⌜ MayOpen depth next ⌝ }
+    ensures { λ r. ⌜ r ≡ objectOn (now (s .entry)) at depth next ⌝ }
+{
+    match next {
+        Next::Refused(r) => Passed::Refused(r),
+        Next::Past(e) => Passed::To(e),
+        Next::Ends(_, _) => Passed::Refused(at_place(4, at)),
+        Next::Opens(kind, e) => read_run(s, e, depth - 1, kind),
+    }
+}
+
 // The object at a place of the input, with so many compound objects still to be opened. Ruled out (proofs/WrongAnswers): `0C
 // 00 05` ended at 2, behind its own data; the same taken with no level left.
 pub fn read_object(s: &[u8], at: usize, depth: usize) -> Passed
     ensures { λ r. ⌜ r ≡ objectAt (now (s .entry)) at depth ⌝ }
 {
-    match header_at(s, at) {
-        Header::Refused(r) => Passed::Refused(r),
-        Header::End(_, _) => Passed::Refused(at_place(4, at)),
-        Header::Start(kind, compound, n, used) => {
-            if compound {
-                if depth == 0 {
-                    return Passed::Refused(at_place(6, at));
-                }
-                match data_past(s, at + used, n) {
-                    Passed::Refused(r) => Passed::Refused(r),
-                    Passed::To(e) => read_run(s, e, depth - 1, kind),
-                }
-            } else {
-                data_past(s, at + used, n)
-            }
+    object_on(s, at, depth, next_at(s, at, depth))
+}
+
+// A run under way: its place, how many objects are open inside it, and their types, six bits each, the innermost lowest.
+pub struct Nest {
+    pub place: usize,
+    pub inner: usize,
+    pub kinds: u64,
+}
+
+// Whether there is room for a type beside so many: ten of six bits are a number of 64 bits.
+fn fits(inner: usize, kind: u64) -> bool
+    ensures { λ r. ⌜ r ≡ fits inner kind ⌝ }
+{
+    if kind < 64 {
+        return inner < 10;
+    }
+    false
+}
+
+impl Nest {
+    // Nothing is open inside yet.
+    fn new(at: usize) -> Nest
+        ensures { λ r. ⌜ r ≡ record { place = at; inner = 0; kinds = 0 } ⌝ }
+    {
+        Nest {
+            place: at,
+            inner: 0,
+            kinds: 0,
         }
     }
+
+    // On to a place behind an object.
+    fn on(self, e: usize) -> Nest
+        ensures { λ r. ⌜ r ≡ record { place = e; inner = self .inner; kinds = self .kinds } ⌝ }
+    {
+        Nest {
+            place: e,
+            inner: self.inner,
+            kinds: self.kinds,
+        }
+    }
+
+    // Into an object of this type, to the place behind its own data.
+    fn into(self, kind: u64, e: usize) -> Nest
+        requires { ⌜ (kind < 64) × (self .inner < 10) × (self .kinds < 2 ^ 54) ⌝ }
+        ensures { λ r. ⌜ r ≡ record { place = e; inner = self .inner + 1; kinds = self .kinds * 64 + kind } ⌝ }
+    {
+        Nest {
+            place: e,
+            inner: self.inner + 1,
+            kinds: self.kinds * 64 + kind,
+        }
+    }
+
+    // Out of the innermost, to the place behind its end.
+    fn out(self, e: usize) -> Nest
+        requires { ⌜ 0 < self .inner ⌝ }
+        ensures { λ r. ⌜ r ≡ record { place = e; inner = self .inner - 1; kinds = self .kinds / 64 } ⌝ }
+    {
+        Nest {
+            place: e,
+            inner: self.inner - 1,
+            kinds: self.kinds / 64,
+        }
+    }
+}
+
+// The run's own end, if it is of its type.
+fn ended_at(at: usize, kind: u64, k: u64, e: usize) -> Passed
+    ensures { λ r. ⌜ r ≡ endedAt at kind k e ⌝ }
+{
+    if k == kind {
+        return Passed::To(e);
+    }
+    Passed::Refused(at_place(4, at))
 }
 
 // Objects up to the end of the open object of type `kind`. Ruled out (proofs/WrongAnswers): `09`, an end of type 2, taken
@@ -71,22 +223,36 @@ pub fn read_object(s: &[u8], at: usize, depth: usize) -> Passed
 pub fn read_run(s: &[u8], at: usize, depth: usize, kind: u64) -> Passed
     ensures { λ r. ⌜ r ≡ runAt (now (s .entry)) at depth kind ⌝ }
 {
-    let mut i = at;
+    let mut nest = Nest::new(at);
     loop {
-        match header_at(s, i) {
-            Header::Refused(r) => return Passed::Refused(r),
-            Header::End(k, used) => {
-                if k == kind {
-                    return Passed::To(i + used);
-                }
-                return Passed::Refused(at_place(4, i));
+        let i = nest.place;
+        let inner = nest.inner;
+        match next_at(s, i, depth - inner) {
+            Next::Refused(r) => return Passed::Refused(r),
+            Next::Past(e) => {
+                nest = nest.on(e);
             }
-            Header::Start(_, _, _, _) => match read_object(s, i, depth) {
-                Passed::Refused(r) => return Passed::Refused(r),
-                Passed::To(next) => {
-                    i = next;
+            Next::Ends(k, e) => {
+                if inner == 0 {
+                    return ended_at(i, kind, k, e);
                 }
-            },
+                if k != nest.kinds % 64 {
+                    return Passed::Refused(at_place(4, i));
+                }
+                nest = nest.out(e);
+            }
+            Next::Opens(k, e) => {
+                if fits(inner, k) {
+                    nest = nest.into(k, e);
+                } else {
+                    match object_on(s, i, depth - inner, Next::Opens(k, e)) {
+                        Passed::Refused(r) => return Passed::Refused(r),
+                        Passed::To(next) => {
+                            nest = nest.on(next);
+                        }
+                    }
+                }
+            }
         }
     }
 }

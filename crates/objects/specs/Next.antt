@@ -1,0 +1,80 @@
+-- What stands at a place of a run, and a run under way with objects open inside it. Only the code of `nesting` needs this: that a run is
+-- what document 01 says stands in Nesting.antt, and nothing here adds to it, so a reader of the promises can skip it.
+-- Assumes nothing.
+use Prim.Native.Nat.{ℕ, zero, suc, _+_, _-_, _/_, _%_, _<_}
+use mathlib.Core.Bool.{Bool, false}
+use mathlib.Core.List.{List}
+use lib.ListN.{length, take, drop}
+use lib.Dec.{ltb, eqb}
+use Rattle.laws.specs.Pick.{pick}
+use Rattle.laws.specs.Bytes.{le}
+use Rattle.numbers.specs.Refusals.{faultAt}
+use Rattle.objects.specs.Header.{headerAt}
+use Rattle.objects.specs.Nesting.{dataPast, andOn, runAt}
+use Rattle.objects.specs.Steps.{sameBit}
+use Rattle.objects.specs.declared.header.Header.{Header}
+use Rattle.objects.specs.declared.header.Header.the-variants as header
+use Rattle.objects.specs.declared.nesting.Passed.{Passed}
+use Rattle.objects.specs.declared.nesting.Passed.the-variants.{To, Refused}
+use Rattle.objects.specs.declared.nesting.Next.{Next}
+use Rattle.objects.specs.declared.nesting.Next.the-variants as next
+
+-- the two bytes at a place as a number; 3 where they are not there, which is neither a start of two bytes nor an end of one
+unfoldable pub shortNumber : List ℕ → ℕ → ℕ
+shortNumber s at = pick (ltb (length s - at) 2) 3 (le (take 2 (drop at s)))
+
+-- a start of two bytes with this type and compound bit
+unfoldable pub shortIs : ℕ → ℕ → Bool → Bool
+shortIs w kind compound = pick (eqb (w % 4) 0) (pick (eqb (w / 8 % 64) kind) (sameBit (eqb (w / 4 % 2) 1) compound) false) false
+
+-- ---- what stands at a place
+
+abbrev pub passing : Passed → Next
+passing (To e) = next.Past e
+passing (Refused r) = next.Refused r
+
+abbrev pub opening : ℕ → Passed → Next
+opening k (To e) = next.Opens k e
+opening k (Refused r) = next.Refused r
+
+abbrev pub nextOn : List ℕ → ℕ → ℕ → Header → Next
+nextOn s at d (header.Refused r) = next.Refused r
+nextOn s at d (header.End k u) = next.Ends k (at + u)
+nextOn s at d (header.Start k c n u) =
+    pick c (pick (eqb d 0) (next.Refused (faultAt 6 at)) (opening k (dataPast s (at + u) n))) (passing (dataPast s (at + u) n))
+
+unfoldable pub nextAt : List ℕ → ℕ → ℕ → Next
+nextAt s at d = nextOn s at d (headerAt s at)
+
+-- ---- an object, and a run, from there
+
+abbrev pub objectOn : List ℕ → ℕ → ℕ → Next → Passed
+objectOn s at d (next.Refused r) = Refused r
+objectOn s at d (next.Ends k e) = Refused (faultAt 4 at)
+objectOn s at d (next.Past e) = To e
+objectOn s at d (next.Opens k e) = runAt s e (d - 1) k
+
+-- a compound object may be opened only where a level is left
+abbrev pub MayOpen : ℕ → Next → Type 0
+MayOpen d (next.Opens k e) = 0 < d
+MayOpen d (next.Refused r) = Unit {0}
+MayOpen d (next.Ends k e) = Unit {0}
+MayOpen d (next.Past e) = Unit {0}
+
+abbrev pub endedAt : ℕ → ℕ → ℕ → ℕ → Passed
+endedAt at kind k e = pick (eqb k kind) (To e) (Refused (faultAt 4 at))
+
+abbrev pub runOn : List ℕ → ℕ → ℕ → ℕ → Next → Passed
+runOn s at d kind (next.Refused r) = Refused r
+runOn s at d kind (next.Ends k e) = endedAt at kind k e
+runOn s at d kind (next.Past e) = runAt s e d kind
+runOn s at d kind (next.Opens k e) = andOn (runAt s e (d - 1) k) (λ i. runAt s i d kind)
+
+-- ---- a run with so many objects open inside it: theirs, the innermost first, and then its own
+
+unfoldable pub fits : ℕ → ℕ → Bool
+fits inner k = pick (ltb k 64) (ltb inner 10) false
+
+unfoldable pub nested : List ℕ → ℕ → ℕ → ℕ → ℕ → ℕ → Passed
+nested s kind zero kinds d at = runAt s at d kind
+nested s kind (suc inner) kinds d at = andOn (runAt s at d (kinds % 64)) (λ e. nested s kind inner (kinds / 64) (suc d) e)
