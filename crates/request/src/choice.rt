@@ -226,7 +226,7 @@ fn flag_of(operation: u64) -> u8
 
 // One filter, the whole list of elements, the flags: a later kind may look at other elements than the one it sets. The answer is the
 // reading behind the filter.
-pub fn put_filter(
+fn put_filter(
     s: &[u8],
     c: Reading,
     rows: &[u64],

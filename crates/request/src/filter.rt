@@ -84,8 +84,8 @@ pub fn type_part(s: &[u8], c: Reading) -> Reading
     o.closed(s, one_number(o.run(s)))
 }
 
-// How long the id at the front of a part is, where that is seen without reading it: in the form of 17 bytes, and in that of 18 where
-// the number is in the form's range, as it is 32 or more if its upper byte is 8 or more. Else 0.
+// How long the id at the front of a part of 18 bytes or more is, where that is seen without reading it: in the form of 17 bytes, and in
+// that of 18 where the number is in the form's range, as it is 32 or more if its upper byte is 8 or more. Else 0.
 fn short_id(s: &[u8]) -> usize
     ensures { λ r. ⌜ (0 < r → (r ≤ length (now (s .entry))) × ((at : ℕ) → onId (idOn at (readExtendedGuid (now (s .entry)))) ≡ At (at + r) 0)) ⌝ }
 {

@@ -1,57 +1,40 @@
 -- The start of a range in 16 bits: its two bytes, as they are read and as they are written.
 -- Assumes nothing.
-use mathlib.Core.Path.{_≡_, ap, _∙_}
+use mathlib.Core.Path.{_≡_, refl, _∙_}
 use mathlib.Core.Bool.{true, false}
 use mathlib.Core.List.{List, [], _∷_}
-use Prim.Native.Nat.{ℕ, suc, _+_, _*_, _/_, _%_, _≤_, _<_}
+use Prim.Native.Nat.{ℕ, _+_, _-_, _*_, _/_, _%_, _≤_, _<_}
 use native.Mathlib.Omega.{arith}
-use lib.ListN.{length, getD, drop}
-use lib.Dec.{ltb, eqb}
-use lib.Seq.{drop-cons}
-use borrow.Author.Tests.{lt-ltb, le-ltb, ne-eqb, eqb-true}
-use Rattle.laws.specs.Bytes.{le, bytes}
-use Rattle.laws.proofs.Cases.{by-lt, by-bool, impossible}
-use Rattle.objects.specs.Header.{startOf, sized, headerOf, headerAt, lengthAt, startNumber, startBytes}
+use lib.ListN.{length}
+use borrow.Author.Tests.{lt-ltb}
+use Rattle.laws.specs.Bytes.{bytes}
+use Rattle.objects.specs.Header.{startNumber, startBytes}
 use Rattle.objects.specs.Steps.{startHere}
-use Rattle.objects.specs.declared.header.Header.the-variants.{Start}
 use Rattle.objects.specs.declared.reading.Reading.the-variants.{At}
-use Rattle.store.specs.Knowledge.{shortRange, rangeStart}
+use Rattle.objects.specs.Next.{shortNumber, shortIs}
+use Rattle.objects.proofs.Short.{short-room, short-start-on}
+use Rattle.store.specs.Knowledge.{rangeStart}
 
 -- ---- read
 
-pub short-bytes : (s : List ℕ) (at : ℕ) → shortRange s at ≡ true → (at + 2 ≤ length s) × (getD s at 0 ≡ 0x78) × (getD s (at + 1) 0 % 2 ≡ 0)
-unfolding shortRange
-short-bytes s at e =
-    by-lt (length s) (at + 2)
-    (λ h. let x : false ≡ true = rw (lt-ltb (length s) (at + 2) h) at e in impossible (cc))
-    (λ h.
-    let f = rw (le-ltb (length s) (at + 2) h) at e in
-    by-bool (eqb (getD s at 0) 0x78)
-    (λ a. (h, eqb-true _ _ a, eqb-true _ _ (rw a at f)))
-    (λ a. let x : false ≡ true = rw a at f in impossible (cc)))
+short-is-range : (w : ℕ) → w % 512 ≡ 0x78 → shortIs w 0x0F false ≡ true
+unfolding shortIs
+short-is-range w e =
+    let low : w % 4 ≡ 0 = omega arith in
+    let quarter : w / 4 ≡ w / 512 * 128 + 30 = omega arith in
+    let eighth : w / 8 ≡ w / 512 * 64 + 0x0F = omega arith in
+    let bit : w / 4 % 2 ≡ 0 = rw quarter (omega arith) in
+    let kind : w / 8 % 64 ≡ 0x0F = rw eighth (omega arith) in
+    rw (low, kind, bit)
 
-short-header : (s : List ℕ) (at : ℕ) → at + 2 ≤ length s → getD s at 0 ≡ 0x78 → getD s (at + 1) 0 % 2 ≡ 0
-    → headerAt s at ≡ Start 0x0F false (getD s (at + 1) 0 / 2) 2
-unfolding headerAt headerOf sized startOf le
-short-header s at h b d =
-    let e : at + 1 ≡ suc at = omega arith in
-    let x = getD s (at + 1) 0 in
-    let r = drop (suc (suc at)) s in
-    let l : drop at s ≡ getD s at 0 ∷ x ∷ r =
-    rw e (drop-cons s at 0 (omega arith) ∙ ap (λ (m : List ℕ). getD s at 0 ∷ m) (drop-cons s (suc at) 0 (omega arith))) in
-    let some : eqb (suc (suc (length r))) 0 ≡ false = ne-eqb (suc (suc (length r))) 0 (λ q. omega arith) in
-    let whole : ltb (suc (suc (length r))) 2 ≡ false = le-ltb (suc (suc (length r))) 2 (omega arith) in
-    let kind : ((0 * 256 + x) * 256 + 0x78) / 8 % 64 ≡ 0x0F = omega arith in
-    let bit : ((0 * 256 + x) * 256 + 0x78) / 4 % 2 ≡ 0 = omega arith in
-    let size : ((0 * 256 + x) * 256 + 0x78) / 8 / 64 ≡ x / 2 = omega arith in
-    rw (l, b, some, whole, kind, bit, size)
+pub range-there : (s : List ℕ) (at w : ℕ) → shortNumber s at ≡ w → w % 512 ≡ 0x78 → 2 ≤ length s - at
+range-there s at w is e = let low : w % 4 ≡ 0 = omega arith in short-room s at w 0 is low (omega arith)
 
-pub short-start : (s : List ℕ) (at v : ℕ) → shortRange s at ≡ true → getD s (at + 1) 0 < 256 → rangeStart s (At at v) ≡ At (at + 2) (getD s (at + 1) 0 / 2)
-unfolding startHere lengthAt
-short-start s at v e small =
-    let b = short-bytes s at e in
-    let own : eqb (getD s (at + 1) 0 / 2) 32767 ≡ false = ne-eqb (getD s (at + 1) 0 / 2) 32767 (λ q. omega arith) in
-    rw (short-header s at (b .0) (b .1) (b .2), own)
+pub range-start : (s : List ℕ) (at v w : ℕ) → shortNumber s at ≡ w → w % 512 ≡ 0x78 → w / 512 < 128 → rangeStart s (At at v) ≡ At (at + 2) (w / 512)
+unfolding startHere
+range-start s at v w is e h =
+    let n : w / 8 / 64 ≡ w / 512 = omega arith in
+    short-start-on s 0x14 0x0F at w false true is (short-is-range w e) refl (omega arith) ∙ rw n
 
 -- ---- written
 

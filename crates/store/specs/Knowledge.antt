@@ -3,11 +3,11 @@
 -- read from left to right, and each range goes into the list as it is read; a fault ends the reading with the ranges before it.
 -- Assumes nothing.
 use mathlib.Core.Path.{_≡_}
-use Prim.Native.Nat.{ℕ, zero, suc, _+_, _-_, _%_, _≤_}
+use Prim.Native.Nat.{ℕ, zero, suc, _+_, _-_, _≤_}
 use mathlib.Core.Bool.{Bool, true, false}
 use mathlib.Core.List.{List, [], _∷_}
-use lib.ListN.{length, getD}
-use lib.Dec.{leb, ltb, eqb}
+use lib.ListN.{length}
+use lib.Dec.{leb, eqb}
 use Rattle.laws.specs.Pick.{pick}
 use Rattle.laws.specs.Loop.{Turn, iterate}
 use Rattle.laws.specs.Loop.Turn.{more, done}
@@ -69,10 +69,6 @@ itemOf x (Refused r) = item.Refused r
 
 abbrev pub rangeStart : List ℕ → Reading → Reading
 rangeStart s c = startHere s 0x14 0x0F false true c
-
--- whether a range begins at a place by a start of 16 bits: its first byte is the type alone, its second twice the length
-unfoldable pub shortRange : List ℕ → ℕ → Bool
-shortRange s at = pick (ltb (length s) (at + 2)) false (pick (eqb (getD s at 0) 0x78) (eqb (getD s (at + 1) 0 % 2) 0) false)
 
 unfoldable pub rangeItem : List ℕ → Reading → Item
 rangeItem s c =

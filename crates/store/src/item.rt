@@ -1,10 +1,11 @@
 // Ranges and entries of a cell knowledge, read one at a time.
 ghost use mathlib.Core.Path.{_≡_};
-ghost use Rattle.store.specs.Knowledge.{guidIn, rangeFields, itemOf, shortRange, rangeStart, rangeItem, entryOf, entryItem, itemNext, itemKind, itemAt, onItem};
+ghost use Rattle.store.specs.Knowledge.{guidIn, rangeFields, itemOf, rangeStart, rangeItem, entryOf, entryItem, itemNext, itemKind, itemAt, onItem};
 use crate::ranges::range_of;
 use numbers::guid::Guid;
 use numbers::refusal::Refusal;
 use numbers::serial::Serial;
+use objects::nesting::short_number;
 use objects::reading::Reading;
 use objects::reading::ReadingGuid;
 use objects::reading::ReadingSerial;
@@ -68,33 +69,20 @@ fn item_of(x: Range, c: Reading) -> Item
     }
 }
 
-// Whether a range begins here by a start of 16 bits.
-fn is_short_range(s: &[u8], at: usize) -> bool
-    ensures { λ r. ⌜ r ≡ shortRange (now (s .entry)) at ⌝ }
-{
-    let n = s.len();
-    if n < at {
-        return false;
-    }
-    if n - at < 2 {
-        return false;
-    }
-    if s[at] != SHORT_RANGE {
-        return false;
-    }
-    s[at + 1] % 2 == 0
-}
-
-// The start of a range. Most are of 16 bits, and these are told by their two bytes alone.
+// The start of a range. Most are of two bytes, and these are told by them alone, as one number: the first byte below, and above it
+// twice the length, which is below 128 there.
 fn range_start(s: &[u8], c: Reading) -> Reading
     ensures { λ r. ⌜ r ≡ rangeStart (now (s .entry)) c ⌝ }
 {
     match c {
         Reading::Refused(r) => Reading::Refused(r),
         Reading::At(at, _) => {
-            if is_short_range(s, at) {
-                let n = s[at + 1] / 2;
-                return Reading::At(at + 2, n as u64);
+            let w = short_number(s, at);
+            let n = w / 512;
+            if w % 512 == SHORT_RANGE as u64 {
+                if n < 128 {
+                    return Reading::At(at + 2, n);
+                }
             }
             c.start(s, CELL, RANGE, false, true)
         }
