@@ -5,16 +5,16 @@
 -- the numbers one by one, `Writable` for stores that are good. Its words are defined in specs: what a result is in Results, what a
 -- refusal tells and its reasons in Refusing and BenchRefusing. Below it the theorems `demand-one` and `demand-one-..` say that all of it
 -- holds of the answering call and of the four exported calls: each starts from what its call promises, and from nothing else. Who proves
--- nothing reads the statement and the types of the theorems. What stands behind a `=` can be skipped, and so can `answer-keeps`,
--- `export-keeps` and `numbers-keep`, which put into the statement's words what Results and RefusalNumbers of proofs have proved.
+-- nothing reads the statement and the types of the theorems. What stands behind a `=` can be skipped. The calls for single items and the
+-- others of the crates below have their refusals in their own contracts (docs/PROMISES.md).
 --
 -- That every call returns is nothing to state here: functions of Rattle are total, so each call returns, whatever is handed in, and it
 -- returns what its promise says (`Answers`, `HubAnswers`, `HubAsks`, `HubReads`, `HubFinds`), which asks nothing of the caller.
 -- Assumes nothing.
-use mathlib.Core.Path.{_≡_, refl, sym, ap, subst, _∙_}
+use mathlib.Core.Path.{_≡_, refl, sym, ap, subst}
 use mathlib.Core.Bool.{true}
 use mathlib.Core.List.{List, [], _∷_, map}
-use mathlib.Core.Logic.{_⊎_, inl, inr}
+use mathlib.Core.Logic.{_⊎_}
 use Prim.Native.Nat.{ℕ, _^_, _≤_, _<_}
 use lib.ListN.{length}
 use Rattle.laws.specs.Once.{once}
@@ -28,7 +28,7 @@ use Rattle.store.specs.Written.{Content, packageFront, packageBytes, elementsFr
 use Rattle.store.proofs.PackageWritten.{package-written}
 use Rattle.request.specs.Message.{requestIn}
 use Rattle.request.specs.declared.message.Request.the-variants as request
-use Rattle.pages.specs.Answer.{Ask, numberIn, pageRanges, tellAnswered, answerOf, Answers}
+use Rattle.pages.specs.Answer.{Ask, pageRanges, tellAnswered, answerOf, Answers}
 use Rattle.pages.specs.Cases.{Asks, OverLong, TooShort}
 use Rattle.pages.specs.declared.answer.Answered.{Answered}
 use Rattle.pages.specs.declared.answer.Answered.the-variants.{Refused}
@@ -42,10 +42,10 @@ use Rattle.hub.specs.Bench.{HubAsks, HubReads, HubFinds}
 use Rattle.hub.proofs.Laws.{gives-no-thirteen}
 use Rattle.evidence.specs.Refusing.{Fault, Tables, IfAndOnlyIf, Why}
 use Rattle.evidence.specs.BenchRefusing.{WhyAsk, WhyRead, WhyElement}
-use Rattle.evidence.specs.Results.{AnswerSent, AnswerGiven, RequestGiven, AnswerRead, ElementGiven}
+use Rattle.evidence.specs.Results.{RefusedWith, AnswerSent, AnswerGiven, RequestGiven, AnswerRead, ElementGiven}
 use Rattle.evidence.proofs.Refusals.{only-pages, request-written}
-use Rattle.evidence.proofs.Results.{gives, refuses, ExportComes, AnswerComes, answer-comes, hub-answer-comes, hub-ask-comes, hub-read-comes, hub-element-comes}
-use Rattle.evidence.proofs.RefusalNumbers.{number-told, thirteen-exactly, one-exactly, nine-exactly, fourteen-exactly}
+use Rattle.evidence.proofs.Results.{answer-kept, export-kept, answer-comes, hub-answer-comes, hub-ask-comes, hub-read-comes, hub-element-comes}
+use Rattle.evidence.proofs.RefusalNumbers.{number-told, numbers-exactly}
 
 -- ---- the call that is lent two tables and an output
 
@@ -62,14 +62,6 @@ pub record AnswerKeeps (s q : List ℕ) (r : Answered) (rows rows′ ranges rang
   pub untouched : (x : Refusal) → r ≡ Refused x → (rows′ ≡ rows) × (ranges′ ≡ ranges) × (out′ ≡ out)
 
 -- ---- the exported calls: each returns 0 or the number of a refusal, and has a report
-
--- "one of the numbered refusals of document 01, with the place of the fault", which the report takes; and its reason
-pub record RefusedWith (inputs : List (List ℕ)) (Reason : Refusal → Type 0) (number : ℕ) (report report′ : List ℕ) : Type 0 where
-  pub refusal : Refusal
-  pub number-is : number ≡ refusal .number
-  pub fault : Fault inputs refusal
-  pub reason : Reason refusal
-  pub told : report′ ≡ placed (refusalReport refusal) report
 
 -- the inputs are any bytes, and the output and the report any, each of any length; out′ and report′ are what then stands in them
 pub record ExportKeeps (inputs : List (List ℕ)) (Gives : Type 0) (Reason : Refusal → Type 0) (number : ℕ) (out out′ report report′ : List ℕ) : Type 0 where
@@ -126,37 +118,18 @@ pub record Writable (cs : List Content) : Type 0 where
 -- ---- the theorems: of the call that is lent tables
 
 module _ (s q : List ℕ) (r : Answered) (rows rows′ ranges ranges′ out out′ : List ℕ) where
-  answer-keeps : AnswerComes s q r rows rows′ ranges ranges′ out out′ → AnswerKeeps s q r rows rows′ ranges ranges′ out out′
-  answer-keeps (gives g none) =
-      let i = g .3 in
-      record { gets = inl g; reason = λ x j. impossible (cc); given = λ x w. absurd (none x w); untouched = λ x j. impossible (cc) }
-  answer-keeps (refuses x (i, f, rows-as, ranges-as, out-as) w one) =
-      record {
-        gets = inr (x, i, f);
-        reason = λ y j. let k : x ≡ y = cc in rw (← k) w;
-        given = λ y v. i ∙ ap Refused (one y v);
-        untouched = λ y j. (rows-as, ranges-as, out-as);
-      }
-
   pub demand-one : Answers s q r rows rows′ ranges ranges′ out out′ → AnswerKeeps s q r rows rows′ ranges ranges′ out out′
-  demand-one h = answer-keeps (answer-comes s q r rows rows′ ranges ranges′ out out′ h)
+  demand-one h =
+      let k = answer-kept s q r rows rows′ ranges ranges′ out out′ (answer-comes s q r rows rows′ ranges ranges′ out out′ h) in
+      record { gets = k .0; reason = k .1; given = k .2; untouched = k .3 }
 
 -- ---- of the exported calls
 
-export-keeps : (inputs : List (List ℕ)) (Gives : Type 0) (Reason : Refusal → Type 0) (number : ℕ) (out out′ report report′ : List ℕ)
-    → ExportComes inputs Gives Reason number out out′ report report′ → ExportKeeps inputs Gives Reason number out out′ report report′
-export-keeps inputs Gives Reason number out out′ report report′ (gives (e, g) none) =
-    record { gets = inl (e, g); given = λ x w. absurd (none x w); untouched = λ z. absurd (z e) }
-export-keeps inputs Gives Reason number out out′ report report′ (refuses x (e, f, u, t) w one) =
-    record {
-      gets = inr (record { refusal = x; number-is = e; fault = f; reason = w; told = t });
-      given = λ y v. rw (← one y v) (e, t);
-      untouched = λ z. u;
-    }
-
 module _ (s q : List ℕ) (number : ℕ) (out out′ report report′ : List ℕ) where
   pub demand-one-hub-answer : HubAnswers s q number out out′ report report′ → HubAnswerKeeps s q number out out′ report report′
-  demand-one-hub-answer h = export-keeps _ _ _ number out out′ report report′ (hub-answer-comes s q number out out′ report report′ h)
+  demand-one-hub-answer h =
+      let k = export-kept _ _ _ number out out′ report report′ (hub-answer-comes s q number out out′ report report′ h) in
+      record { gets = k .0; given = k .1; untouched = k .2 }
 
   -- its own tables are never too short
   pub demand-one-hub-answer-tables : HubAnswers s q number out out′ report report′ → number ≡ 13 → ⊥
@@ -165,35 +138,33 @@ module _ (s q : List ℕ) (number : ℕ) (out out′ report report′ : List ℕ
 pub demand-one-hub-ask : (id limit : ℕ) (f k : List ℕ) (number : ℕ) (out out′ report report′ : List ℕ)
     → HubAsks id limit f k number out out′ report report′ → HubAskKeeps id limit f k number out out′ report report′
 demand-one-hub-ask id limit f k number out out′ report report′ h =
-    export-keeps _ _ _ number out out′ report report′ (hub-ask-comes id limit f k number out out′ report report′ h)
+    let k = export-kept _ _ _ number out out′ report report′ (hub-ask-comes id limit f k number out out′ report report′ h) in
+    record { gets = k .0; given = k .1; untouched = k .2 }
 
 pub demand-one-hub-read : (w : List ℕ) (number : ℕ) (report report′ : List ℕ) → HubReads w number report report′ → HubReadKeeps w number report report′
-demand-one-hub-read w number report report′ h = export-keeps _ _ _ number [] [] report report′ (hub-read-comes w number report report′ h)
+demand-one-hub-read w number report report′ h =
+    let k = export-kept _ _ _ number [] [] report report′ (hub-read-comes w number report report′ h) in
+    record { gets = k .0; given = k .1; untouched = k .2 }
 
 pub demand-one-hub-element : (kind : ℕ) (s : List ℕ) (i number : ℕ) (report report′ : List ℕ) → HubFinds kind s i number report report′
     → HubElementKeeps kind s i number report report′
 demand-one-hub-element kind s i number report report′ h =
-    export-keeps _ _ _ number [] [] report report′ (hub-element-comes kind s i number report report′ h)
+    let k = export-kept _ _ _ number [] [] report report′ (hub-element-comes kind s i number report report′ h) in
+    record { gets = k .0; given = k .1; untouched = k .2 }
 
 -- ---- of the numbers
-
-numbers-keep : (s q : List ℕ) (rows ranges room number : ℕ) → number ≡ numberIn (answerOf s q rows ranges room) → NumbersExactly s q rows ranges room number
-numbers-keep s q rows ranges room number is =
-    record {
-      thirteen = thirteen-exactly s q rows ranges room number is;
-      one = one-exactly s q rows ranges room number is;
-      nine = nine-exactly s q rows ranges room number is;
-      fourteen = fourteen-exactly s q rows ranges room number is;
-    }
 
 pub demand-one-numbers : (s q : List ℕ) (r : Answered) (rows rows′ ranges ranges′ out out′ : List ℕ) → Answers s q r rows rows′ ranges ranges′ out out′
     → NumbersExactly s q (length rows) (length ranges) (length out) (tellAnswered r .number)
 demand-one-numbers s q r rows rows′ ranges ranges′ out out′ h =
-    numbers-keep s q (length rows) (length ranges) (length out) (tellAnswered r .number) (number-told r (answerOf s q (length rows) (length ranges) (length out)) (h .0))
+    let k = numbers-exactly s q (length rows) (length ranges) (length out) (tellAnswered r .number) (number-told r (answerOf s q (length rows) (length ranges) (length out)) (h .0)) in
+    record { thirteen = k .0; one = k .1; nine = k .2; fourteen = k .3 }
 
 pub demand-one-hub-numbers : (s q : List ℕ) (number : ℕ) (out out′ report report′ : List ℕ) → HubAnswers s q number out out′ report report′
     → NumbersExactly s q 1536 2048 (length out) number
-demand-one-hub-numbers s q number out out′ report report′ h = numbers-keep s q 1536 2048 (length out) number (h .0)
+demand-one-hub-numbers s q number out out′ report report′ h =
+    let k = numbers-exactly s q 1536 2048 (length out) number (h .0) in
+    record { thirteen = k .0; one = k .1; nine = k .2; fourteen = k .3 }
 
 -- ---- of stores and requests that are good
 

@@ -54,3 +54,16 @@ module _ (s q : List ℕ) (rows ranges room number : ℕ) (is : number ≡ numbe
     λ h. let z = to-outcome 14 (λ e. omega arith) h in let y = fourteen-of-call s q room (z .1) in (z .0, y .0, y .1),
     λ h. of-outcome (h .0) _ (call-of-fourteen s q room (h .1) (h .2)),
   )
+
+-- all four
+pub numbers-exactly : (s q : List ℕ) (rows ranges room number : ℕ) → number ≡ numberIn (answerOf s q rows ranges room)
+    → IfAndOnlyIf (number ≡ 13) ((rows < 1536) ⊎ (ranges < 2048))
+    × IfAndOnlyIf (number ≡ 1) (Tables rows ranges × OverLong s q)
+    × ((a : Ask) → Asks s q a → IfAndOnlyIf (number ≡ 9) (Tables rows ranges × (0 < length (a .wanted)) × (512 < length (pageRanges a 1))))
+    × IfAndOnlyIf (number ≡ 14) (Tables rows ranges × (a : Ask) × TooShort s q room a)
+numbers-exactly s q rows ranges room number is = (
+  thirteen-exactly s q rows ranges room number is,
+  one-exactly s q rows ranges room number is,
+  nine-exactly s q rows ranges room number is,
+  fourteen-exactly s q rows ranges room number is,
+)

@@ -2,7 +2,8 @@
 -- refused, and with the one refusal that has a reason. DemandOne.antt says it in the demand's words; who reads that file can skip all of
 -- this one.
 -- Assumes nothing.
-use mathlib.Core.Path.{_≡_, refl, ap, subst}
+use mathlib.Core.Path.{_≡_, refl, ap, subst, _∙_}
+use mathlib.Core.Logic.{_⊎_, inl, inr}
 use mathlib.Core.List.{List, [], _∷_, _++_}
 use Prim.Native.Nat.{ℕ}
 use lib.ListN.{length, drop}
@@ -32,7 +33,7 @@ use Rattle.hub.specs.Call.{reportBytes, hubOutcome, HubGives, HubAnswers}
 use Rattle.hub.specs.Bench.{wroteReport, HubWrites, reportAfter, elementFound, foundReport, HubAsks, HubReads, HubFinds}
 use Rattle.evidence.specs.Refusing.{Fault, Why}
 use Rattle.evidence.specs.BenchRefusing.{WhyAsk, WhyRead, WhyElement}
-use Rattle.evidence.specs.Results.{Result, AnswerSent, AnswerGiven, RequestGiven, AnswerRead, ElementGiven}
+use Rattle.evidence.specs.Results.{Result, AnswerSent, RefusedWith, AnswerGiven, RequestGiven, AnswerRead, ElementGiven}
 use Rattle.evidence.proofs.Calling.{answered-outcome}
 use Rattle.evidence.proofs.Refusals.{refused-why, why-refused, why-fault, ask-why, why-ask, ask-fault, ask-done, read-why, why-read, read-fault, element-why, why-element, element-fault}
 
@@ -166,3 +167,31 @@ module _ (kind : ℕ) (s : List ℕ) (i number : ℕ) (report report′ : List �
 
   pub hub-element-comes : HubFinds kind s i number report report′ → HubElementComes
   hub-element-comes h = hub-element-by (elementFound kind s i) refl h
+
+-- ---- what DemandOne says of each, from what it came to
+
+module _ (s q : List ℕ) (r : Answered) (rows rows′ ranges ranges′ out out′ : List ℕ) where
+  pub answer-kept : AnswerComes s q r rows rows′ ranges ranges′ out out′
+      → (AnswerSent s q r rows rows′ ranges ranges′ out out′ ⊎ ((x : Refusal) × (r ≡ Refused x) × Fault (s ∷ q ∷ []) x))
+      × ((x : Refusal) → r ≡ Refused x → Why s q (length rows) (length ranges) (length out) x)
+      × ((x : Refusal) → Why s q (length rows) (length ranges) (length out) x → r ≡ Refused x)
+      × ((x : Refusal) → r ≡ Refused x → (rows′ ≡ rows) × (ranges′ ≡ ranges) × (out′ ≡ out))
+  answer-kept (gives g none) = let i = g .3 in (inl g, λ x j. impossible (cc), λ x w. absurd (none x w), λ x j. impossible (cc))
+  answer-kept (refuses x (i, f, rows-as, ranges-as, out-as) w one) = (
+    inr (x, i, f),
+    λ y j. let k : x ≡ y = cc in rw (← k) w,
+    λ y v. i ∙ ap Refused (one y v),
+    λ y j. (rows-as, ranges-as, out-as),
+  )
+
+pub export-kept : (inputs : List (List ℕ)) (Given : Type 0) (Reason : Refusal → Type 0) (number : ℕ) (out out′ report report′ : List ℕ)
+    → ExportComes inputs Given Reason number out out′ report report′
+    → (((number ≡ 0) × Given) ⊎ RefusedWith inputs Reason number report report′)
+    × ((x : Refusal) → Reason x → (number ≡ x .number) × (report′ ≡ placed (refusalReport x) report))
+    × ((number ≡ 0 → ⊥) → out′ ≡ out)
+export-kept inputs Given Reason number out out′ report report′ (gives (e, g) none) = (inl (e, g), λ x w. absurd (none x w), λ z. absurd (z e))
+export-kept inputs Given Reason number out out′ report report′ (refuses x (e, f, u, t) w one) = (
+  inr (record { refusal = x; number-is = e; fault = f; reason = w; told = t }),
+  λ y v. rw (← one y v) (e, t),
+  λ z. u,
+)

@@ -1,12 +1,13 @@
 -- What a call gives where it refuses nothing: "its result" in demand 1. The answering call gives an answer, in either of its forms; the
--- bench's calls give a request, what an answer tells, and where an element stands. Why a call refuses, is said in Refusing and
--- BenchRefusing.
+-- bench's calls give a request, what an answer tells, and where an element stands. And what an exported call refuses with; why it does, is
+-- said in Refusing and BenchRefusing.
 -- Assumes nothing.
 use mathlib.Core.Path.{_≡_}
 use mathlib.Core.List.{List, _++_}
 use Prim.Native.Nat.{ℕ, _*_}
 use lib.ListN.{length, drop}
 use Rattle.laws.specs.Placed.{placed}
+use Rattle.numbers.specs.declared.refusal.Refusal.{Refusal}
 use Rattle.talk.specs.declared.range.Range.{Range}
 use Rattle.store.specs.Tables.{rowsOf}
 use Rattle.store.specs.declared.accessor.Found.the-variants as found
@@ -19,8 +20,9 @@ use Rattle.client.specs.AskWritten.{askBytes}
 use Rattle.client.specs.Read.{answerIn}
 use Rattle.client.specs.declared.answer.Received.{Received}
 use Rattle.client.specs.declared.answer.ReadAnswer.the-variants as answer
-use Rattle.hub.specs.Report.{threeNumbers}
+use Rattle.hub.specs.Report.{threeNumbers, refusalReport}
 use Rattle.hub.specs.Bench.{reportAfter, elementFound}
+use Rattle.evidence.specs.Refusing.{Fault}
 
 -- ---- an answer
 
@@ -69,3 +71,13 @@ AnswerRead w report report′ = (x : Received) × (answerIn w ≡ answer.Is x) �
 abbrev pub ElementGiven : ℕ → List ℕ → ℕ → List ℕ → List ℕ → Type 0
 ElementGiven kind s i report report′ =
     (place : ℕ) × (n : ℕ) × (elementFound kind s i ≡ found.At place n) × (report′ ≡ placed (threeNumbers 0 place n) report)
+
+-- ---- what an exported call refuses with
+
+-- "one of the numbered refusals of document 01, with the place of the fault", which the report takes; and its reason
+pub record RefusedWith (inputs : List (List ℕ)) (Reason : Refusal → Type 0) (number : ℕ) (report report′ : List ℕ) : Type 0 where
+  pub refusal : Refusal
+  pub number-is : number ≡ refusal .number
+  pub fault : Fault inputs refusal
+  pub reason : Reason refusal
+  pub told : report′ ≡ placed (refusalReport refusal) report
