@@ -11,8 +11,8 @@
 #include <string.h>
 #include <time.h>
 
-#define ROUNDS 5u
-#define SECONDS 0.2 /* for each of the three in each case */
+#define ROUNDS 100u  /* many short ones, as the least is taken and a machine is seldom quiet for long */
+#define SECONDS 0.25 /* for each of the three in each case */
 #define OUT 16842752u
 
 #ifdef PEER_ALONE
@@ -51,9 +51,10 @@ static void run_one(unsigned who, const struct timed *c) {
     }
 }
 
+/* The processor's time for this program, so that what else runs on the machine counts less. */
 static double now(void) {
     struct timespec t;
-    clock_gettime(CLOCK_MONOTONIC, &t);
+    clock_gettime(CLOCK_PROCESS_CPUTIME_ID, &t);
     return (double)t.tv_sec + (double)t.tv_nsec / 1e9;
 }
 
@@ -70,7 +71,7 @@ static double seconds_for(unsigned who, const struct timed *c, uint64_t repeats)
 static uint64_t repeats_for(unsigned who, const struct timed *c) {
     uint64_t n = 1;
     double seconds = seconds_for(who, c, n);
-    while (seconds < 0.005 && n < 1u << 24) {
+    while (seconds < 0.001 && n < 1u << 24) {
         n *= 2;
         seconds = seconds_for(who, c, n);
     }
