@@ -46,11 +46,11 @@ run: target/bench
 	@mkdir -p target/run
 	@sh tools/run target/bench --limit 400 --answer-bytes 200 bench/sample/book.store target/run/book
 
-# Looks into a fault from the field: CASE is a file of cases, as bench/sample/sample.cases is one. A file in which every line is one
-# of the program cases is run by library and peer.
-replay: target/bench
+# Looks into a fault from the field: CASE is a file of cases, as bench/sample/sample.cases is one. Every call in it is made by
+# library and peer, and a difference is a failure.
+replay: $(archive_file)
 	@test -n '$(CASE)' || { echo 'make replay CASE=FILE: a file of cases, such as bench/sample/sample.cases'; exit 2; }
-	@if sh peer/replay.sh --knows '$(CASE)' 2>/dev/null; then sh peer/replay.sh '$(CASE)'; else sh tools/run target/bench --replay '$(CASE)'; fi
+	@sh peer/replay.sh '$(CASE)'
 
 target/bench: $(wildcard bench/*.c bench/*.h) include/hub.h tools/cc $(archive_file)
 	@sh tools/cc $@ bench/*.c $(archive_file)

@@ -8,11 +8,11 @@
 #include <stdlib.h>
 #include <string.h>
 
-void say_help(void) {
+static void say_words(void) {
     puts("bench [OPTIONS] STORE BOOK              hold a talk: bring the book up to what the store has\n"
          "bench --hostile SEED [OPTIONS] STORE    damage the requests of such a talk and show what the hub says\n"
          "bench --dump FILE                       print the objects of a store, a request, an answer or a knowledge\n"
-         "bench --replay FILE                     run stored cases through the hub's side\n"
+         "bench --replay FILE                     make stored calls again, and show what they give\n"
          "\n"
          "  --limit N         ask for at most N bytes of elements in an answer, or one element (no limit)\n"
          "  --filters FILE    ask with these filters, spelled in hex as a request has them (none)\n"
@@ -26,10 +26,22 @@ void say_help(void) {
          "answer that brings something, with the knowledge beside it in BOOK.knowledge; one program at a time may use it.\n"
          "'Wanted left' counts the elements of the store that the book lacks, by id and serial number; those that filters\n"
          "put out count too.");
+}
+
+static void say_forms(void) {
     puts("\n"
-         "A line of a file of cases is `answer STOREHEX REQUESTHEX OUTLEN`, with or without two more numbers that are passed\n"
-         "over, or `store=FILE request=FILE out=OUTLEN`; files stand beside the file of cases. Bytes are hex, - for none.\n"
-         "\n"
+         "A line of a file of cases is one of these. Files stand beside the file of cases; bytes are hex, - for none. Behind\n"
+         "`answer` two more numbers may stand, which are passed over, and so are empty lines and those that begin with #.\n"
+         "   store=FILE request=FILE out=OUTLEN\n"
+         "   answer STOREHEX REQUESTHEX OUTLEN\n"
+         "   ask ID LIMIT FILTERHEX KNOWLEDGEHEX OUTLEN\n"
+         "   read ANSWERHEX\n"
+         "   received ANSWERHEX POSITION\n"
+         "   element STOREHEX POSITION");
+}
+
+static void say_statuses(void) {
+    puts("\n"
          "Exit status:\n"
          "   0  done\n"
          "   2  wrong use: words that are not taken, or not together\n"
@@ -43,6 +55,12 @@ void say_help(void) {
          "  10  a call did not keep a promise of include/hub.h\n"
          "  11  the book is full\n"
          "  12  no memory");
+}
+
+void say_help(void) {
+    say_words();
+    say_forms();
+    say_statuses();
 }
 
 static int wrong(const char *what, const char *word) {

@@ -3,7 +3,6 @@
 #include "lend.h"
 #include "sides.h"
 
-#include <stdlib.h>
 #include <string.h>
 
 #define LONGEST_REPORT 128u
@@ -125,7 +124,7 @@ size_t room_needed(const struct one_case *c) {
     return call(&sides[1], &again, &h) == HUB_OUTPUT_TOO_SHORT ? (size_t)hub_report_number(report, HUB_AT_LENGTH) : 0;
 }
 
-/* ---- lines */
+/* ---- a line */
 
 static void write_hex(FILE *to, const struct text *t) {
     size_t i;
@@ -150,63 +149,4 @@ void write_case(FILE *to, const struct one_case *c) {
         fprintf(to, "%llu", (unsigned long long)c->position);
     }
     fprintf(to, "\n");
-}
-
-static int digit(char c) {
-    return c >= '0' && c <= '9' ? c - '0' : c >= 'a' && c <= 'f' ? c - 'a' + 10 : -1;
-}
-
-static int read_hex(const char *word, struct text *t) {
-    text_clear(t);
-    if (strcmp(word, "-") == 0) {
-        return 1;
-    }
-    for (; word[0] != 0; word += 2) {
-        if (digit(word[0]) < 0 || digit(word[1]) < 0) {
-            return 0;
-        }
-        text_byte(t, (unsigned)(digit(word[0]) * 16 + digit(word[1])));
-    }
-    return 1;
-}
-
-static size_t words_of(char *line, char **words, size_t most) {
-    size_t n = 0;
-    char *word = strtok(line, " \n");
-    while (word != NULL && n < most) {
-        words[n++] = word;
-        word = strtok(NULL, " \n");
-    }
-    return n;
-}
-
-int read_case(char *line, struct one_case *c) {
-    char *w[7];
-    size_t n = words_of(line, w, 7);
-    c->report = LONGEST_REPORT;
-    c->room = 0;
-    c->kind = n > 0 && strcmp(w[0], "received") == 0;
-    text_clear(&c->second);
-    if ((n == 4 || n == 6) && strcmp(w[0], "answer") == 0) { /* the exported call has no tables: their lengths may be left out */
-        c->call = ANSWER;
-        c->room = (size_t)strtoull(w[3], NULL, 10);
-        return read_hex(w[1], &c->first) && read_hex(w[2], &c->second);
-    }
-    if (n == 6 && strcmp(w[0], "ask") == 0) {
-        c->call = ASK;
-        c->id = strtoull(w[1], NULL, 10);
-        c->limit = strtoull(w[2], NULL, 10);
-        c->room = (size_t)strtoull(w[5], NULL, 10);
-        return read_hex(w[3], &c->first) && read_hex(w[4], &c->second);
-    }
-    if (n == 2 && strcmp(w[0], "read") == 0) {
-        c->call = READ;
-        return read_hex(w[1], &c->first);
-    }
-    if (n != 3 || (strcmp(w[0], "element") != 0 && !c->kind)) {
-        return 0;
-    }
-    c->call = FIND;
-    c->position = strtoull(w[2], NULL, 10);
-    return read_hex(w[1], &c->first);
 }

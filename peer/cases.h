@@ -1,5 +1,5 @@
 /* One case: a call with all that it is handed. It is run by the library and by the peer on equal buffers, and what both leave is
-   compared byte by byte. A case can be written as a line of crates/cases/README.md, and read from one. */
+   compared byte by byte. A case can be written as a line of crates/cases/README.md; field.h reads such lines again. */
 #ifndef PEER_CASES_H
 #define PEER_CASES_H
 
@@ -32,8 +32,5 @@ size_t room_needed(const struct one_case *c);
 
 /* As one line. */
 void write_case(FILE *to, const struct one_case *c);
-
-/* From one line; 0 if it is none. */
-int read_case(char *line, struct one_case *c);
 
 #endif

@@ -1,8 +1,9 @@
 /* Compares the library with the peer on generated cases: valid, nearly valid (one decision spoiled), damaged, cut at each place,
    with --bytes every byte of a few cases changed to every other, and with --large at 16,777,216 bytes and one more. The words:
    --cases N, --seed N, --bytes, --large, --save FILE, --replay FILE. The seed is printed. A difference ends the run with status 1,
-   and its case is saved. */
+   and its case is saved. With --replay it makes the calls of a file of stored cases again instead (field.h). */
 #include "cases.h"
+#include "field.h"
 #include "large.h"
 
 #include <signal.h>
@@ -44,6 +45,7 @@ static void stopped(int signal_number) {
     if (current_case != NULL) {
         say_difference(current_run, current_case);
     }
+    say_field_stopped();
     fflush(stdout);
     _Exit(1);
 }
@@ -256,66 +258,6 @@ static void run_large(const struct one_case *c) {
     run_case(large_run, c);
 }
 
-/* ---- a case that was saved */
-
-static char *read_all(const char *name) {
-    FILE *from = fopen(name, "r");
-    struct text all = {0};
-    char part[65536];
-    size_t n;
-    if (from == NULL) {
-        printf("there is no file %s\n", name);
-        exit(2);
-    }
-    while ((n = fread(part, 1, sizeof part, from)) > 0) {
-        text_add(&all, part, n);
-    }
-    fclose(from);
-    text_byte(&all, 0);
-    return (char *)all.at;
-}
-
-/* One line by both, with reports of each length that makes a difference, which a line does not tell, and with each kind. */
-static int replay_case(struct one_case *c) {
-    static const size_t reports[] = {0, 8, 23, 24, 25, 87, 89, 100, 88};
-    static const uint64_t kinds[] = {1, 2, UINT64_MAX};
-    struct outcome o;
-    size_t i, k, last = c->kind == 0 ? 1 : 3;
-    for (i = 0; i < sizeof reports / sizeof *reports; i++) {
-        for (k = 0; k < last; k++) {
-            c->report = reports[i];
-            c->kind = c->kind == 0 ? 0 : kinds[k];
-            if (!agree(c, &o)) {
-                return 1;
-            }
-        }
-    }
-    printf("library and peer agree: number %llu, report %llu %llu %llu\n", (unsigned long long)o.number,
-           (unsigned long long)o.input, (unsigned long long)o.place, (unsigned long long)o.length);
-    return 0;
-}
-
-static int replay(const struct run *r) {
-    struct one_case c;
-    char *all = read_all(r->replay), *line, *next;
-    int status = 0;
-    memset(&c, 0, sizeof c);
-    for (line = all; *line != 0; line = next) {
-        size_t length = strcspn(line, "\n");
-        next = line + length + (line[length] == '\n');
-        line[length] = 0;
-        if (!read_case(line, &c)) {
-            printf("a line of %s is no case\n", r->replay);
-            exit(2);
-        }
-        status |= replay_case(&c);
-    }
-    free(all);
-    text_free(&c.first);
-    text_free(&c.second);
-    return status;
-}
-
 /* ---- words */
 
 static void read_words(struct run *r, int count, char **words) {
@@ -353,10 +295,10 @@ int main(int count, char **words) {
     read_words(&r, count, words);
     signal(SIGSEGV, stopped);
     signal(SIGBUS, stopped);
-    begin_cases(r.large || r.replay != NULL ? LARGEST_CASE : LONGEST_SMALL);
     if (r.replay != NULL) {
-        return replay(&r);
+        return field_cases(r.replay);
     }
+    begin_cases(r.large ? LARGEST_CASE : LONGEST_SMALL);
     printf("seed %llu\n", (unsigned long long)r.seed);
     large_run = &r;
     if (r.large) {

@@ -1,24 +1,17 @@
 #!/bin/sh
-# make replay CASE=FILE, for a file in which every line is one of crates/cases/README.md (answer, ask, read, received, element):
-# library and peer are called with each, and what both say is printed. The status is 0 if they agree. Of `answer` the two lengths of
-# tables may be left out. With the word --knows before the file it only says, by its status, whether the file is of this kind.
+# make replay CASE=FILE: the calls of a file of stored cases (bench --help tells the forms of a line), made again by the library and
+# by the peer. Of each it prints the library's account, and whether both agree in number, report and output. The status is 0 if
+# they agree in all, 1 if there is a difference or it cannot be run, 2 without the archive or a file, and else one of those that
+# bench --help tells, as for a file that cannot be read.
 set -u
-only=''
-[ "${1:-}" != --knows ] || { only=yes; shift; }
 
 fail() {
     printf 'peer/replay.sh: %s\n' "$*" >&2
     exit 2
 }
 
-[ $# -eq 1 ] && [ -r "$1" ] || fail 'needed: make replay CASE=FILE'
-# Each line is of one of these kinds; an empty file is not.
-[ -s "$1" ] && ! grep -Evq '^(answer|ask|read|received|element) ' "$1" || fail "$1 has a line of another kind, or none"
-[ -z "$only" ] || exit 0
-case $1 in
-/*) file=$1 ;;
-*) file=$PWD/$1 ;;
-esac
+[ $# -eq 1 ] && [ -n "$1" ] || fail 'needed: make replay CASE=FILE'
+from=$PWD
 cd "$(dirname "$0")/.." || exit 2
 . peer/files.sh
 
@@ -29,4 +22,7 @@ trap 'rm -rf "$room"' EXIT
 trap 'exit 1' HUP INT TERM
 # shellcheck disable=SC2086
 sh tools/cc "$room/compare" -Iinclude $peer_core $peer_compare "$archive" || fail 'the program is not compiled'
-sh tools/run "$room/compare" --replay "$file"
+# The name is taken, and told, as it was given.
+root=$PWD
+cd "$from" || exit 2
+sh "$root/tools/run" "$room/compare" --replay "$1"

@@ -1,6 +1,7 @@
 #!/bin/sh
 # Holds the driver to what it is for: peers with one line spoiled are compared with the library, and each has to be told from it.
-# Each line says which case or talk told one, and the last line how many were.
+# Each line says which case or talk told one, and the last line how many were. A case that told one is replayed, and so is the
+# sample of cases from the field, where one of them tells it.
 set -u
 cd "$(dirname "$0")/.." || exit 1
 . peer/files.sh
@@ -16,6 +17,7 @@ room=$(mktemp -d) || fail 'there is no room for temporary files'
 trap 'rm -rf "$room"' EXIT
 trap 'exit 1' HUP INT TERM
 found=0
+ln -s "$PWD/bench" "$room/bench" || fail 'there is no room for a link' # from where the programs have the reader of stored cases
 
 # A copy of the peer with one line of a file spoiled, built into a program.
 build() { # PROGRAM FILE RIGHT WRONG
@@ -36,14 +38,35 @@ build() { # PROGRAM FILE RIGHT WRONG
         { cat "$room/log"; fail "peer/$2.c with '$4' is not compiled"; }
 }
 
+replay() { # STATUS FILE WRONG
+    sh tools/run "$room/compare" --replay "$2" >"$room/again" 2>&1
+    got=$?
+    [ "$got" = "$1" ] || { tail -n 40 "$room/again"; fail "with '$3' $2 is replayed with the status $got, not $1"; }
+}
+
 # By the cases, and again by the case that is saved.
 spoil() { # FILE RIGHT WRONG
     build compare "$@"
     sh tools/run "$room/compare" --save "$room/case" >"$room/log" 2>&1 && fail "no case tells a peer with '$3' for '$2'"
     where=$(sed -n 's/^library and peer differ in \(case [0-9]*\).*/\1/p' "$room/log")
     [ -n "$where" ] || { cat "$room/log"; fail "the driver ends in another way with '$3'"; }
-    sh tools/run "$room/compare" --replay "$room/case" >"$room/again" 2>&1 && fail "the case for '$3' tells nothing when replayed"
+    replay 1 "$room/case" "$3"
+    grep -q '^library and peer differ in line 1$' "$room/again" || fail "the case for '$3' tells nothing when replayed"
     printf 'told by %s: %s: %s for %s\n' "$where" "$1" "${3:-nothing}" "$2"
+    found=$((found + 1))
+}
+
+# By a case from the field that is saved as files, which the sample has in its lines 6 to 8. The others are run all the same.
+spoil_field() { # LINE WORDS FILE RIGHT WRONG
+    line=$1 words=$2
+    shift 2
+    build compare "$@"
+    replay 1 bench/sample/sample.cases "$3"
+    [ "$(grep -E ' differ( |$)' "$room/again" | tr '\n' ';')" = "$words differ;library and peer differ in line $line;" ] &&
+        [ "$(grep -c '^library and peer agree' "$room/again")" = 4 ] &&
+        [ "$(tail -n 1 "$room/again")" = 'cases by library and peer: 5, with a difference: 1' ] ||
+        { cat "$room/again"; fail "with '$3' line $line of the sample alone is to tell"; }
+    printf 'told by line %s of the sample: %s: %s for %s\n' "$line" "$1" "${3:-nothing}" "$2"
     found=$((found + 1))
 }
 
@@ -86,6 +109,9 @@ spoil ask 'limit != UINT64_MAX' 'limit < UINT64_MAX - 1'
 spoil answer_read '(status & 1) == 0' 'status == 0'
 spoil answer_read 'RESPONSE, 1, DEPTH_READ' 'RESPONSE, 1, DEPTH'
 spoil answer_read 'position >= r.package.count' 'position > r.package.count'
+spoil_field 6 'the outputs' answer 'type == 1' 'type == 2'
+spoil_field 8 'the numbers' objects 'compound) ? 1 : refuse(in, WRONG_LAYOUT' 'compound) ? 1 : refuse(in, WRONG_END'
+spoil_field 8 'the reports' objects 'compound) ? 1 : refuse(in, WRONG_LAYOUT, h->place' 'compound) ? 1 : refuse(in, WRONG_LAYOUT, 1'
 spoil_talk page 'page->partial = 1' 'page->partial = 0'
 spoil_talk page 'page->partial = 0' 'page->partial = 1'
 spoil_talk page 'bytes > asked->limit' 'bytes >= asked->limit'

@@ -510,9 +510,21 @@ awk '/^hub_answer: 0,/ { next }
     /^answer: / { print "ok " $2 }
     /^hub_answer: / { gsub(/,/, ""); print "no " $2 " " $4 " " $6 " " $8 }' "$room/out" >"$room/answers"
 cmp "$room/answers" tests/answers.out || fail 'other results come from --replay tests/answers.in than tests/answers.out has'
+# And those of the bench's calls, as tests/benches.out has them.
+bench 0 '' --replay tests/benches.in
+awk '{ gsub(/[,:]/, "") }
+    $1 ~ /^hub_/ && $2 != 0 { print "no " $2, ($1 == "hub_ask" ? $4 " " $6 " " $8 : "0 " ($1 == "hub_read" ? $4 " 0" : $4 " " $6)) }
+    $1 == "request" || $1 == "element" { print "ok " $2 }
+    $1 == "hub_read" && $2 == 0 {
+        if ($NF == "null") guid = "0 00000000000000000000000000000000 0"; else guid = "1 " $NF " " $(NF - 2)
+        print "ok", $4, $6, guid, $10, $8, $13, $15
+    }' "$room/out" >"$room/calls"
+cmp "$room/calls" tests/benches.out || fail 'other results come from --replay tests/benches.in than tests/benches.out has'
 fresh
 printf 'answer 00 00\n' >"$room/cases"
 fault 5 "$room/cases, line 1: it is no case" '* ' --replay "$room/cases"
+printf 'read -\nreceived 00\n' >"$room/cases"
+fault 5 "$room/cases, line 2: it is no case of the form \`received ANSWERHEX POSITION\`" '* ' --replay "$room/cases"
 printf '# nothing\n#\000 answer 00 00 0\n' >"$room/cases"
 fault 5 "$room/cases, line 2: it has a NUL byte" '* ' --replay "$room/cases"
 printf '# nothing\n\n' >"$room/cases"
@@ -522,7 +534,8 @@ fault 3 "$room/absent: it cannot be opened" '* ' --replay "$room/cases"
 printf 'store=three request=large out=10\n' >"$room/cases"
 bench 0 'hub_answer: 1, input 1, place 16777216, length 0' --replay "$room/cases"
 
-printf 'tests/bench.sh: %s talks, %s faults, %s steps of a save, %s texts and %s replayed answers as they should be\n' \
-    "$talks" "$faults" "$(wc -l <"$room/order" | tr -d ' ')" "$printed" "$(wc -l <tests/answers.in | tr -d ' ')"
-# Talks, faults, the steps of a save, texts and replayed answers are a test each.
+printf 'tests/bench.sh: %s talks, %s faults, %s steps of a save, %s texts and %s replayed calls as they should be\n' \
+    "$talks" "$faults" "$(wc -l <"$room/order" | tr -d ' ')" "$printed" \
+    "$(cat tests/answers.in tests/benches.in | wc -l | tr -d ' ')"
+# Talks, faults, the steps of a save, texts and replayed calls are a test each.
 printf '5 passed, 0 failed\n'

@@ -67,20 +67,88 @@ compare bench "$room/bench.in" "$room/bench.out"
 printf 'tests/peer.sh: %s stored cases by the peer\n' "$stored"
 passed=$((passed + 1))
 
-# ---- cases from the field: make replay has them run by both, if each line is one that the peer knows
-request=$(awk '$1 == "answer" && NF == 6 { print $3; exit }' crates/cases/stdin)
-printf 'answer ac020055 %s 4096\nanswer ac020055 %s 4096 1536 2048\nread 00\n' "$request" "$request" >"$room/field"
-sh peer/replay.sh "$room/field" >"$room/log" 2>&1 || { cat "$room/log"; fail 'peer/replay.sh does not run stored lines'; }
-[ "$(grep -c '^library and peer agree' "$room/log")" = 3 ] || { cat "$room/log"; fail 'peer/replay.sh does not come to its end'; }
-for line in 'store=a request=b out=1' '# words' ''; do
-    { cat "$room/field" && printf '%s\n' "$line"; } >"$room/mixed"
-    ! sh peer/replay.sh --knows "$room/mixed" 2>/dev/null || fail "the peer is to run a file with the line '$line'"
-done
+# ---- cases from the field: make replay has every call made by both, in whatever form it is saved
+# shellcheck disable=SC2086
+compile compare $peer_core $peer_compare "$archive"
+replays() { # STATUS AGREEMENTS FILE: a difference would be a line that begins with the same words
+    (cd "$room" && sh "$OLDPWD/tools/run" ./compare --replay "$3") >"$room/log" 2>&1
+    got=$?
+    [ "$got" = "$1" ] || { cut -c 1-200 "$room/log"; fail "$3 is replayed with the status $got, not $1"; }
+    [ "$(grep -c '^library and peer agree: number ' "$room/log")" = "$2" ] &&
+        [ "$(grep -c '^library and peer ' "$room/log")" = "$2" ] ||
+        { cut -c 1-200 "$room/log"; fail "of $3 library and peer are to agree in $2 cases"; }
+}
+says() { # WORDS: somewhere in what the last replay said
+    grep -Fq -e "$1" "$room/log" || { cut -c 1-200 "$room/log"; fail "in a replay nobody says '$1'"; }
+}
+
+# Every form in one file, with comments, empty lines, blanks of all kinds and digits of both cases.
+store=ac020055 request=$(awk '$1 == "answer" && NF == 6 { print $3; exit }' crates/cases/stdin)
+mkdir "$room/folder" || fail 'there is no room for a folder'
+cp bench/sample/manifests.store bench/sample/first.request "$room/folder/"
+{
+    printf '# words\n\nanswer %s %s 4096\nanswer %s %s 40 1536 2048\n' "$store" "$request" "$store" "$request"
+    printf 'store=manifests.store request=first.request out=4096\n  \t\r\n'
+    printf ' store=%s\trequest=../folder/first.request  out=534 \r\n' "$room/folder/manifests.store"
+    printf 'answer AC020055 - 0\nask 1 18446744073709551615 - - 256\nread 00\n#\nreceived 0c00 0\nelement %s 0' "$store"
+} >"$room/folder/field"
+replays 0 9 folder/field
+says 'line 3: store 4 bytes, request '
+says 'line 5: store 417 bytes, request 88 bytes, output 4096 bytes'
+says 'hub_answer: 14, input 0, place 0, length 41 (the output is too short)'
+says 'line 7: store 417 bytes, request 88 bytes, output 534 bytes'
+says 'hub_element: 9, place 0, length 0 ('
+says 'cases by library and peer: 9, with a difference: 0'
+cp "$room/log" "$room/before"
+(cd "$room" && sh "$OLDPWD/peer/replay.sh" folder/field) >"$room/log" 2>&1
+cmp "$room/before" "$room/log" || fail 'peer/replay.sh in another folder does not do the same'
+
+# The sample, by make; a make above this one would have its own last word on what is printed.
+(unset MAKELEVEL MAKEFLAGS MFLAGS && make replay CASE=bench/sample/sample.cases) >"$room/log" 2>&1 ||
+    { cat "$room/log"; fail 'make replay fails on the sample'; }
+grep '^library and peer ' "$room/log" >"$room/judged"
+grep -v -e '^library and peer ' -e '^cases by ' "$room/log" | cmp - tests/bench/replay.txt ||
+    fail 'make replay gives another account than the program in bench/'
+[ "$(grep -c '^library and peer agree' "$room/judged")" = 5 ] && [ "$(wc -l <"$room/judged")" -eq 5 ] ||
+    { cat "$room/judged"; fail 'of the sample library and peer are to agree in 5 cases'; }
+
+# Stored lines of the bench's calls; and a store of 16,777,216 bytes, one element with as many as fit, by its file and in hex.
+replays 0 "$(wc -l <tests/benches.in | tr -d ' ')" "$PWD/tests/benches.in"
+{
+    printf '\254\002\000\014\126\014\020\021\022\023\024\025\026\027\030\031\032\033\034\035\036\037\200'
+    printf '\040\041\042\043\044\045\046\047\050\051\052\053\054\055\056\057\007\000\000\000\000\000\000\000\013'
+    printf '\032\000\376\377\150\374\377\017'
+    dd if=/dev/zero bs=16777158 count=1 2>/dev/null
+    printf '\005\125'
+} >"$room/folder/long.store"
+[ "$(wc -c <"$room/folder/long.store")" -eq 16777216 ] || fail 'the long store has another length'
+printf 'store=long.store request=first.request out=4096\n' >"$room/folder/long"
+{
+    printf 'answer '
+    od -An -v -tx1 "$room/folder/long.store" | tr -d ' \n'
+    printf ' %s 4096\n' "$request"
+} >>"$room/folder/long"
+replays 0 2 folder/long
+says 'line 1: store 16777216 bytes, request 88 bytes, output 4096 bytes'
+says 'line 2: store 16777216 bytes, '
+[ "$(grep -c '^hub_answer: 14, input 0, place 0, length 16777298 ' "$room/log")" = 2 ] ||
+    { cut -c 1-200 "$room/log"; fail 'the long store is not answered as it should be'; }
+
+# What cannot be read has the status and the words that it has with the program in bench/, after the cases before it.
+replays 3 0 absent
+says 'bench: absent: it cannot be opened: No such file'
+printf 'read 00\nstore=absent request=first.request out=1\n' >"$room/folder/field"
+replays 3 1 folder/field
+says 'bench: folder/absent: it cannot be opened: No such file'
+printf 'read 00\nask 1\n' >"$room/folder/field"
+replays 5 1 folder/field
+says 'bench: folder/field, line 2: it is no case of the form `ask ID LIMIT FILTERHEX KNOWLEDGEHEX OUTLEN`'
+printf '# none\n' >"$room/folder/field"
+replays 5 0 folder/field
+says 'bench: folder/field: there is no case in it'
 passed=$((passed + 1))
 
 # ---- generated cases and talks, by both
-# shellcheck disable=SC2086
-compile compare $peer_core $peer_compare "$archive"
 # shellcheck disable=SC2086
 compile series $peer_core $peer_series "$archive"
 

@@ -1,0 +1,183 @@
+/* Files of stored cases (stored.h). What a case has is taken as it is, too long or damaged too. */
+#include "stored.h"
+#include "files.h"
+#include "options.h"
+#include "status.h"
+
+#include <stdio.h>
+#include <stdlib.h>
+#include <string.h>
+
+#define MOST_WORDS 7u /* one more than a case has */
+
+/* A line, cut into its words. */
+struct line {
+    const char *file;
+    size_t number, count;
+    char *words[MOST_WORDS];
+};
+
+/* The forms of a line that has its bytes in hex, each under its first word. */
+static const char *const forms[] = {
+    "answer STOREHEX REQUESTHEX OUTLEN", "ask ID LIMIT FILTERHEX KNOWLEDGEHEX OUTLEN", "read ANSWERHEX",
+    "received ANSWERHEX POSITION",       "element STOREHEX POSITION",
+};
+
+static const char *form_of(const char *word) {
+    size_t n = strlen(word);
+    for (size_t i = 0; i < sizeof forms / sizeof forms[0]; i++) {
+        if (strncmp(word, forms[i], n) == 0 && forms[i][n] == ' ') {
+            return forms[i];
+        }
+    }
+    return NULL;
+}
+
+/* Cuts a line into its words at the blanks, as far as there is room for them. */
+static void cut_words(char *text, struct line *l) {
+    static const char blanks[] = " \t\r";
+    text += strspn(text, blanks);
+    while (*text != 0 && l->count < MOST_WORDS) {
+        l->words[l->count++] = text;
+        text += strcspn(text, blanks);
+        if (*text != 0) {
+            *text++ = 0;
+            text += strspn(text, blanks);
+        }
+    }
+}
+
+static int bad_line(const struct line *l, const char *what) {
+    fprintf(stderr, "bench: %s, line %zu: %s\n", l->file, l->number, what);
+    return WRONG_CONTENT;
+}
+
+static int other_form(const struct line *l, const char *form) {
+    fprintf(stderr, "bench: %s, line %zu: it is no case of the form `%s`\n", l->file, l->number, form);
+    return WRONG_CONTENT;
+}
+
+static int is_hex(struct bytes *b, const char *word) {
+    return strcmp(word, "-") == 0 || bytes_spelled(b, word, strlen(word));
+}
+
+static int is_room(struct stored *c, const char *word) {
+    uint64_t room = 0;
+    int good = decimal(word, STORED_LONGEST, &room);
+    c->room = (size_t)room;
+    return good;
+}
+
+/* One of the forms: whether the line is as it says. Behind those of `answer` two numbers may stand, which are passed over. */
+static int spelled_case(const struct line *l, struct stored *c) {
+    char *const *w = l->words;
+    if (strcmp(w[0], "answer") == 0) {
+        c->call = CALL_ANSWER;
+        return (l->count == 4 || l->count == 6) && is_hex(&c->first, w[1]) && is_hex(&c->second, w[2]) && is_room(c, w[3]);
+    }
+    if (strcmp(w[0], "ask") == 0) {
+        c->call = CALL_ASK;
+        return l->count == 6 && decimal(w[1], UINT64_MAX, &c->id) && decimal(w[2], UINT64_MAX, &c->limit) &&
+               is_hex(&c->first, w[3]) && is_hex(&c->second, w[4]) && is_room(c, w[5]);
+    }
+    if (strcmp(w[0], "read") == 0) {
+        c->call = CALL_READ;
+        return l->count == 2 && is_hex(&c->first, w[1]);
+    }
+    c->call = CALL_ELEMENT;
+    c->kind = strcmp(w[0], "element") == 0 ? HUB_IN_STORE : HUB_IN_ANSWER;
+    return l->count == 3 && is_hex(&c->first, w[1]) && decimal(w[2], UINT64_MAX, &c->position);
+}
+
+/* The file that a word of a case names, in the folder of the file of cases. */
+static int read_beside(const char *cases, const char *word, struct bytes *into) {
+    const char *slash = strrchr(cases, '/');
+    size_t n = word[0] == '/' || slash == NULL ? 0 : (size_t)(slash - cases) + 1;
+    char *name = memory(n + strlen(word) + 1);
+    memcpy(name, cases, n);
+    memcpy(name + n, word, strlen(word) + 1);
+    int status = file_read(name, STORED_LONGEST, into);
+    free(name);
+    return status;
+}
+
+/* `store=FILE request=FILE out=OUTLEN`. */
+static int named_case(const struct line *l, struct stored *c) {
+    char *const *w = l->words;
+    if (l->count != 3 || strncmp(w[0], "store=", 6) != 0 || strncmp(w[1], "request=", 8) != 0 || strncmp(w[2], "out=", 4) != 0 ||
+        !is_room(c, w[2] + 4)) {
+        return bad_line(l, "it is no case (bench --help tells the forms)");
+    }
+    c->call = CALL_ANSWER;
+    int status = read_beside(l->file, w[0] + 6, &c->first);
+    return status == ENDED_WELL ? read_beside(l->file, w[1] + 8, &c->second) : status;
+}
+
+static int read_case(const struct line *l, struct stored *c) {
+    const char *form = form_of(l->words[0]);
+    if (form == NULL) {
+        return named_case(l, c);
+    }
+    return spelled_case(l, c) ? ENDED_WELL : other_form(l, form);
+}
+
+/* What is done with the cases, and how many there were. */
+struct course {
+    int (*run)(const struct stored *c, void *with);
+    void *with;
+    size_t cases;
+};
+
+/* One line; empty ones and those that begin with # are passed over. */
+static int one_line(const struct line *l, struct course *course) {
+    struct stored c = {l->number, CALL_ANSWER, 0, 0, 0, 0, {NULL, 0, 0}, {NULL, 0, 0}, 0};
+    if (l->count == 0 || l->words[0][0] == '#') {
+        return ENDED_WELL;
+    }
+    int status = read_case(l, &c);
+    if (status == ENDED_WELL) {
+        course->cases++;
+        status = course->run(&c, course->with);
+    }
+    bytes_free(&c.first);
+    bytes_free(&c.second);
+    return status;
+}
+
+/* The lines of a file that was read. */
+static int all_lines(const char *name, const struct bytes *text, struct course *course) {
+    size_t number = 0, place = 0;
+    int status = ENDED_WELL;
+    while (status == ENDED_WELL && place < text->length) {
+        const uint8_t *end = memchr(text->at + place, '\n', text->length - place);
+        size_t n = end == NULL ? text->length - place : (size_t)(end - text->at) - place;
+        struct line l = {name, ++number, 0, {NULL}};
+        char *line = memory(n + 1);
+        memcpy(line, text->at + place, n);
+        line[n] = 0;
+        place += n + 1;
+        if (memchr(line, 0, n) != NULL) { /* it would end the line as a string, and what stands behind it would not be seen */
+            status = bad_line(&l, "it has a NUL byte");
+        } else {
+            cut_words(line, &l);
+            status = one_line(&l, course);
+        }
+        free(line);
+    }
+    return status;
+}
+
+int stored_each(const char *name, int (*run)(const struct stored *c, void *with), void *with) {
+    struct course course = {run, with, 0};
+    struct bytes text = {NULL, 0, 0};
+    int status = file_read(name, STORED_LONGEST, &text);
+    if (status == ENDED_WELL) {
+        status = all_lines(name, &text, &course);
+    }
+    if (status == ENDED_WELL && course.cases == 0) {
+        fprintf(stderr, "bench: %s: there is no case in it\n", name);
+        status = WRONG_CONTENT;
+    }
+    bytes_free(&text);
+    return status;
+}

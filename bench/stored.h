@@ -1,0 +1,27 @@
+/* Files of stored cases: a line for each call that is to be made again. bench --help tells the forms of a line. */
+#ifndef STORED_H
+#define STORED_H
+
+#include "../include/hub.h"
+#include "bytes.h"
+
+/* No input and no output of a case is longer, and no file of cases: there is room for two inputs in hex that are longer than any
+   that are taken. */
+#define STORED_LONGEST (8u * HUB_LONGEST_INPUT)
+
+enum stored_call { CALL_ANSWER, CALL_ASK, CALL_READ, CALL_ELEMENT };
+
+struct stored {
+    size_t line; /* in the file of cases, counted from 1 */
+    enum stored_call call;
+    uint64_t id, limit;         /* of CALL_ASK */
+    uint64_t kind, position;    /* of CALL_ELEMENT */
+    struct bytes first, second; /* the inputs in their order; a call with one has nothing as the second */
+    size_t room;                /* of the output, if there is one */
+};
+
+/* Reads the cases of a file, and hands each to `run` with the pointer. It stops at the first status that is not ENDED_WELL: that
+   of `run`, CANNOT_OPEN, TOO_LARGE or WRONG_CONTENT, which are said on the error output. */
+int stored_each(const char *name, int (*run)(const struct stored *c, void *with), void *with);
+
+#endif

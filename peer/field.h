@@ -1,0 +1,12 @@
+/* Cases from the field: the calls of a file of stored cases (bench/stored.h), made again by the library and by the peer. */
+#ifndef PEER_FIELD_H
+#define PEER_FIELD_H
+
+/* Prints of each case the library's account (bench/replay.h), and whether both agree. 1 if there is a difference; else the status
+   of bench/status.h, 0 if all is well. */
+int field_cases(const char *name);
+
+/* Says which case is under way, if one is: for a call that touches a protected page, which is a difference too. */
+void say_field_stopped(void);
+
+#endif
