@@ -1,12 +1,15 @@
 #!/bin/sh
 # peer/sanitize.sh [CASES [TALKS]]: the peer, its drivers and the program in bench/ built natively under the address and
 # undefined-behaviour sanitizers, by each compiler of the machine that has them, and run. On x86-64 the library is linked in;
-# elsewhere it cannot be, and the peer is held to the stored results and to itself. The last line is 'N passed, 0 failed'.
+# elsewhere it cannot be, and the peer is held to the stored results and to itself. A case that tells a difference is saved in
+# target/peer. The last line is 'N passed, 0 failed'.
 set -u
 cd "$(dirname "$0")/.." || exit 1
 . peer/files.sh
-cases=${1:-20000} talks=${2:-1000} passed=0
-export ASAN_OPTIONS=detect_leaks=0 # the peer takes nothing from the heap, and what the drivers take ends with them
+cases=${1:-20000} talks=${2:-1000} passed=0 saved=target/peer/sanitize.case
+# The peer takes nothing from the heap, and what the drivers take ends with them. The program in bench/ gives back what it takes,
+# which is looked at where it is run.
+export ASAN_OPTIONS=detect_leaks=0
 
 fail() {
     printf 'peer/sanitize.sh: FAILED: %s\n' "$*"
@@ -17,10 +20,14 @@ room=$(mktemp -d) || fail 'there is no room for temporary files'
 trap 'rm -rf "$room"' EXIT
 trap 'exit 1' HUP INT TERM
 
+mkdir -p target/peer || fail 'there is no room for a case'
+rm -f "$saved"
+
 # ---- with the library or alone
 with='-DPEER_ALONE' archive='' said='the peer alone, and the bench with it,'
+calls='-Dhub_answer=peer_answer -Dhub_ask=peer_ask -Dhub_read=peer_read -Dhub_element=peer_element'
 if [ "$(uname -m)" = x86_64 ]; then
-    with='' archive=target/staticlib/libhub.a said='library, peer and bench'
+    with='' calls='' archive=target/staticlib/libhub.a said='library, peer and bench'
     [ -s "$archive" ] || fail "there is no $archive: make archive writes it"
 fi
 flags='-std=c99 -O1 -g -Wall -Wextra -Werror -pedantic -Iinclude -fsanitize=address,undefined -fno-sanitize-recover=all'
@@ -48,7 +55,11 @@ build() { # NAME WORDS..
 run() { # NAME WORDS..: its last line is to be '0 differences'
     name=$1
     shift
-    "$room/$name" "$@" >"$room/log" 2>&1 || { tail -n 40 "$room/log"; fail "$name, built by $compiler, does not end well"; }
+    "$room/$name" "$@" >"$room/log" 2>&1 || {
+        tail -n 40 "$room/log"
+        [ ! -s "$saved" ] || printf 'peer/sanitize.sh: make replay CASE=%s\n' "$saved"
+        fail "$name, built by $compiler, does not end well"
+    }
     [ "$(tail -n 1 "$room/log")" = '0 differences' ] || { tail -n 40 "$room/log"; fail "$name does not come to its end"; }
     passed=$((passed + 1))
 }
@@ -60,9 +71,18 @@ stored() { # PROGRAM CASES EXPECTED
     passed=$((passed + 1))
 }
 
-# A talk of the program in bench/ on its sample, damaged requests, a dump of each kind, and cases: all end well.
+# A talk of the program in bench/ on its sample, damaged requests, a dump of each kind, and cases: all end well, and where leaks can
+# be looked for there is none. Faults end well if they end with their status.
 ends_well() { # WORDS..
-    "$room/talk" "$@" >"$room/log" 2>&1 || { tail -n 40 "$room/log"; fail "bench $*, built by $compiler, does not end well"; }
+    ends_with 0 "$@"
+}
+ends_with() { # STATUS WORDS..
+    awaited=$1
+    shift
+    ASAN_OPTIONS=detect_leaks=$leaks "$room/talk" "$@" >"$room/log" 2>&1
+    got=$?
+    [ "$got" = "$awaited" ] ||
+        { tail -n 40 "$room/log"; fail "bench $*, built by $compiler, ends with the status $got, not $awaited"; }
 }
 talks_well() {
     sample=bench/sample
@@ -73,10 +93,22 @@ talks_well() {
     for file in $sample/book.store $sample/first.request $sample/first.answer "$room/book.knowledge"; do
         ends_well --dump "$file"
     done
-    for file in $sample/sample.cases tests/answers.in; do
+    for file in $sample/sample.cases tests/answers.in tests/benches.in; do
         ends_well --replay "$file"
     done
+    ends_with 2 --limit
+    ends_with 3 --replay "$room/absent"
+    ends_with 5 --replay $sample/book.store
+    ends_with 5 $sample/first.request "$room/other"
     cmp "$room/book" "$sample/book.store" || fail "the book of the program in bench/, built by $compiler, is not the store"
+    passed=$((passed + 1))
+}
+
+# Cases from the field, by both.
+replayed() {
+    for file in bench/sample/sample.cases tests/benches.in; do
+        "$room/compare" --replay "$file" >"$room/log" 2>&1 || { tail -n 40 "$room/log"; fail "$file is not replayed well"; }
+    done
     passed=$((passed + 1))
 }
 
@@ -88,27 +120,30 @@ for compiler in $compilers; do
     printf 'int main(void) { return 0; }\n' >"$room/none.c"
     # shellcheck disable=SC2086
     "$compiler" $flags -o "$room/none" "$room/none.c" >/dev/null 2>&1 && "$room/none" || continue
+    leaks=1 # they cannot be looked for under a debugger, nor where the kernel forbids to look at a process
+    ASAN_OPTIONS=detect_leaks=1 "$room/none" >/dev/null 2>&1 ||
+        { leaks=0; printf 'peer/sanitize.sh: leaks cannot be looked for here by %s\n' "$compiler"; }
     rm -f "$room"/*.o
     # shellcheck disable=SC2086
     {
         build answer -Dhub_answer=peer_answer tests/answer.c $peer_core
         build bench -Dhub_ask=peer_ask -Dhub_read=peer_read -Dhub_element=peer_element tests/bench.c $peer_core
-        build compare $peer_core $peer_compare $archive
+        build compare $calls $peer_core $peer_compare $archive
         build series $peer_core $peer_series $archive
         build speed $peer_core $peer_speed $archive
         if [ -n "$archive" ]; then
             build talk bench/*.c $archive
         else
-            build talk -Dhub_answer=peer_answer -Dhub_ask=peer_ask -Dhub_read=peer_read -Dhub_element=peer_element bench/*.c \
-                $peer_core
+            build talk $calls bench/*.c $peer_core
         fi
     }
     talks_well
     stored answer tests/answers.in tests/answers.out
     stored bench tests/benches.in tests/benches.out
-    run compare --cases "$cases" --save "$room/case"
-    run compare --large --save "$room/case"
-    run series --talks "$talks" --save "$room/case"
+    run compare --cases "$cases" --save "$saved"
+    run compare --large --save "$saved"
+    run series --talks "$talks" --save "$saved"
+    replayed
     done_with="$done_with $compiler"
 done
 [ -n "$done_with" ] || fail 'no compiler here (gcc, clang or cc) has the address and undefined-behaviour sanitizers'
