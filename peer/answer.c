@@ -1,4 +1,4 @@
-/* The answering call: reads store and request, decides the page, and only then writes. */
+/* The answering call, without tables and with them: reads store and request, decides the page, and only then writes. */
 #include "knowledge.h"
 #include "objects.h"
 #include "page.h"
@@ -66,27 +66,96 @@ static void put_answer(uint8_t *p, const uint8_t *bytes, const struct store *sto
     memcpy(p, ends, sizeof ends);
 }
 
-uint64_t peer_answer(const uint8_t *store, size_t store_len, const uint8_t *request, size_t request_len, uint8_t *out,
-                     size_t out_len, uint8_t *report, size_t report_len) {
-    struct input in;
+/* All that an answer is made of. */
+struct work {
     struct store elements;
     struct asked asked;
     struct page page;
     struct name index;
+};
+
+static uint64_t answer_by(struct work *w, const uint8_t *store, size_t store_len, const uint8_t *request, size_t request_len,
+                          uint8_t *out, size_t out_len, uint8_t *report, size_t report_len) {
+    struct input in;
+    size_t around;
     unsigned fault;
-    if (!begin_input(&in, store, store_len, LONGEST_INPUT) || !read_store(&in, &elements)) {
+    if (!begin_input(&in, store, store_len, LONGEST_INPUT) || !read_store(&in, &w->elements)) {
         return tell_fault(&in, 0, report, report_len);
     }
-    if (!begin_input(&in, request, request_len, LONGEST_INPUT) || !read_request(&in, &asked, &elements)) {
+    if (!begin_input(&in, request, request_len, LONGEST_INPUT) || !read_request(&in, &w->asked, &w->elements)) {
         return tell_fault(&in, 1, report, report_len);
     }
-    index = storage_index(&elements);
-    fault = decide_page(&page, &elements, &asked, AROUND + compact_length(asked.id) + extended_guid_length(&index), out_len);
+    w->index = storage_index(&w->elements);
+    around = AROUND + compact_length(w->asked.id) + extended_guid_length(&w->index);
+    fault = decide_page(&w->page, &w->elements, &w->asked, around, out_len);
     if (fault == TOO_MANY) {
         return tell(fault, report, report_len, 0, 0, 0);
     }
     if (fault == 0) {
-        put_answer(out, store, &elements, &asked, &page, &index);
+        put_answer(out, store, &w->elements, &w->asked, &w->page, &w->index);
     }
-    return tell(fault, report, report_len, 0, 0, page.length);
+    return tell(fault, report, report_len, 0, 0, w->page.length);
+}
+
+uint64_t peer_answer(const uint8_t *store, size_t store_len, const uint8_t *request, size_t request_len, uint8_t *out,
+                     size_t out_len, uint8_t *report, size_t report_len) {
+    struct work w;
+    return answer_by(&w, store, store_len, request, request_len, out, out_len, report, report_len);
+}
+
+/* ---- the tables */
+
+#define ROW_NUMBERS 6u
+#define RANGE_NUMBERS 4u
+#define ROWS_NEEDED (ROW_NUMBERS * MOST_ELEMENTS)
+#define RANGES_NEEDED (RANGE_NUMBERS * MOST_RANGES)
+
+/* The rows have a GUID's two halves as little-endian numbers, unlike struct guid. */
+static void put_halves(uint64_t *to, struct guid guid) {
+    uint8_t bytes[16];
+    unsigned i;
+    put_guid(bytes, guid);
+    for (i = 0; i < 2; i++) {
+        to[i] = little8(bytes + 8 * i);
+    }
+}
+
+static void put_rows(uint64_t *to, const struct store *store) {
+    unsigned i;
+    for (i = 0; i < store->count; i++, to += ROW_NUMBERS) {
+        const struct element *e = &store->elements[i];
+        to[0] = e->place;
+        to[1] = e->length;
+        to[2] = e->type;
+        put_halves(to + 3, e->serial.guid);
+        to[5] = e->serial.number;
+    }
+}
+
+static void put_range_rows(uint64_t *to, const struct ranges *set) {
+    unsigned i;
+    for (i = 0; i < set->count; i++, to += RANGE_NUMBERS) {
+        put_halves(to, set->rows[i].guid);
+        to[2] = set->rows[i].from;
+        to[3] = set->rows[i].to;
+    }
+}
+
+uint64_t peer_answer_tables(const uint8_t *store, size_t store_len, const uint8_t *request, size_t request_len, uint64_t *rows,
+                            size_t rows_len, uint64_t *ranges, size_t ranges_len, uint8_t *out, size_t out_len, uint8_t *report,
+                            size_t report_len) {
+    struct work w;
+    uint64_t number;
+    if (rows_len < ROWS_NEEDED || ranges_len < RANGES_NEEDED) {
+        return tell(TABLE_TOO_SHORT, report, report_len, 0, 0, 0);
+    }
+    number = answer_by(&w, store, store_len, request, request_len, out, out_len, report, report_len);
+    if (number == 0) {
+        put_rows(rows, &w.elements);
+        put_range_rows(ranges, &w.asked.known);
+    }
+    if (number == 0 && report_len >= PEER_TABLES_REPORT_BYTES) {
+        put_little(put_little(report + REPORT_BYTES, w.elements.count, 8), w.asked.known.count, 8);
+    }
+    return number;
 }

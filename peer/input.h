@@ -19,6 +19,7 @@ enum {
     NULL_NAME = 10,
     SEEN_BEFORE = 11,
     FROM_ABOVE_TO = 12,
+    TABLE_TOO_SHORT = 13,
     OUTPUT_TOO_SHORT = 14
 };
 
