@@ -111,19 +111,6 @@ int agree(const struct one_case *c, struct outcome *peer) {
     return what == NULL;
 }
 
-size_t room_needed(const struct one_case *c) {
-    uint8_t report[24];
-    struct one_case again = *c;
-    struct handed h;
-    again.room = 0;
-    again.report = sizeof report;
-    h.first = c->first.at;
-    h.second = c->second.at;
-    h.out = NULL;
-    h.report = report;
-    return call(&sides[1], &again, &h) == HUB_OUTPUT_TOO_SHORT ? (size_t)hub_report_number(report, HUB_AT_LENGTH) : 0;
-}
-
 /* ---- a line */
 
 static void write_hex(FILE *to, const struct text *t) {

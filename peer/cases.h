@@ -27,9 +27,6 @@ struct outcome {
 /* Whether library and peer agree. If they do not, it says in what. */
 int agree(const struct one_case *c, struct outcome *peer);
 
-/* What the peer says of a case with an output of no bytes: the length that it would need. */
-size_t room_needed(const struct one_case *c);
-
 /* As one line. */
 void write_case(FILE *to, const struct one_case *c);
 

@@ -1,6 +1,7 @@
 /* Cases of 16,777,216 and 16,777,217 bytes, in answers that are read 16,842,752 and 16,842,753. Each is right but for its length,
    or is cut, or has its last byte spoiled. */
 #include "large.h"
+#include "generate.h"
 
 #include <stdlib.h>
 #include <string.h>
