@@ -7,4 +7,5 @@ peer_makers='peer/text.c peer/make_items.c peer/make.c peer/make_messages.c'
 peer_stored='bench/stored.c bench/replay.c bench/guarded.c bench/report.c bench/bytes.c bench/files.c bench/options.c'
 peer_compare="$peer_makers peer/generate.c peer/lend.c peer/cases.c peer/large.c peer/field.c $peer_stored peer/compare.c"
 peer_series="$peer_makers peer/lend.c peer/cases.c peer/model.c peer/series.c"
+peer_tables="$peer_makers peer/generate.c peer/lend.c peer/tables.c"
 peer_speed="$peer_makers peer/speed.c"

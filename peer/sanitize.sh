@@ -104,6 +104,14 @@ talks_well() {
     passed=$((passed + 1))
 }
 
+# The tables that are lent, by the peer alone: what it has no right to touch is looked at, and nothing is compared.
+lends_tables() {
+    mkdir -p "$room/tables.lent" || fail 'there is no room for the lines'
+    "$room/tables" --cases "$cases" --into "$room/tables.lent" --save "$saved" >"$room/log" 2>&1 ||
+        { tail -n 40 "$room/log"; fail "tables, built by $compiler, does not end well"; }
+    passed=$((passed + 1))
+}
+
 # Cases from the field, by both.
 replayed() {
     for file in bench/sample/sample.cases tests/benches.in; do
@@ -130,6 +138,7 @@ for compiler in $compilers; do
         build bench -Dhub_ask=peer_ask -Dhub_read=peer_read -Dhub_element=peer_element tests/bench.c $peer_core
         build compare $calls $peer_core $peer_compare $archive
         build series $peer_core $peer_series $archive
+        build tables $peer_core $peer_tables
         build speed $peer_core $peer_speed $archive
         if [ -n "$archive" ]; then
             build talk bench/*.c $archive
@@ -143,6 +152,7 @@ for compiler in $compilers; do
     run compare --cases "$cases" --save "$saved"
     run compare --large --save "$saved"
     run series --talks "$talks" --save "$saved"
+    lends_tables
     replayed
     done_with="$done_with $compiler"
 done

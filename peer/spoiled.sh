@@ -1,7 +1,7 @@
 #!/bin/sh
 # Holds the driver to what it is for: peers with one line spoiled are compared with the library, and each has to be told from it.
 # Each line says which case or talk told one, and the last line how many were. A case that told one is replayed, and so is the
-# sample of cases from the field, where one of them tells it.
+# sample of cases from the field, where one of them tells it. Those spoiled in the tables are compared with the program `cases`.
 set -u
 cd "$(dirname "$0")/.." || exit 1
 . peer/files.sh
@@ -29,8 +29,11 @@ build() { # PROGRAM FILE RIGHT WRONG
         { at = done ? 0 : index($0, ENVIRON["RIGHT"]) }
         at { $0 = substr($0, 1, at - 1) ENVIRON["WRONG"] substr($0, at + length(ENVIRON["RIGHT"])); done = 1 }
         { print }' "peer/$2.c" >"$room/peer/$2.c"
-    others=$peer_compare
-    [ "$1" = compare ] || others=$peer_series
+    case $1 in
+    compare) others=$peer_compare ;;
+    series) others=$peer_series ;;
+    *) others=$peer_tables ;;
+    esac
     # The files of the copy are named from its folder, so that their names have no blanks.
     here=$PWD
     # shellcheck disable=SC2086
@@ -80,6 +83,20 @@ spoil_talk() { # FILE RIGHT WRONG
     found=$((found + 1))
 }
 
+# By the tables that the program `cases` lends, or by what the peer itself has no right to touch.
+spoil_tables() { # FILE RIGHT WRONG
+    build tables "$@"
+    sh peer/tables.sh "$room/tables" 1000 1 "$room/case" >"$room/log" 2>&1
+    got=$?
+    [ "$got" = 1 ] || { tail -n 40 "$room/log"; fail "with '$3' for '$2' the tables are compared with the status $got, not 1"; }
+    where=$(sed -n -e 's/^library and peer differ in \(line [0-9]*\) .*/\1/p' \
+        -e 's/^the peer .* in \(case [0-9]*\) .*/\1/p' "$room/log")
+    [ -n "$where" ] && [ "$(awk '{ print $1, NF }' "$room/case")" = 'answer 6' ] ||
+        { cat "$room/log"; fail "the tables end in another way with '$3'"; }
+    printf 'told by %s of the tables: %s: %s for %s\n' "$where" "$1" "${3:-nothing}" "$2"
+    found=$((found + 1))
+}
+
 spoil page 'bytes > asked->limit' 'bytes >= asked->limit'
 spoil page 'price.count > MOST_RANGES' 'price.count >= MOST_RANGES'
 spoil page 'page->length > room' 'page->length >= room'
@@ -117,4 +134,16 @@ spoil_talk page 'page->partial = 0' 'page->partial = 1'
 spoil_talk page 'bytes > asked->limit' 'bytes >= asked->limit'
 spoil_talk filters 'type == type' 'type >= type'
 spoil_talk ranges 'at[-1].to = number' 'at[-1].to = number + 1'
+spoil_tables answer 'to[i] = little8' 'to[1 - i] = little8'
+spoil_tables answer 'to[i] = little8' 'to[i] = big8'
+spoil_tables answer 'to[1] = e->length' 'to[1] = e->place + e->length'
+spoil_tables answer 'i < store->count; i++, to +=' 'i <= store->count; i++, to +='
+spoil_tables answer 'i < set->count; i++, to +=' 'i + 1 < set->count; i++, to +='
+spoil_tables answer 'w.elements.count, 8' 'w.page.gone, 8'
+spoil_tables answer 'rows_len < ROWS_NEEDED' 'rows_len <= ROWS_NEEDED'
+spoil_tables answer 'ranges_len < RANGES_NEEDED' 'ranges_len + 1 < RANGES_NEEDED'
+# 13 behind the store's faults, and rows in spite of 14.
+short='(rows_len < ROWS_NEEDED || ranges_len < RANGES_NEEDED)'
+spoil_tables answer "$short" "(peer_element(0, store, store_len, 0, NULL, 0) % 9 == 0 && $short)"
+spoil_tables answer 'if (number == 0)' 'if (number % OUTPUT_TOO_SHORT == 0)'
 printf '%s spoiled peers were told from the library\n' "$found"

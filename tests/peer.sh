@@ -1,12 +1,13 @@
 #!/bin/sh
 # Tests of the library against the peer, which is document 01 written in C by itself (peer/): stored cases by the peer, generated
-# cases and whole talks by both, and peers with one line spoiled, which have to be told from the library. tests/c.sh makes the
-# archive. What is generated is determined by a seed, which is printed; PEER_CASES, PEER_TALKS and PEER_SEED choose other numbers.
-# The last line is 'N passed, 0 failed'.
+# cases and whole talks by both, the tables that the call for C has for itself, and peers with one line spoiled, which have to be
+# told from the library. tests/c.sh makes the archive, and rt check cases the program `cases`, through which the tables are
+# compared; make test does both before. What is generated is determined by a seed, which is printed; PEER_CASES, PEER_TALKS,
+# PEER_TABLES and PEER_SEED choose other numbers. The last line is 'N passed, 0 failed'.
 set -u
 cd "$(dirname "$0")/.." || exit 1
 . peer/files.sh
-passed=0 cases=${PEER_CASES:-100000} talks=${PEER_TALKS:-5000} seed=${PEER_SEED:-1}
+passed=0 cases=${PEER_CASES:-100000} talks=${PEER_TALKS:-5000} tables=${PEER_TABLES:-10000} seed=${PEER_SEED:-1}
 
 fail() {
     printf 'tests/peer.sh: FAILED: %s\n' "$*"
@@ -17,10 +18,11 @@ room=$(mktemp -d) || fail 'there is no room for temporary files'
 trap 'rm -rf "$room"' EXIT
 trap 'exit 1' HUP INT TERM
 
-archive=target/staticlib/libhub.a saved=target/peer/difference.case
+archive=target/staticlib/libhub.a saved=target/peer/difference.case saved_tables=target/peer/tables.case
 [ -s "$archive" ] || fail "there is no $archive: make archive writes it"
+[ -s target/bin/cases ] || fail 'there is no target/bin/cases: rt check cases makes it, and so does make test'
 mkdir -p target/peer || fail 'there is no room for a case'
-rm -f "$saved"
+rm -f "$saved" "$saved_tables"
 
 compile() { # NAME WORDS..
     name=$1
@@ -169,6 +171,21 @@ both compare --cases "$cases" --seed "$seed" --save "$saved"
 both compare --bytes --seed "$seed" --save "$saved"
 both compare --large --save "$saved"
 both series --talks "$talks" --seed "$seed" --save "$saved"
+
+# ---- the tables, through the program `cases`
+# shellcheck disable=SC2086
+compile tables $peer_core $peer_tables
+sh peer/tables.sh "$room/tables" "$tables" "$seed" "$saved_tables" >"$room/log" 2>&1 || {
+    cat "$room/log"
+    [ ! -s "$saved_tables" ] || {
+        printf 'tests/peer.sh: sh tools/run target/bin/cases <%s prints the line of the library again\n' "$saved_tables"
+        printf 'tests/peer.sh: make replay CASE=%s makes the call without lent tables\n' "$saved_tables"
+    }
+    fail 'library and peer differ with lent tables, or they cannot be run'
+}
+[ "$(tail -n 1 "$room/log")" = '0 differences' ] || { cat "$room/log"; fail 'the tables are not compared to the end'; }
+sed -e '$d' -e 's|^|tests/peer.sh: tables: |' "$room/log"
+passed=$((passed + 1))
 
 # ---- the driver itself
 sh peer/spoiled.sh >"$room/log" 2>&1 || { cat "$room/log"; fail 'peer/spoiled.sh'; }
