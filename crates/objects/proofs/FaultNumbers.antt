@@ -68,15 +68,15 @@ numbered-need fine k p c h g = numbered-then c _ (λ at. pick-all Numbered fine 
 
 -- ---- fields
 
-pub numbered-fixed : (d : List ℕ) (n lo hi k : ℕ) (c : Reading) → FaultNumber k → Numbered c → Numbered (fixedIn d n lo hi k c)
+pub numbered-fixed : (d : List ℕ) (n least most k : ℕ) (c : Reading) → FaultNumber k → Numbered c → Numbered (fixedIn d n least most k c)
 unfolding fixedIn
-numbered-fixed d n lo hi k c h g =
+numbered-fixed d n least most k c h g =
     numbered-then c _
     (λ at.
     pick-all Numbered (ltb (length d - at) n) _ _ (λ e. numbered-fault 2 at (omega arith))
     (λ e.
-    pick-all Numbered (ltb (le (take n (drop at d))) lo) _ _ (λ f. numbered-fault k at h)
-    (λ f. pick-all Numbered (ltb hi (le (take n (drop at d)))) _ _ (λ i. numbered-fault k at h) (λ i. tt))))
+    pick-all Numbered (ltb (le (take n (drop at d))) least) _ _ (λ f. numbered-fault k at h)
+    (λ f. pick-all Numbered (ltb most (le (take n (drop at d)))) _ _ (λ i. numbered-fault k at h) (λ i. tt))))
     g
 
 pub numbered-skip : (d : List ℕ) (n : ℕ) (c : Reading) → Numbered c → Numbered (skip d n c)

@@ -56,15 +56,15 @@ good-need d fine k p (Refused r) h g = g
 left-fits : (d : List ℕ) (at n : ℕ) → at ≤ length d → ltb (length d - at) n ≡ false → at + n ≤ length d
 left-fits d at n g e = let h = ltb-false (length d - at) n e in omega arith
 
-pub good-fixed : (d : List ℕ) (n lo hi k : ℕ) (c : Reading) → Good d c → Good d (fixedIn d n lo hi k c)
+pub good-fixed : (d : List ℕ) (n least most k : ℕ) (c : Reading) → Good d c → Good d (fixedIn d n least most k c)
 unfolding fixedIn
-good-fixed d n lo hi k (At at v) g =
+good-fixed d n least most k (At at v) g =
     let P = Good d in
     pick-all P (ltb (length d - at) n) _ _ (λ e. g)
     (λ e.
-    pick-all P (ltb (le (take n (drop at d))) lo) _ _ (λ f. g)
-    (λ f. pick-all P (ltb hi (le (take n (drop at d)))) _ _ (λ h. g) (λ h. left-fits d at n g e)))
-good-fixed d n lo hi k (Refused r) g = g
+    pick-all P (ltb (le (take n (drop at d))) least) _ _ (λ f. g)
+    (λ f. pick-all P (ltb most (le (take n (drop at d)))) _ _ (λ h. g) (λ h. left-fits d at n g e)))
+good-fixed d n least most k (Refused r) g = g
 
 pub good-skip : (d : List ℕ) (n : ℕ) (c : Reading) → Good d c → Good d (skip d n c)
 unfolding skip

@@ -4,6 +4,7 @@ pub mod Ahead
 pub mod Short
 pub mod Next
 pub mod Nested
+pub mod Gone
 pub mod Shift
 pub mod Rules
 pub mod Local

@@ -1,26 +1,20 @@
 -- A run with objects open inside it, turn by turn: as the loop of `read_run` goes. Only its proof needs this.
 -- Assumes nothing.
 use mathlib.Core.Path.{_≡_, refl, ap, _∙_}
-use mathlib.Core.Bool.{true}
 use mathlib.Core.List.{List}
 use Prim.Native.Nat.{ℕ, zero, suc, _+_, _-_, _*_, _/_, _%_, _^_, _≤_, _<_}
 use native.Mathlib.Nat.{pow-le-pow-right, pow-suc}
 use native.Mathlib.Omega.{arith}
-use lib.Dec.{ltb}
-use borrow.Author.Tests.{ltb-true, eq-eqb, ne-eqb}
-use Rattle.laws.proofs.Cases.{by-bool, impossible}
+use borrow.Author.Tests.{eq-eqb, ne-eqb}
 use Rattle.numbers.specs.Refusals.{faultAt}
 use Rattle.numbers.specs.declared.refusal.Refusal.{Refusal}
 use Rattle.objects.specs.Nesting.{andOn, runAt}
-use Rattle.objects.specs.Next.{nextAt, endedAt, fits, nested}
+use Rattle.objects.specs.Next.{nextAt, endedAt, nested}
+use Rattle.objects.specs.Nest.{Held}
 use Rattle.objects.specs.declared.nesting.Passed.{Passed}
 use Rattle.objects.specs.declared.nesting.Passed.the-variants.{To, Refused}
 use Rattle.objects.specs.declared.nesting.Next.the-variants as next
 use Rattle.objects.proofs.Next.{run-next-on}
-
--- the types of the open objects, as one number
-abbrev pub Held : ℕ → ℕ → Type 0
-Held inner kinds = kinds < 64 ^ inner
 
 pub held-few : (inner kinds : ℕ) → inner < 10 → Held inner kinds → kinds < 2 ^ 54
 held-few inner kinds l h =
@@ -40,11 +34,6 @@ held-less inner kinds h = let p : 64 ^ suc inner ≡ 64 ^ inner * 64 = pow-suc 6
 pub held-out : (inner kinds : ℕ) → 0 < inner → Held inner kinds → Held (inner - 1) (kinds / 64)
 held-out zero kinds l h = absurd (omega arith)
 held-out (suc inner) kinds l h = let q : suc inner - 1 ≡ inner = omega arith in rw q (held-less inner kinds h)
-
-pub fits-both : (inner k : ℕ) → fits inner k ≡ true → (k < 64) × (inner < 10)
-unfolding fits
-fits-both inner k e =
-    by-bool (ltb k 64) (λ a. (ltb-true k 64 a, ltb-true inner 10 (rw a at e))) (λ a. impossible (let x = rw a at e in cc))
 
 and-and : (p : Passed) (f g : ℕ → Passed) → andOn (andOn p f) g ≡ andOn p (λ e. andOn (f e) g)
 and-and (To e) f g = refl

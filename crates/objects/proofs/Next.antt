@@ -8,7 +8,7 @@ use Prim.Native.Nat.{ℕ, _+_, _-_, _/_, _%_, _≤_, _<_}
 use native.Mathlib.Omega.{arith}
 use lib.ListN.{length, getD}
 use lib.Dec.{eqb}
-use borrow.Author.Tests.{eqb-false}
+use borrow.Author.Tests.{eqb-false, eq-eqb, ne-eqb}
 use Rattle.laws.specs.Pick.{pick}
 use Rattle.laws.specs.Loop.{after}
 use Rattle.laws.proofs.Cases.{by-bool, impossible, pick-all}
@@ -26,16 +26,32 @@ use Rattle.objects.proofs.HeaderLaws.{Fits, header-fits}
 use Rattle.objects.proofs.Ahead.{data-ahead, AtLeast, object-at, run-at, run-start}
 use Rattle.objects.proofs.Short.{short-start, short-end, short-data}
 
-abbrev shortNext : ℕ → ℕ → ℕ → Next
-shortNext at d w =
-    pick (eqb (w / 4 % 2) 1) (pick (eqb d 0) (next.Refused (faultAt 6 at)) (next.Opens (w / 8 % 64) (at + 2 + w / 8 / 64))) (next.Past (at + 2 + w / 8 / 64))
+-- ---- a start of two bytes, w as a number, with its data: a plain object, the start of a compound one, or one too deep
 
-pub next-short : (s : List ℕ) (at d w : ℕ) → shortNumber s at ≡ w → w % 4 ≡ 0 → w / 8 / 64 ≤ 127 → w / 8 / 64 ≤ length s - at - 2
-    → nextAt s at d ≡ shortNext at d w
-unfolding nextAt startOf
-next-short s at d w is e h l =
-    let m : w / 8 / 64 ≤ length s - (at + 2) = omega arith in
-    rw (short-start s at (ap (λ (x : ℕ). x % 4) is ∙ e), is, short-data s (at + 2) (w / 8 / 64) h m)
+set-bit : (x : ℕ) → (x % 2 ≡ 0 → ⊥) → x % 2 ≡ 1
+set-bit x h = omega arith
+
+clear-bit : (x : ℕ) → x % 2 ≡ 0 → x % 2 ≡ 1 → ⊥
+clear-bit x h e = omega arith
+
+module _ (s : List ℕ) (at d w : ℕ) (is : shortNumber s at ≡ w) (low : w % 4 ≡ 0) (few : w / 8 / 64 ≤ 127) (fits : w / 8 / 64 ≤ length s - at - 2) where
+  next-start : nextAt s at d
+      ≡ pick (eqb (w / 4 % 2) 1) (pick (eqb d 0) (next.Refused (faultAt 6 at)) (next.Opens (w / 8 % 64) (at + 2 + w / 8 / 64))) (next.Past (at + 2 + w / 8 / 64))
+  unfolding nextAt startOf
+  next-start =
+      let m : w / 8 / 64 ≤ length s - (at + 2) = omega arith in
+      rw (short-start s at (ap (λ (x : ℕ). x % 4) is ∙ low), is, short-data s (at + 2) (w / 8 / 64) few m)
+
+  pub next-plain : w / 4 % 2 ≡ 0 → nextAt s at d ≡ next.Past (at + 2 + w / 8 / 64)
+  next-plain b = next-start ∙ rw (ne-eqb (w / 4 % 2) 1 (clear-bit (w / 4) b))
+
+  pub next-opens : (w / 4 % 2 ≡ 0 → ⊥) → (d ≡ 0 → ⊥) → nextAt s at d ≡ next.Opens (w / 8 % 64) (at + 2 + w / 8 / 64)
+  next-opens b z = next-start ∙ rw (eq-eqb (w / 4 % 2) 1 (set-bit (w / 4) b), ne-eqb d 0 z)
+
+  pub next-over : (w / 4 % 2 ≡ 0 → ⊥) → d ≡ 0 → nextAt s at d ≡ next.Refused (faultAt 6 at)
+  next-over b z = next-start ∙ rw (eq-eqb (w / 4 % 2) 1 (set-bit (w / 4) b), eq-eqb d 0 z)
+
+-- ---- an end of one byte
 
 pub next-end : (s : List ℕ) (at d w : ℕ) → shortNumber s at ≡ w → w % 4 ≡ 1 → nextAt s at d ≡ next.Ends (getD s at 0 / 4) (at + 1)
 unfolding nextAt

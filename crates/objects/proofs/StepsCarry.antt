@@ -408,17 +408,17 @@ carries-test fine k p = carries-need k (λ s c. p) carries-none (gives-all fine)
 there-long : (s : List ℕ) (p : ℕ) (t : List ℕ) (p′ n : ℕ) → Same s p t p′ n → n ≤ length t - p′
 there-long s p t p′ n a = omega (arith, a .long, length-drop p′ t)
 
-fixed-took : (n lo hi k : ℕ) (s : List ℕ) (p u q v : ℕ) → fixedIn s n lo hi k (At p u) ≡ At q v → Took (λ t c. fixedIn t n lo hi k c) s p u q v
+fixed-took : (n least most k : ℕ) (s : List ℕ) (p u q v : ℕ) → fixedIn s n least most k (At p u) ≡ At q v → Took (λ t c. fixedIn t n least most k c) s p u q v
 unfolding fixedIn
-fixed-took n lo hi k s p u q v e =
+fixed-took n least most k s p u q v e =
     let x = le (take n (drop p s)) in
     by-lt (length s - p) n
     (λ l. let z : no 2 p ≡ At q v = rw (lt-ltb _ _ l) at e in impossible (cc))
     (λ l.
-    by-lt x lo
+    by-lt x least
     (λ m. let z : no k p ≡ At q v = rw (le-ltb _ _ l, lt-ltb _ _ m) at e in impossible (cc))
     (λ m.
-    by-lt hi x
+    by-lt most x
     (λ i. let z : no k p ≡ At q v = rw (le-ltb _ _ l, le-ltb _ _ m, lt-ltb _ _ i) at e in impossible (cc))
     (λ i.
     let z : At (p + n) x ≡ At q v = rw (le-ltb _ _ l, le-ltb _ _ m, le-ltb _ _ i) at e in
@@ -430,9 +430,9 @@ fixed-took n lo hi k s p u q v e =
       there = λ t p′ a. rw (le-ltb _ _ (there-long s p t p′ n a), ← a .same, le-ltb _ _ m, le-ltb _ _ i, w);
     })))
 
-pub carries-fixed : (n lo hi k : ℕ) → Carries (λ s c. fixedIn s n lo hi k c)
+pub carries-fixed : (n least most k : ℕ) → Carries (λ s c. fixedIn s n least most k c)
 unfolding fixedIn
-carries-fixed n lo hi k = record { fault = λ s r. refl; took = λ s p u q v e. fixed-took n lo hi k s p u q v e }
+carries-fixed n least most k = record { fault = λ s r. refl; took = λ s p u q v e. fixed-took n least most k s p u q v e }
 
 skip-took : (n : ℕ) (s : List ℕ) (p u q v : ℕ) → skip s n (At p u) ≡ At q v → Took (λ t c. skip t n c) s p u q v
 unfolding skip

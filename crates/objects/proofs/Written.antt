@@ -67,9 +67,9 @@ reads-need k p f = record { here = λ s at t h. rw (f .here s at t h) }
 
 -- ---- fields
 
-pub reads-fixed : (u n lo hi k x : ℕ) → x < 256 ^ n → lo ≤ x → x ≤ hi → Reads (λ s c. fixedIn s n lo hi k c) u (bytes n x) x
+pub reads-fixed : (u n least most k x : ℕ) → x < 256 ^ n → least ≤ x → x ≤ most → Reads (λ s c. fixedIn s n least most k c) u (bytes n x) x
 unfolding fixedIn
-reads-fixed u n lo hi k x b l m =
+reads-fixed u n least most k x b l m =
     record {
       here =
           λ s at t h.

@@ -72,9 +72,6 @@ runOn s at d kind (next.Opens k e) = andOn (runAt s e (d - 1) k) (λ i. runAt s 
 
 -- ---- a run with so many objects open inside it: theirs, the innermost first, and then its own
 
-unfoldable pub fits : ℕ → ℕ → Bool
-fits inner k = pick (ltb k 64) (ltb inner 10) false
-
 unfoldable pub nested : List ℕ → ℕ → ℕ → ℕ → ℕ → ℕ → Passed
 nested s kind zero kinds d at = runAt s at d kind
 nested s kind (suc inner) kinds d at = andOn (runAt s at d (kinds % 64)) (λ e. nested s kind inner (kinds / 64) (suc d) e)

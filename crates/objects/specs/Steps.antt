@@ -78,13 +78,13 @@ need fine k p c = then c (λ at. pick fine c (no k p))
 
 -- ---- fields
 
--- a little-endian number of n bytes, from lo to hi: 2 where a byte is missing, k outside the bounds
+-- a little-endian number of n bytes, from least to most: 2 where a byte is missing, k outside the bounds
 unfoldable pub fixedIn : List ℕ → ℕ → ℕ → ℕ → ℕ → Reading → Reading
-fixedIn s n lo hi k c =
+fixedIn s n least most k c =
     then c (λ at.
     pick (ltb (length s - at) n) (no 2 at)
-    (pick (ltb (le (take n (drop at s))) lo) (no k at)
-    (pick (ltb hi (le (take n (drop at s)))) (no k at) (At (at + n) (le (take n (drop at s)))))))
+    (pick (ltb (le (take n (drop at s))) least) (no k at)
+    (pick (ltb most (le (take n (drop at s)))) (no k at) (At (at + n) (le (take n (drop at s)))))))
 
 -- a compact integer: its own 2 and 3
 abbrev pub numberOn : ℕ → Compact → Reading

@@ -1,11 +1,13 @@
 // One object and a run of objects, which call each other: the depth falls with each compound object that is opened, the bytes left from
-// turn to turn. A run is one loop, which opens and closes most compound objects inside it by itself, and leaves to a call those whose
-// type is long or has no room beside the others. So the stack grows with the depth alone. Most headers are short, a start of two bytes
-// or an end of one, and these are told by their bytes, without a `Header`.
+// turn to turn. A run is one loop, so that the stack grows with the depth alone. Most headers are short, a start of two bytes or an end
+// of one, and these are told by their bytes, without a `Header`. A run goes by short headers first, in a loop of their own that opens and
+// closes compound objects without a call, as long as their types have room in one number (`gone_short`); a reader of the promises can
+// skip that part, from `Nest` to `gone_short`.
 ghost use mathlib.Core.Path.{_≡_};
 ghost use Prim.Native.Nat.{_+_, _-_, _*_, _/_, _<_, _^_};
 ghost use Rattle.objects.specs.Nesting.{dataPast, objectAt, runAt};
-ghost use Rattle.objects.specs.Next.{shortNumber, nextAt, MayOpen, objectOn, fits, endedAt};
+ghost use Rattle.objects.specs.Next.{shortNumber, nextAt, MayOpen, objectOn, endedAt};
+ghost use Rattle.objects.specs.Nest.{Room, roomIn, pastStart, pastEnd, shortTurn, goneShort};
 use crate::header::Header;
 use crate::header::Length;
 use crate::header::header_at;
@@ -59,7 +61,7 @@ pub enum Next {
 pub fn short_number(s: &[u8], at: usize) -> u64
     ensures { λ r. ⌜ r ≡ shortNumber (now (s .entry)) at ⌝ }
 {
-    if left_of(s.len(), at) < 2 {
+    if left_of(s.len(), 1) <= at {
         return 3;
     }
     read_le(&s[at..], 2)
@@ -122,27 +124,6 @@ fn next_at(s: &[u8], at: usize, depth: usize) -> Next
     next_by_header(s, at, depth)
 }
 
-// The object that stands at a place, by what was found there: the run inside it has one level fewer.
-fn object_on(s: &[u8], at: usize, depth: usize, next: Next) -> Passed
-    requires { ⌜ MayOpen depth next ⌝ }
-    ensures { λ r. ⌜ r ≡ objectOn (now (s .entry)) at depth next ⌝ }
-{
-    match next {
-        Next::Refused(r) => Passed::Refused(r),
-        Next::Past(e) => Passed::To(e),
-        Next::Ends(_, _) => Passed::Refused(at_place(4, at)),
-        Next::Opens(kind, e) => read_run(s, e, depth - 1, kind),
-    }
-}
-
-// The object at a place of the input, with so many compound objects still to be opened. Ruled out (proofs/WrongAnswers): `0C
-// 00 05` ended at 2, behind its own data; the same taken with no level left.
-pub fn read_object(s: &[u8], at: usize, depth: usize) -> Passed
-    ensures { λ r. ⌜ r ≡ objectAt (now (s .entry)) at depth ⌝ }
-{
-    object_on(s, at, depth, next_at(s, at, depth))
-}
-
 // A run under way: its place, how many objects are open inside it, and their types, six bits each, the innermost lowest.
 pub struct Nest {
     pub place: usize,
@@ -150,14 +131,25 @@ pub struct Nest {
     pub kinds: u64,
 }
 
-// Whether there is room for a type beside so many: ten of six bits are a number of 64 bits.
-fn fits(inner: usize, kind: u64) -> bool
-    ensures { λ r. ⌜ r ≡ fits inner kind ⌝ }
+// Behind a short header, or not: what stands there is for others.
+pub enum Going {
+    On(Nest),
+    Stops,
+}
+
+// So many types there are in a start of two bytes, and so many of them fit into a number of 64 bits.
+const SHORT_TYPES: u64 = 64;
+
+const HELD: usize = 10;
+
+// How many objects may be open inside a run, with so many levels left.
+fn room_in(depth: usize) -> usize
+    ensures { λ r. ⌜ r ≡ roomIn depth ⌝ }
 {
-    if kind < 64 {
-        return inner < 10;
+    if depth < HELD {
+        return depth;
     }
-    false
+    HELD
 }
 
 impl Nest {
@@ -191,7 +183,7 @@ impl Nest {
         Nest {
             place: e,
             inner: self.inner + 1,
-            kinds: self.kinds * 64 + kind,
+            kinds: self.kinds * SHORT_TYPES + kind,
         }
     }
 
@@ -203,9 +195,102 @@ impl Nest {
         Nest {
             place: e,
             inner: self.inner - 1,
-            kinds: self.kinds / 64,
+            kinds: self.kinds / SHORT_TYPES,
         }
     }
+
+    // Behind a start of two bytes, w as a number, whose data ends at e.
+    fn past_start(self, w: u64, e: usize, room: usize) -> Going
+        requires { ⌜ Room room self ⌝ }
+        ensures { λ r. ⌜ r ≡ pastStart room self w e ⌝ }
+    {
+        if w / 4 % 2 == 0 {
+            return Going::On(self.on(e));
+        }
+        if self.inner == room {
+            return Going::Stops;
+        }
+        Going::On(self.into(w / 8 % SHORT_TYPES, e))
+    }
+
+    // Behind an end of this type that ends at e, if it is that of the innermost object.
+    fn past_end(self, kind: u64, e: usize) -> Going
+        ensures { λ r. ⌜ r ≡ pastEnd self kind e ⌝ }
+    {
+        if self.inner == 0 {
+            return Going::Stops;
+        }
+        if kind != self.kinds % SHORT_TYPES {
+            return Going::Stops;
+        }
+        Going::On(self.out(e))
+    }
+}
+
+// One short header further. That a start has no data is a case of its own because the place behind it then does not wait for the
+// length, if the processor guesses right; what is told is the same.
+fn short_turn(s: &[u8], nest: Nest, room: usize) -> Going
+    requires { ⌜ Room room nest ⌝ }
+    ensures { λ r. ⌜ r ≡ shortTurn (now (s .entry)) room nest ⌝ }
+{
+    let at = nest.place;
+    let w = short_number(s, at);
+    let low = w % 4;
+    if low == 0 {
+        let n = w / 8 / 64;
+        if n == 0 {
+            return nest.past_start(w, at + 2, room);
+        }
+        let left = (s.len() - at - 2) as u64;
+        if left < n {
+            return Going::Stops;
+        }
+        if 127 < n {
+            return Going::Stops;
+        }
+        return nest.past_start(w, at + 2 + n as usize, room);
+    }
+    if low == 1 {
+        return nest.past_end(s[at] as u64 / 4, at + 1);
+    }
+    Going::Stops
+}
+
+// A run under way, behind all the short headers that it can go by.
+fn gone_short(s: &[u8], from: Nest, room: usize) -> Nest
+    requires { ⌜ Room room from ⌝ }
+    ensures { λ r. ⌜ r ≡ goneShort (now (s .entry)) room from ⌝ }
+{
+    let mut nest = from;
+    loop {
+        match short_turn(s, nest, room) {
+            Going::On(next) => {
+                nest = next;
+            }
+            Going::Stops => return nest,
+        }
+    }
+}
+
+// The object that stands at a place, by what was found there: the run inside it has one level fewer.
+fn object_on(s: &[u8], at: usize, depth: usize, next: Next) -> Passed
+    requires { ⌜ MayOpen depth next ⌝ }
+    ensures { λ r. ⌜ r ≡ objectOn (now (s .entry)) at depth next ⌝ }
+{
+    match next {
+        Next::Refused(r) => Passed::Refused(r),
+        Next::Past(e) => Passed::To(e),
+        Next::Ends(_, _) => Passed::Refused(at_place(4, at)),
+        Next::Opens(kind, e) => read_run(s, e, depth - 1, kind),
+    }
+}
+
+// The object at a place of the input, with so many compound objects still to be opened. Ruled out (proofs/WrongAnswers): `0C
+// 00 05` ended at 2, behind its own data; the same taken with no level left.
+pub fn read_object(s: &[u8], at: usize, depth: usize) -> Passed
+    ensures { λ r. ⌜ r ≡ objectAt (now (s .entry)) at depth ⌝ }
+{
+    object_on(s, at, depth, next_at(s, at, depth))
 }
 
 // The run's own end, if it is of its type.
@@ -223,8 +308,10 @@ fn ended_at(at: usize, kind: u64, k: u64, e: usize) -> Passed
 pub fn read_run(s: &[u8], at: usize, depth: usize, kind: u64) -> Passed
     ensures { λ r. ⌜ r ≡ runAt (now (s .entry)) at depth kind ⌝ }
 {
+    let room = room_in(depth);
     let mut nest = Nest::new(at);
     loop {
+        nest = gone_short(s, nest, room);
         let i = nest.place;
         let inner = nest.inner;
         match next_at(s, i, depth - inner) {
@@ -236,23 +323,17 @@ pub fn read_run(s: &[u8], at: usize, depth: usize, kind: u64) -> Passed
                 if inner == 0 {
                     return ended_at(i, kind, k, e);
                 }
-                if k != nest.kinds % 64 {
+                if k != nest.kinds % SHORT_TYPES {
                     return Passed::Refused(at_place(4, i));
                 }
                 nest = nest.out(e);
             }
-            Next::Opens(k, e) => {
-                if fits(inner, k) {
-                    nest = nest.into(k, e);
-                } else {
-                    match object_on(s, i, depth - inner, Next::Opens(k, e)) {
-                        Passed::Refused(r) => return Passed::Refused(r),
-                        Passed::To(next) => {
-                            nest = nest.on(next);
-                        }
-                    }
+            Next::Opens(k, e) => match object_on(s, i, depth - inner, Next::Opens(k, e)) {
+                Passed::Refused(r) => return Passed::Refused(r),
+                Passed::To(next) => {
+                    nest = nest.on(next);
                 }
-            }
+            },
         }
     }
 }

@@ -81,10 +81,10 @@ impl Reading {
         }
     }
 
-    // A little-endian number of n bytes, from lo to hi; else k at its place.
-    pub fn fixed_in(self, s: &[u8], n: usize, lo: u64, hi: u64, k: u8) -> Reading
+    // A little-endian number of n bytes, from least to most; else k at its place.
+    pub fn fixed_in(self, s: &[u8], n: usize, least: u64, most: u64, k: u8) -> Reading
         requires { ⌜ n ≤ 8 ⌝ }
-        ensures { λ r. ⌜ r ≡ fixedIn (now (s .entry)) n lo hi k self ⌝ }
+        ensures { λ r. ⌜ r ≡ fixedIn (now (s .entry)) n least most k self ⌝ }
     {
         match self {
             Reading::Refused(r) => Reading::Refused(r),
@@ -94,10 +94,10 @@ impl Reading {
                     return Reading::Refused(at_place(2, at));
                 }
                 let v = fixed_at(s, at, n);
-                if v < lo {
+                if v < least {
                     return Reading::Refused(at_place(k, at));
                 }
-                if hi < v {
+                if most < v {
                     return Reading::Refused(at_place(k, at));
                 }
                 Reading::At(at + n, v)

@@ -7,10 +7,11 @@ use native.Mathlib.Omega.{arith}
 use lib.ListN.{length}
 use borrow.Author.Needs.{needs}
 use Rattle.objects.specs.Nesting.{runAt}
-use Rattle.objects.specs.Next.{MayOpen, nested}
+use Rattle.objects.specs.Next.{MayOpen}
 use Rattle.objects.proofs.Ahead.{run-next}
 use Rattle.objects.proofs.Next.{next-ahead}
-use Rattle.objects.proofs.Nested.{Held, held-few, held-into, held-out, past, refused, own-end, wrong-end, out, into, read, read-refused, unfolded, fits-both}
+use Rattle.objects.proofs.Nested.{held-out, past, refused, own-end, wrong-end, out, read, read-refused}
+use Rattle.objects.proofs.Gone.{Under, begin-under, gone-under, gone-less}
 use Prim.Native.Nat.{ℕ, _<_}
 use borrow.Fn.Kinds.{In}
 use borrow.Fn.PlainCycle.{Measures, is, falls, and}
@@ -21,13 +22,13 @@ use Rattle.objects.proofs.nesting.read_run.Reads as read-run
 use Rattle.objects.proofs.nesting.read_run.Kinds as read-run-kinds
 use Rattle.objects.proofs.nesting.+object_on+read_run.Lts-read_run as read-run-lts
 use Rattle.numbers.proofs.refusal.at_place.Reads as at-place-reads
-use Rattle.objects.proofs.nesting.Nest.into.Reads as into-reads
 use Rattle.objects.proofs.nesting.Nest.new.Reads as new-reads
 use Rattle.objects.proofs.nesting.Nest.on.Reads as on-reads
 use Rattle.objects.proofs.nesting.Nest.out.Reads as out-reads
 use Rattle.objects.proofs.nesting.ended_at.Reads as ended-at-reads
-use Rattle.objects.proofs.nesting.fits.Reads as fits-reads
+use Rattle.objects.proofs.nesting.gone_short.Reads as gone-short-reads
 use Rattle.objects.proofs.nesting.next_at.Reads as next-at-reads
+use Rattle.objects.proofs.nesting.room_in.Reads as room-in-reads
 use Rattle.objects.proofs.nesting.+object_on+read_run.{statement}
 use Rattle.objects.proofs.nesting.+object_on+read_run.Tie.{close}
 
@@ -62,8 +63,12 @@ in-object t = (
 
 abbrev in-run : ℕ → read-run-lts.Claims
 in-run t = (
+  room-in-reads.Asked,
+  room-in-reads.Learnt,
   new-reads.Asked,
   new-reads.Learnt,
+  gone-short-reads.Asked,
+  gone-short-reads.Learnt,
   next-at-reads.Asked,
   next-at-reads.Learnt,
   on-reads.Asked,
@@ -74,10 +79,6 @@ in-run t = (
   at-place-reads.Learnt,
   out-reads.Asked,
   out-reads.Learnt,
-  fits-reads.Asked,
-  fits-reads.Learnt,
-  into-reads.Asked,
-  into-reads.Learnt,
   object-on-below t,
   object-on.Post,
 )
@@ -119,20 +120,29 @@ object-on-returns-4 : (t : ℕ) → object-on-lts.Need-returns-4 (in-object t) (
 object-on-returns-4 t c = rw (c .before .before .next3 .given .1) (c .read-run .ensures)
 
 abbrev read-run-Inv-loop : read-run-lts.InvT-loop
-read-run-Inv-loop s at depth kind nest₀ nest =
-    (runAt s at depth kind ≡ nested s kind (nest .inner) (nest .kinds) (depth - nest .inner) (nest .place)) × (nest .inner ≤ depth) × Held (nest .inner) (nest .kinds)
+read-run-Inv-loop s at depth kind room nest₀ nest = Under s room (runAt s at depth kind) kind depth nest
 
 abbrev read-run-μ-loop : read-run-lts.MeasureT-loop
-read-run-μ-loop s at depth kind nest₀ nest = length s - nest .place
+read-run-μ-loop s at depth kind room nest₀ nest = length s - nest .place
+
+read-run-room-in-requires : (t : ℕ) → read-run-lts.Need-room-in-requires (in-run t) (read-run-at t) read-run.Post read-run-Inv-loop read-run-μ-loop
+read-run-room-in-requires t c κs = search needs
 
 read-run-new-requires : (t : ℕ) → read-run-lts.Need-new-requires (in-run t) (read-run-at t) read-run.Post read-run-Inv-loop read-run-μ-loop
 read-run-new-requires t c κs = search needs
 
 read-run-loop-holds : (t : ℕ) → read-run-lts.Need-loop-holds (in-run t) (read-run-at t) read-run.Post read-run-Inv-loop read-run-μ-loop
-read-run-loop-holds t c = rw (c .new .ensures) (unfolded _ _ _ _, omega arith, omega arith)
+read-run-loop-holds t c = rw (c .new .ensures) (begin-under _ _ _ _ _ (c .before .room-in .ensures))
+
+read-run-gone-short-requires : (t : ℕ) → read-run-lts.Need-gone-short-requires (in-run t) (read-run-at t) read-run.Post read-run-Inv-loop read-run-μ-loop
+read-run-gone-short-requires t c κs = c .loop .inv .2
 
 read-run-sub-next-at : (t : ℕ) → read-run-lts.Need-sub-next-at (in-run t) (read-run-at t) read-run.Post read-run-Inv-loop read-run-μ-loop
-read-run-sub-next-at t c = c .loop .inv .1
+read-run-sub-next-at t c =
+    let u = gone-under _ _ _ _ _ _ _ (c .gone-short .ensures) (c .before .loop .inv) in
+    let a = u .1 in
+    let b = u .2 .0 in
+    omega arith
 
 read-run-next-at-requires : (t : ℕ) → read-run-lts.Need-next-at-requires (in-run t) (read-run-at t) read-run.Post read-run-Inv-loop read-run-μ-loop
 read-run-next-at-requires t c κs = search needs
@@ -141,7 +151,10 @@ read-run-enum-known-r : (t : ℕ) → read-run-lts.Need-enum-known-r (in-run t) 
 read-run-enum-known-r t c = search needs
 
 read-run-returns : (t : ℕ) → read-run-lts.Need-returns (in-run t) (read-run-at t) read-run.Post read-run-Inv-loop read-run-μ-loop
-read-run-returns t c = sym (c .before .before .before .before .loop .inv .0 ∙ refused _ _ _ _ _ _ _ (sym (c .before .before .before .next-at .ensures) ∙ c .before .r .given .1))
+read-run-returns t c =
+    let k = c .before .before .before in
+    let u = gone-under _ _ _ _ _ _ _ (k .before .gone-short .ensures) (k .before .before .loop .inv) in
+    sym (u .0 ∙ refused _ _ _ _ _ _ _ (sym (k .next-at .ensures) ∙ c .before .r .given .1))
 
 read-run-enum-known-e : (t : ℕ) → read-run-lts.Need-enum-known-e (in-run t) (read-run-at t) read-run.Post read-run-Inv-loop read-run-μ-loop
 read-run-enum-known-e t c = search needs
@@ -151,13 +164,17 @@ read-run-on-requires t c κs = search needs
 
 read-run-loop-less : (t : ℕ) → read-run-lts.Need-loop-less (in-run t) (read-run-at t) read-run.Post read-run-Inv-loop read-run-μ-loop
 read-run-loop-less t c =
-    let w = next-ahead _ _ _ _ (sym (c .before .before .before .before .next-at .ensures) ∙ c .before .before .e .given .1) in
+    let k = c .before .before .before .before in
+    let u = gone-under _ _ _ _ _ _ _ (k .before .gone-short .ensures) (k .before .before .loop .inv) in
+    let l = gone-less _ _ _ _ (k .before .gone-short .ensures) in
+    let w = next-ahead _ _ _ _ (sym (k .next-at .ensures) ∙ c .before .before .e .given .1) in
     rw (c .on .ensures) (omega arith)
 
 read-run-loop-again : (t : ℕ) → read-run-lts.Need-loop-again (in-run t) (read-run-at t) read-run.Post read-run-Inv-loop read-run-μ-loop
 read-run-loop-again t c =
-    let i = c .before .before .before .before .before .loop .inv in
-    rw (c .on .ensures) (i .0 ∙ past _ _ _ _ _ _ _ (sym (c .before .before .before .before .next-at .ensures) ∙ c .before .before .e .given .1), i .1, i .2)
+    let k = c .before .before .before .before in
+    let u = gone-under _ _ _ _ _ _ _ (k .before .gone-short .ensures) (k .before .before .loop .inv) in
+    rw (c .on .ensures) (u .0 ∙ past _ _ _ _ _ _ _ (sym (k .next-at .ensures) ∙ c .before .before .e .given .1), u .1, u .2)
 
 read-run-enum-known-k : (t : ℕ) → read-run-lts.Need-enum-known-k (in-run t) (read-run-at t) read-run.Post read-run-Inv-loop read-run-μ-loop
 read-run-enum-known-k t c = search needs
@@ -166,67 +183,72 @@ read-run-ended-at-requires : (t : ℕ) → read-run-lts.Need-ended-at-requires (
 read-run-ended-at-requires t c κs = search needs
 
 read-run-returns-2 : (t : ℕ) → read-run-lts.Need-returns-2 (in-run t) (read-run-at t) read-run.Post read-run-Inv-loop read-run-μ-loop
-read-run-returns-2 t c = c .ended-at .ensures ∙ sym (c .before .before .before .before .before .before .loop .inv .0 ∙ own-end _ _ _ _ _ _ _ _ (c .before .if1 .taken) (sym (c .before .before .before .before .before .next-at .ensures) ∙ c .before .before .before .k .given .1))
+read-run-returns-2 t c =
+    let k = c .before .before .before .before .before in
+    let u = gone-under _ _ _ _ _ _ _ (k .before .gone-short .ensures) (k .before .before .loop .inv) in
+    c .ended-at .ensures ∙ sym (u .0 ∙ own-end _ _ _ _ _ _ _ _ (c .before .if1 .taken) (sym (k .next-at .ensures) ∙ c .before .before .before .k .given .1))
 
 read-run-at-place-requires : (t : ℕ) → read-run-lts.Need-at-place-requires (in-run t) (read-run-at t) read-run.Post read-run-Inv-loop read-run-μ-loop
 read-run-at-place-requires t c κs = search needs
 
 read-run-returns-3 : (t : ℕ) → read-run-lts.Need-returns-3 (in-run t) (read-run-at t) read-run.Post read-run-Inv-loop read-run-μ-loop
-read-run-returns-3 t c = rw (c .at-place .ensures) (sym (c .before .before .before .before .before .before .before .before .loop .inv .0 ∙ wrong-end _ _ _ _ _ _ _ _ (c .before .before .before .if1 .left) (sym (c .before .before .before .before .before .before .before .next-at .ensures) ∙ c .before .before .before .before .before .k .given .1) (c .before .if2 .taken)))
+read-run-returns-3 t c =
+    let k = c .before .before .before .before .before .before .before in
+    let u = gone-under _ _ _ _ _ _ _ (k .before .gone-short .ensures) (k .before .before .loop .inv) in
+    rw (c .at-place .ensures)
+    (sym (u .0 ∙ wrong-end _ _ _ _ _ _ _ _ (c .before .before .before .if1 .left) (sym (k .next-at .ensures) ∙ c .before .before .before .before .before .k .given .1) (c .before .if2 .taken)))
 
 read-run-out-requires : (t : ℕ) → read-run-lts.Need-out-requires (in-run t) (read-run-at t) read-run.Post read-run-Inv-loop read-run-μ-loop
 read-run-out-requires t c κs = search needs
 
 read-run-loop-less-2 : (t : ℕ) → read-run-lts.Need-loop-less-2 (in-run t) (read-run-at t) read-run.Post read-run-Inv-loop read-run-μ-loop
 read-run-loop-less-2 t c =
-    let w = next-ahead _ _ _ _ (sym (c .before .before .before .before .before .before .before .next-at .ensures) ∙ c .before .before .before .before .before .k .given .1) in
+    let k = c .before .before .before .before .before .before .before in
+    let u = gone-under _ _ _ _ _ _ _ (k .before .gone-short .ensures) (k .before .before .loop .inv) in
+    let l = gone-less _ _ _ _ (k .before .gone-short .ensures) in
+    let w = next-ahead _ _ _ _ (sym (k .next-at .ensures) ∙ c .before .before .before .before .before .k .given .1) in
     rw (c .out .ensures) (omega arith)
 
 read-run-loop-again-2 : (t : ℕ) → read-run-lts.Need-loop-again-2 (in-run t) (read-run-at t) read-run.Post read-run-Inv-loop read-run-μ-loop
 read-run-loop-again-2 t c =
-    let i = c .before .before .before .before .before .before .before .before .loop .inv in
+    let k = c .before .before .before .before .before .before .before in
+    let u = gone-under _ _ _ _ _ _ _ (k .before .gone-short .ensures) (k .before .before .loop .inv) in
     let z = c .before .before .before .if1 .left in
-    rw (c .out .ensures) (i .0 ∙ out _ _ _ _ _ _ _ _ _ z (omega arith) (sym (c .before .before .before .before .before .before .before .next-at .ensures) ∙ c .before .before .before .before .before .k .given .1) (c .before .if2 .left), omega arith, held-out _ _ (omega arith) (i .2))
+    let a = u .1 in
+    let r = u .2 in
+    let b = r .0 in
+    rw (c .out .ensures) (
+      u .0 ∙ out _ _ _ _ _ _ _ _ _ z (omega arith) (sym (k .next-at .ensures) ∙ c .before .before .before .before .before .k .given .1) (c .before .if2 .left),
+      a,
+      (omega arith, r .1, held-out _ _ (omega arith) (r .2)),
+    )
 
 read-run-enum-known-k-2 : (t : ℕ) → read-run-lts.Need-enum-known-k-2 (in-run t) (read-run-at t) read-run.Post read-run-Inv-loop read-run-μ-loop
 read-run-enum-known-k-2 t c = search needs
 
-read-run-fits-requires : (t : ℕ) → read-run-lts.Need-fits-requires (in-run t) (read-run-at t) read-run.Post read-run-Inv-loop read-run-μ-loop
-read-run-fits-requires t c κs = search needs
-
-read-run-into-requires : (t : ℕ) → read-run-lts.Need-into-requires (in-run t) (read-run-at t) read-run.Post read-run-Inv-loop read-run-μ-loop
-read-run-into-requires t c κs =
-    let i = c .before .before .before .before .before .before .loop .inv in
-    let f = fits-both _ _ (sym (c .before .fits2 .ensures) ∙ c .if3 .taken) in
-    (f .0, f .1, held-few _ _ (f .1) (i .2))
-
-read-run-loop-less-3 : (t : ℕ) → read-run-lts.Need-loop-less-3 (in-run t) (read-run-at t) read-run.Post read-run-Inv-loop read-run-μ-loop
-read-run-loop-less-3 t c =
-    let w = next-ahead _ _ _ _ (sym (c .before .before .before .before .before .before .next-at .ensures) ∙ c .before .before .before .before .k2 .given .1) in
-    rw (c .into .ensures) (omega arith)
-
-read-run-loop-again-3 : (t : ℕ) → read-run-lts.Need-loop-again-3 (in-run t) (read-run-at t) read-run.Post read-run-Inv-loop read-run-μ-loop
-read-run-loop-again-3 t c =
-    let i = c .before .before .before .before .before .before .before .loop .inv in
-    let f = fits-both _ _ (sym (c .before .before .fits2 .ensures) ∙ c .before .if3 .taken) in
-    let e = sym (c .before .before .before .before .before .before .next-at .ensures) ∙ c .before .before .before .before .k2 .given .1 in
-    let w = next-ahead _ _ _ _ e in
-    rw (c .into .ensures) (i .0 ∙ into _ _ _ _ _ _ _ _ _ (w .2) (omega arith) (f .0) e, omega arith, held-into _ _ _ (f .0) (i .2))
-
 read-run-sub-object-on : (t : ℕ) → read-run-lts.Need-sub-object-on (in-run t) (read-run-at t) read-run.Post read-run-Inv-loop read-run-μ-loop
-read-run-sub-object-on t c = c .before .before .before .before .before .before .loop .inv .1
+read-run-sub-object-on t c =
+    let k = c .before .before .before in
+    let u = gone-under _ _ _ _ _ _ _ (k .before .gone-short .ensures) (k .before .before .loop .inv) in
+    let a = u .1 in
+    let b = u .2 .0 in
+    omega arith
 
 read-run-object-on-requires : (t : ℕ) → read-run-lts.Need-object-on-requires (in-run t) (read-run-at t) read-run.Post read-run-Inv-loop read-run-μ-loop
 read-run-object-on-requires t c κs =
-    let i = c .before .before .before .before .before .before .loop .inv in
-    let w = next-ahead _ _ _ _ (sym (c .before .before .before .before .before .next-at .ensures) ∙ c .before .before .before .k2 .given .1) in
+    let k = c .before .before .before in
+    let u = gone-under _ _ _ _ _ _ _ (k .before .gone-short .ensures) (k .before .before .loop .inv) in
+    let w = next-ahead _ _ _ _ (sym (k .next-at .ensures) ∙ c .before .k2 .given .1) in
     (omega arith, w .2)
 
 read-run-enum-known-r-2 : (t : ℕ) → read-run-lts.Need-enum-known-r-2 (in-run t) (read-run-at t) read-run.Post read-run-Inv-loop read-run-μ-loop
 read-run-enum-known-r-2 t c = search needs
 
 read-run-returns-4 : (t : ℕ) → read-run-lts.Need-returns-4 (in-run t) (read-run-at t) read-run.Post read-run-Inv-loop read-run-μ-loop
-read-run-returns-4 t c = sym (c .before .before .before .before .before .before .before .before .before .before .loop .inv .0 ∙ read-refused _ _ _ _ _ _ _ _ _ (sym (c .before .before .before .before .before .before .before .before .before .next-at .ensures) ∙ c .before .before .before .before .before .before .before .k2 .given .1) (sym (c .before .before .before .object-on .ensures) ∙ c .before .r2 .given .1))
+read-run-returns-4 t c =
+    let k = c .before .before .before .before .before .before .before in
+    let u = gone-under _ _ _ _ _ _ _ (k .before .gone-short .ensures) (k .before .before .loop .inv) in
+    sym (u .0 ∙ read-refused _ _ _ _ _ _ _ _ _ (sym (k .next-at .ensures) ∙ c .before .before .before .before .before .k2 .given .1) (sym (c .before .before .before .object-on .ensures) ∙ c .before .r2 .given .1))
 
 read-run-enum-known-next : (t : ℕ) → read-run-lts.Need-enum-known-next (in-run t) (read-run-at t) read-run.Post read-run-Inv-loop read-run-μ-loop
 read-run-enum-known-next t c = search needs
@@ -234,16 +256,24 @@ read-run-enum-known-next t c = search needs
 read-run-on-requires-2 : (t : ℕ) → read-run-lts.Need-on-requires-2 (in-run t) (read-run-at t) read-run.Post read-run-Inv-loop read-run-μ-loop
 read-run-on-requires-2 t c κs = search needs
 
-read-run-loop-less-4 : (t : ℕ) → read-run-lts.Need-loop-less-4 (in-run t) (read-run-at t) read-run.Post read-run-Inv-loop read-run-μ-loop
-read-run-loop-less-4 t c =
-    let w = next-ahead _ _ _ _ (sym (c .before .before .before .before .before .before .before .before .before .before .next-at .ensures) ∙ c .before .before .before .before .before .before .before .before .k2 .given .1) in
+read-run-loop-less-3 : (t : ℕ) → read-run-lts.Need-loop-less-3 (in-run t) (read-run-at t) read-run.Post read-run-Inv-loop read-run-μ-loop
+read-run-loop-less-3 t c =
+    let k = c .before .before .before .before .before .before .before .before in
+    let u = gone-under _ _ _ _ _ _ _ (k .before .gone-short .ensures) (k .before .before .loop .inv) in
+    let l = gone-less _ _ _ _ (k .before .gone-short .ensures) in
+    let w = next-ahead _ _ _ _ (sym (k .next-at .ensures) ∙ c .before .before .before .before .before .before .k2 .given .1) in
     let x = run-next _ _ _ _ _ (sym (c .before .before .before .before .object-on .ensures) ∙ c .before .before .next .given .1) in
     rw (c .on2 .ensures) (omega arith)
 
-read-run-loop-again-4 : (t : ℕ) → read-run-lts.Need-loop-again-4 (in-run t) (read-run-at t) read-run.Post read-run-Inv-loop read-run-μ-loop
-read-run-loop-again-4 t c =
-    let i = c .before .before .before .before .before .before .before .before .before .before .before .loop .inv in
-    rw (c .on2 .ensures) (i .0 ∙ read _ _ _ _ _ _ _ _ _ (sym (c .before .before .before .before .before .before .before .before .before .before .next-at .ensures) ∙ c .before .before .before .before .before .before .before .before .k2 .given .1) (sym (c .before .before .before .before .object-on .ensures) ∙ c .before .before .next .given .1), i .1, i .2)
+read-run-loop-again-3 : (t : ℕ) → read-run-lts.Need-loop-again-3 (in-run t) (read-run-at t) read-run.Post read-run-Inv-loop read-run-μ-loop
+read-run-loop-again-3 t c =
+    let k = c .before .before .before .before .before .before .before .before in
+    let u = gone-under _ _ _ _ _ _ _ (k .before .gone-short .ensures) (k .before .before .loop .inv) in
+    rw (c .on2 .ensures) (
+      u .0 ∙ read _ _ _ _ _ _ _ _ _ (sym (k .next-at .ensures) ∙ c .before .before .before .before .before .before .k2 .given .1) (sym (c .before .before .before .before .object-on .ensures) ∙ c .before .before .next .given .1),
+      u .1,
+      u .2,
+    )
 
 pub +object-on+read-run-spec : {M : Type 1} → statement M
 +object-on+read-run-spec = close μ-object-on μ-read-run (λ t. object-on-lts.spec (in-object t)
@@ -265,8 +295,10 @@ pub +object-on+read-run-spec : {M : Type 1} → statement M
     read-run.Post
     read-run-Inv-loop
     read-run-μ-loop
+    (read-run-room-in-requires t)
     (read-run-new-requires t)
     (read-run-loop-holds t)
+    (read-run-gone-short-requires t)
     (read-run-sub-next-at t)
     (read-run-next-at-requires t)
     (read-run-enum-known-r t)
@@ -284,15 +316,11 @@ pub +object-on+read-run-spec : {M : Type 1} → statement M
     (read-run-loop-less-2 t)
     (read-run-loop-again-2 t)
     (read-run-enum-known-k-2 t)
-    (read-run-fits-requires t)
-    (read-run-into-requires t)
-    (read-run-loop-less-3 t)
-    (read-run-loop-again-3 t)
     (read-run-sub-object-on t)
     (read-run-object-on-requires t)
     (read-run-enum-known-r-2 t)
     (read-run-returns-4 t)
     (read-run-enum-known-next t)
     (read-run-on-requires-2 t)
-    (read-run-loop-less-4 t)
-    (read-run-loop-again-4 t)
+    (read-run-loop-less-3 t)
+    (read-run-loop-again-3 t)

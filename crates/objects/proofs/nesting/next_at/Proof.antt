@@ -1,21 +1,12 @@
 -- `nesting::next_at` meets its contract: a short header by its two bytes, any other by itself.
 -- Assumes nothing.
-use mathlib.Core.Path.{_≡_, sym, _∙_}
-use Prim.Native.Nat.{ℕ, _%_}
+use mathlib.Core.Path.{sym}
 use native.Mathlib.Omega.{arith}
-use borrow.Author.Tests.{eq-eqb, ne-eqb}
 use Rattle.objects.proofs.Short.{short-room}
-use Rattle.objects.proofs.Next.{next-short, next-end}
+use Rattle.objects.proofs.Next.{next-plain, next-opens, next-over, next-end}
 use borrow.Author.Needs.{needs}
 use Rattle.objects.proofs.nesting.next_at.Statement.{statement}
 use Rattle.objects.proofs.nesting.next_at.Tie as tie
-
--- a bit that is not 0
-odd : (x : ℕ) → (x % 2 ≡ 0 → ⊥) → x % 2 ≡ 1
-odd x h = omega arith
-
-even : (x : ℕ) → x % 2 ≡ 0 → x % 2 ≡ 1 → ⊥
-even x h e = omega arith
 
 short-number-requires : tie.Need-short-number-requires
 short-number-requires c κs = search needs
@@ -54,8 +45,7 @@ add-e-2 c =
 returns-3 : tie.Need-returns-3
 returns-3 c =
     let k = c .before in
-    let n = next-short _ _ _ _ (sym (k .before .before .before .short-number .ensures)) (k .before .before .if1 .taken) (k .if3 .left) (k .before .if2 .left) in
-    sym (n ∙ rw (ne-eqb _ _ (even _ (c .if4 .taken))))
+    sym (next-plain _ _ _ _ (sym (k .before .before .before .short-number .ensures)) (k .before .before .if1 .taken) (k .if3 .left) (k .before .if2 .left) (c .if4 .taken))
 
 at-place-requires : tie.Need-at-place-requires
 at-place-requires c κs = search needs
@@ -63,14 +53,14 @@ at-place-requires c κs = search needs
 returns-4 : tie.Need-returns-4
 returns-4 c =
     let k = c .before .before .before in
-    let n = next-short _ _ _ _ (sym (k .before .before .before .short-number .ensures)) (k .before .before .if1 .taken) (k .if3 .left) (k .before .if2 .left) in
-    sym (n ∙ rw (eq-eqb _ _ (odd _ (c .before .before .if4 .left)), eq-eqb _ _ (c .before .if5 .taken), c .at-place .ensures))
+    let n = next-over _ _ _ _ (sym (k .before .before .before .short-number .ensures)) (k .before .before .if1 .taken) (k .if3 .left) (k .before .if2 .left) in
+    rw (c .at-place .ensures) (sym (n (c .before .before .if4 .left) (c .before .if5 .taken)))
 
 returns-5 : tie.Need-returns-5
 returns-5 c =
     let k = c .before .before in
-    let n = next-short _ _ _ _ (sym (k .before .before .before .short-number .ensures)) (k .before .before .if1 .taken) (k .if3 .left) (k .before .if2 .left) in
-    sym (n ∙ rw (eq-eqb _ _ (odd _ (c .before .if4 .left)), ne-eqb _ _ (c .if5 .left)))
+    let n = next-opens _ _ _ _ (sym (k .before .before .before .short-number .ensures)) (k .before .before .if1 .taken) (k .if3 .left) (k .before .if2 .left) in
+    sym (n (c .before .if4 .left) (c .if5 .left))
 
 shared-slice-read-t18 : tie.Need-shared-slice-read-t18
 shared-slice-read-t18 c =
