@@ -1,7 +1,7 @@
 -- A GUID: sixteen bytes, held as two little-endian numbers, and in order by its sixteen bytes; and the form that puts byte
 -- 128 before one and a number behind it.
 -- Assumes nothing.
-use Prim.Native.Nat.{ℕ, _+_, _^_, _<_}
+use Prim.Native.Nat.{ℕ, _^_, _<_}
 use mathlib.Core.Bool.{Bool}
 use mathlib.Core.List.{List, _∷_, _++_}
 use lib.ListN.{take, drop}

@@ -4,7 +4,7 @@ ghost use mathlib.Core.List.{_++_, [], _∷_};
 ghost use Prim.Native.Nat.{_+_, _*_, _^_, _≤_, _<_};
 ghost use lib.ListN.{length, drop};
 ghost use Rattle.laws.specs.Bytes.{bytes};
-ghost use Rattle.numbers.specs.Compact.{sizeOf, valueOf, readForm, formAt, strict, readCompact, formOf, marked, compactBytes};
+ghost use Rattle.numbers.specs.Compact.{sizeOf, valueOf, readForm, formAt, readCompact, formOf, marked, compactBytes};
 ghost use Rattle.numbers.specs.Calls.{ReadsCompact, Writes, WritesCompact};
 use crate::bytes::put_le;
 use crate::bytes::read_le;

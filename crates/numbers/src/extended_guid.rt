@@ -1,11 +1,9 @@
 // Extended GUIDs: null, or a GUID and a number of at most 32 bits, in four forms.
 ghost use mathlib.Core.Path.{_≡_};
 ghost use Prim.Native.Nat.{_+_, _*_, _^_, _≤_, _<_};
-ghost use mathlib.Core.List.{_++_};
-ghost use lib.ListN.{length, drop};
-ghost use Rattle.laws.specs.Bytes.{bytes};
+ghost use lib.ListN.{length};
 ghost use Rattle.numbers.specs.Compact.{marked};
-ghost use Rattle.numbers.specs.ExtendedGuid.{shortForm, longForm, formOfId, readExtendedGuid, shortBytes, namedBytes, extendedGuidBytes};
+ghost use Rattle.numbers.specs.ExtendedGuid.{shortForm, longForm, readExtendedGuid, shortBytes, namedBytes, extendedGuidBytes};
 ghost use Rattle.numbers.specs.Calls.{ReadsExtendedGuid, Writes, WritesExtendedGuid};
 use crate::bytes::put_le;
 use crate::bytes::read_le;

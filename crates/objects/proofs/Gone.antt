@@ -13,7 +13,7 @@ use Rattle.laws.proofs.Cases.{pick-all}
 use Rattle.laws.proofs.Loops.{Falls, iterate-at, iterate-ind}
 use Rattle.objects.specs.Nesting.{runAt}
 use Rattle.objects.specs.Next.{shortNumber, nextAt, nested}
-use Rattle.objects.specs.Nest.{held, roomIn, Room, onTo, into, outTo, pastStart, pastEnd, shortTurn, goingOn, goneShort}
+use Rattle.objects.specs.Nest.{held, roomIn, Room, noneOpen, onTo, into, outTo, pastStart, pastEnd, shortTurn, goingOn, goneShort}
 use Rattle.objects.specs.declared.nesting.Passed.{Passed}
 use Rattle.objects.specs.declared.nesting.Next.the-variants as next
 use Rattle.objects.specs.declared.nesting.Nest.{Nest}
@@ -174,12 +174,12 @@ module _ (s : List ℕ) (room : ℕ) where
   pub gone-on : (nest n : Nest) → shortTurn s room nest ≡ On n → goneShort s room nest ≡ goneShort s room n
   unfolding goneShort
   gone-on nest n e =
-      iterate-at (λ m. goingOn m (shortTurn s room m)) size (record { place = 0; inner = 0; kinds = 0 }) falls nest (more n) (ap (goingOn nest) e)
+      iterate-at (λ m. goingOn m (shortTurn s room m)) size (noneOpen 0) falls nest (more n) (ap (goingOn nest) e)
 
   pub gone-stops : (nest : Nest) → shortTurn s room nest ≡ Stops → goneShort s room nest ≡ nest
   unfolding goneShort
   gone-stops nest e =
-      iterate-at (λ m. goingOn m (shortTurn s room m)) size (record { place = 0; inner = 0; kinds = 0 }) falls nest (done nest) (ap (goingOn nest) e)
+      iterate-at (λ m. goingOn m (shortTurn s room m)) size (noneOpen 0) falls nest (done nest) (ap (goingOn nest) e)
 
   abbrev Arrives : Nest → Nest → Type 0
   Arrives nest r = (length s - r .place ≤ length s - nest .place) × Same nest r
@@ -194,7 +194,7 @@ module _ (s : List ℕ) (room : ℕ) where
 
   pub gone-same : (nest : Nest) → Arrives nest (goneShort s room nest)
   gone-same =
-      iterate-ind (λ m. goingOn m (shortTurn s room m)) size (record { place = 0; inner = 0; kinds = 0 }) falls
+      iterate-ind (λ m. goingOn m (shortTurn s room m)) size (noneOpen 0) falls
       (λ nest. Arrives nest (goneShort s room nest)) (λ nest f. arrives-by nest (shortTurn s room nest) refl (turn-goes nest) f)
 
   -- ---- what holds at each turn of a run
@@ -213,7 +213,7 @@ module _ (s : List ℕ) (room : ℕ) where
 
 -- nothing is open inside at first
 pub begin-under : (s : List ℕ) (kind depth at room : ℕ) → room ≡ roomIn depth
-    → Under s room (runAt s at depth kind) kind depth (record { place = at; inner = 0; kinds = 0 })
+    → Under s room (runAt s at depth kind) kind depth (noneOpen at)
 begin-under s kind depth at room e =
     let f = room-fits depth in
     (unfolded s kind depth at, rw e (f .0), (omega arith, rw e (f .1), omega arith))

@@ -29,6 +29,9 @@ Held inner kinds = kinds < 64 ^ inner
 abbrev pub Room : ℕ → Nest → Type 0
 Room room nest = (nest .inner ≤ room) × (room ≤ held) × Held (nest .inner) (nest .kinds)
 
+abbrev pub noneOpen : ℕ → Nest
+noneOpen at = record { place = at; inner = 0; kinds = 0 }
+
 abbrev pub onTo : Nest → ℕ → Nest
 onTo nest e = record { place = e; inner = nest .inner; kinds = nest .kinds }
 
@@ -67,4 +70,4 @@ goingOn nest Stops = done nest
 -- behind all of them
 unfoldable pub goneShort : List ℕ → ℕ → Nest → Nest
 goneShort s room from =
-    iterate (λ nest. goingOn nest (shortTurn s room nest)) (λ nest. length s - nest .place) (record { place = 0; inner = 0; kinds = 0 }) from
+    iterate (λ nest. goingOn nest (shortTurn s room nest)) (λ nest. length s - nest .place) (noneOpen 0) from

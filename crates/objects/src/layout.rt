@@ -1,7 +1,7 @@
 // The steps for objects: starts and ends that a layout has, contents that are only nested, and data runs.
 ghost use mathlib.Core.Path.{_≡_};
-ghost use Prim.Native.Nat.{_+_, _-_, _≤_, _<_, _^_};
-ghost use lib.ListN.{length, take, drop};
+ghost use Prim.Native.Nat.{_+_, _-_, _<_, _^_};
+ghost use lib.ListN.{take, drop};
 ghost use Rattle.objects.specs.Steps.{sameBit, lengthTo, startOn, startHere, lengthIs, startOfLength, endOn, endHere, startIs, nextIs, inside, finish, carried, runHere, closedAt, closed, Good, GoodIn};
 ghost use Rattle.objects.specs.Header.{headerAt, lengthAt};
 ghost use Rattle.objects.specs.Next.{shortIs};

@@ -4,10 +4,10 @@
 // closes compound objects without a call, as long as their types have room in one number (`gone_short`); a reader of the promises can
 // skip that part, from `Nest` to `gone_short`.
 ghost use mathlib.Core.Path.{_≡_};
-ghost use Prim.Native.Nat.{_+_, _-_, _*_, _/_, _<_, _^_};
+ghost use Prim.Native.Nat.{_-_, _<_, _^_};
 ghost use Rattle.objects.specs.Nesting.{dataPast, objectAt, runAt};
 ghost use Rattle.objects.specs.Next.{shortNumber, nextAt, MayOpen, objectOn, endedAt};
-ghost use Rattle.objects.specs.Nest.{Room, roomIn, pastStart, pastEnd, shortTurn, goneShort};
+ghost use Rattle.objects.specs.Nest.{Room, roomIn, noneOpen, onTo, into, outTo, pastStart, pastEnd, shortTurn, goneShort};
 use crate::header::Header;
 use crate::header::Length;
 use crate::header::header_at;
@@ -137,9 +137,10 @@ pub enum Going {
     Stops,
 }
 
-// So many types there are in a start of two bytes, and so many of them fit into a number of 64 bits.
+// The type in a start of two bytes has six bits.
 const SHORT_TYPES: u64 = 64;
 
+// So many such types fit into a number of 64 bits.
 const HELD: usize = 10;
 
 // How many objects may be open inside a run, with so many levels left.
@@ -155,7 +156,7 @@ fn room_in(depth: usize) -> usize
 impl Nest {
     // Nothing is open inside yet.
     fn new(at: usize) -> Nest
-        ensures { λ r. ⌜ r ≡ record { place = at; inner = 0; kinds = 0 } ⌝ }
+        ensures { λ r. ⌜ r ≡ noneOpen at ⌝ }
     {
         Nest {
             place: at,
@@ -166,7 +167,7 @@ impl Nest {
 
     // On to a place behind an object.
     fn on(self, e: usize) -> Nest
-        ensures { λ r. ⌜ r ≡ record { place = e; inner = self .inner; kinds = self .kinds } ⌝ }
+        ensures { λ r. ⌜ r ≡ onTo self e ⌝ }
     {
         Nest {
             place: e,
@@ -178,7 +179,7 @@ impl Nest {
     // Into an object of this type, to the place behind its own data.
     fn into(self, kind: u64, e: usize) -> Nest
         requires { ⌜ (kind < 64) × (self .inner < 10) × (self .kinds < 2 ^ 54) ⌝ }
-        ensures { λ r. ⌜ r ≡ record { place = e; inner = self .inner + 1; kinds = self .kinds * 64 + kind } ⌝ }
+        ensures { λ r. ⌜ r ≡ into self kind e ⌝ }
     {
         Nest {
             place: e,
@@ -190,7 +191,7 @@ impl Nest {
     // Out of the innermost, to the place behind its end.
     fn out(self, e: usize) -> Nest
         requires { ⌜ 0 < self .inner ⌝ }
-        ensures { λ r. ⌜ r ≡ record { place = e; inner = self .inner - 1; kinds = self .kinds / 64 } ⌝ }
+        ensures { λ r. ⌜ r ≡ outTo self e ⌝ }
     {
         Nest {
             place: e,

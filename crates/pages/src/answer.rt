@@ -1,7 +1,7 @@
 // The answering call. Everything is decided in tables of its own; only when no refusal is left are the output and the lent tables
 // written. Each function judges one thing and goes on: the tables' lengths, the store, the request, the page.
 ghost use mathlib.Core.Path.{_≡_};
-ghost use Prim.Native.Nat.{ℕ, _+_, _*_, _≤_, _<_};
+ghost use Prim.Native.Nat.{_*_, _≤_, _<_};
 ghost use mathlib.Core.List.{[], _++_};
 ghost use lib.ListN.{length, drop};
 ghost use Rattle.objects.specs.declared.reading.Reading.the-variants.{At};

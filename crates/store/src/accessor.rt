@@ -1,6 +1,5 @@
 // One element of a lent store by its position: where it stands, and its own bytes as a part of the store.
 ghost use mathlib.Core.Path.{_≡_};
-ghost use lib.ListN.{length};
 ghost use Rattle.store.specs.Accessor.{FindsElement, elementBytes};
 use crate::package::Stored;
 use crate::package::read_store;

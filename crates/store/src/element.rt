@@ -1,8 +1,8 @@
 // One element and its parts: the header, the id, the serial number, the type, and what is inside.
 ghost use mathlib.Core.Path.{_≡_};
-ghost use Prim.Native.Nat.{_+_, _*_, _≤_};
+ghost use Prim.Native.Nat.{_*_, _≤_};
 ghost use lib.ListN.{length};
-ghost use Rattle.store.specs.Element.{keyOf, namedKey, numberedKey, freshKey, keyHere, onKey, idField, serialField, fieldsOf, opened, dataOf, elementOn, elementAt};
+ghost use Rattle.store.specs.Element.{keyOf, namedKey, numberedKey, freshKey, keyHere, onKey, idField, serialField, fieldsOf, elementOn, elementAt};
 ghost use Rattle.objects.specs.Steps.{Behind};
 ghost use Rattle.store.specs.Tables.{idKeys, serialKeys, Marked, Lent};
 use crate::table::seen_key;

@@ -4,7 +4,7 @@ ghost use Prim.Native.Nat.{_+_, _*_, _≤_};
 ghost use lib.ListN.{length};
 ghost use Rattle.talk.specs.Ranges.{Normal};
 ghost use Rattle.store.specs.RangeTable.{rangesAt, laidRanges};
-ghost use Rattle.store.specs.Knowledge.{knowing, united, itemsFrom, isCell, cellFrom, specializedFrom, knowledgeFrom, knowledgeAt, knowledgeAnswer, KnownIs, ReadsKnowledge};
+ghost use Rattle.store.specs.Knowledge.{knowing, united, itemsFrom, isCell, cellFrom, specializedFrom, knowledgeAt, knowledgeAnswer, KnownIs, ReadsKnowledge};
 use crate::item::CELL;
 use crate::item::Item;
 use crate::item::item_kind;

@@ -10,7 +10,6 @@ use Rattle.laws.specs.Placed.{Lays}
 use Rattle.laws.proofs.Numbers.{length-bytes}
 use Rattle.hub.specs.Report.{numbersBytes}
 use Rattle.hub.proofs.Reports.{numbers-then, numbers-short, numbers-placed}
-use borrow.Author.Needs.{needs}
 use Rattle.hub.proofs.put_report.Statement.{statement}
 use Rattle.hub.proofs.put_report.Tie as tie
 

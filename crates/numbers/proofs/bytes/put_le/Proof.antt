@@ -2,7 +2,7 @@
 -- Assumes nothing.
 use mathlib.Core.Path.{_≡_, refl}
 use mathlib.Core.List.{_++_}
-use Prim.Native.Nat.{_≤_, _^_, _+_, _-_, _/_}
+use Prim.Native.Nat.{_≤_, _^_, _-_, _/_}
 use native.Mathlib.Nat.{div-one, div-div-eq-div-mul, pow-suc}
 use native.Mathlib.Numerals.{add-one}
 use native.Mathlib.Omega.{arith}

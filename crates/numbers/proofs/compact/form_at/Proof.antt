@@ -2,7 +2,7 @@
 -- Assumes nothing.
 use native.Mathlib.Omega.{arith}
 use borrow.Author.Tests.{eq-eqb, ne-eqb}
-use Prim.Native.Nat.{_-_, _<_}
+use Prim.Native.Nat.{_<_}
 use lib.ListN.{getD}
 use lib.Count.{trailingZeros}
 use Rattle.numbers.specs.Compact.{formAt}

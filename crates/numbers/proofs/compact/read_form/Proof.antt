@@ -2,7 +2,7 @@
 -- Assumes nothing.
 use native.Mathlib.Omega.{arith}
 use borrow.Author.Tests.{lt-ltb, le-ltb}
-use Prim.Native.Nat.{_-_, _≤_, _<_}
+use Prim.Native.Nat.{_≤_, _<_}
 use lib.ListN.{length}
 use Rattle.numbers.specs.Compact.{readForm, sizeOf}
 use Rattle.numbers.proofs.Forms.{least-shl}

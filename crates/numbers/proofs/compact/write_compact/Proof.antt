@@ -2,7 +2,6 @@
 -- Assumes nothing.
 use mathlib.Core.Path.{_≡_}
 use native.Mathlib.Omega.{arith}
-use Prim.Native.Nat.{_-_}
 use lib.ListN.{length}
 use Rattle.numbers.specs.Compact.{compactBytes}
 use Rattle.numbers.proofs.Forms.{form-of-le, marked-lt, compact-is, length-compact}

@@ -3,7 +3,7 @@
 use mathlib.Core.Path.{_≡_}
 use native.Mathlib.Omega.{arith}
 use borrow.Author.Tests.{lt-ltb, le-ltb}
-use Prim.Native.Nat.{_-_, _^_, _<_}
+use Prim.Native.Nat.{_^_, _<_}
 use Rattle.laws.proofs.Parts.{tail-part}
 use lib.ListN.{take, drop, length-take}
 use Rattle.laws.specs.Bytes.{le}

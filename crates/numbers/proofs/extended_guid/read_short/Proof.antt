@@ -2,7 +2,6 @@
 -- Assumes nothing.
 use native.Mathlib.Omega.{arith}
 use borrow.Author.Tests.{lt-ltb, le-ltb}
-use Prim.Native.Nat.{_-_}
 use Rattle.laws.proofs.Parts.{tail-part}
 use Rattle.numbers.specs.ExtendedGuid.{shortForm, namedOf}
 use Rattle.numbers.proofs.ExtendedGuids.{short-fits}

@@ -2,7 +2,7 @@
 -- Assumes nothing.
 use mathlib.Core.Path.{_≡_, _∙_}
 use native.Mathlib.Omega.{arith}
-use Prim.Native.Nat.{_+_, _-_, _*_, _%_, _^_, _≤_, _<_}
+use Prim.Native.Nat.{_+_, _*_, _%_, _^_, _≤_, _<_}
 use Rattle.laws.proofs.Parts.{tail-part, mid-tail}
 use lib.ListN.{drop}
 use lib.Seq.{drop-drop}

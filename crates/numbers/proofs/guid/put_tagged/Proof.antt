@@ -2,7 +2,7 @@
 -- Assumes nothing.
 use mathlib.Core.Path.{_≡_, _∙_}
 use native.Mathlib.Omega.{arith}
-use Prim.Native.Nat.{ℕ, _+_, _-_}
+use Prim.Native.Nat.{ℕ, _-_}
 use Rattle.laws.proofs.Parts.{tail-part, mid-tail, tail-length}
 use mathlib.Core.List.{List, _++_}
 use lib.ListN.{length, take, drop, set, length-set}

@@ -1,7 +1,7 @@
 -- `guid::write_tagged` meets its contract.
 -- Assumes nothing.
 use mathlib.Core.Path.{_∙_}
-use Prim.Native.Nat.{_+_, _-_}
+use Prim.Native.Nat.{_+_}
 use native.Mathlib.Nat.{add-comm}
 use lib.Seq.{drop-drop}
 use Rattle.numbers.specs.Guid.{taggedBytes}

@@ -1,8 +1,8 @@
 -- `nesting::object_on` and `nesting::read_run`, which call each other, meet their contracts. The measure of the calls is the depth, twice for
 -- an object and once more for a run; that of the loop is what is left of the input.
 -- Assumes nothing.
-use mathlib.Core.Path.{_≡_, sym, subst, _∙_}
-use Prim.Native.Nat.{suc, _+_, _-_, _≤_}
+use mathlib.Core.Path.{sym, subst, _∙_}
+use Prim.Native.Nat.{suc, _+_, _-_}
 use native.Mathlib.Omega.{arith}
 use lib.ListN.{length}
 use borrow.Author.Needs.{needs}

@@ -1,6 +1,6 @@
 -- `knowledge::read_cell` meets its contract.
 -- Assumes nothing.
-use mathlib.Core.Path.{refl, ap, _∙_}
+use mathlib.Core.Path.{refl, _∙_}
 use Rattle.store.specs.Knowledge.{cellFrom}
 use Rattle.store.proofs.Learning.{known-standing}
 use borrow.Author.Needs.{needs}

@@ -1,11 +1,10 @@
 -- `knowledge::read_knowledge` meets its contract.
 -- Assumes nothing.
-use mathlib.Core.Path.{_≡_, refl, sym, ap, _∙_}
+use mathlib.Core.Path.{_≡_, refl, sym, _∙_}
 use mathlib.Core.List.{[]}
 use native.Mathlib.Omega.{arith}
 use lib.ListN.{length}
 use borrow.Author.Needs.{needs}
-use Rattle.store.specs.RangeTable.{rangesAt}
 use Rattle.store.specs.Knowledge.{knowing, toGo, knowledgeFrom, knowledgeAt}
 use Rattle.store.proofs.KnowledgeForward.{specialized-falls}
 use Rattle.store.proofs.Learning.{Learning, learning-start, learning-more, learning-end}

@@ -1,6 +1,6 @@
 -- `knowledge::read_specialized` meets its contract.
 -- Assumes nothing.
-use mathlib.Core.Path.{_≡_, refl, sym, ap, _∙_}
+use mathlib.Core.Path.{refl, sym, _∙_}
 use Rattle.store.specs.Knowledge.{specializedFrom, specializedGuid, cellFrom}
 use Rattle.store.proofs.Learning.{known-start}
 use borrow.Author.Needs.{needs}

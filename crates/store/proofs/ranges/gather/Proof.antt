@@ -5,9 +5,8 @@ use Rattle.store.specs.RangeTable.{rangeAt, rangesAt}
 use mathlib.Core.Bool.{true, false}
 use Rattle.store.proofs.RangeRows.{gather-turn, gather-stop, gather-end}
 use native.Mathlib.Omega.{arith}
-use Prim.Native.Nat.{ℕ, _+_, _-_, _*_, _≤_, _<_}
-use mathlib.Core.List.{List, [], _∷_, _++_}
-use mathlib.Core.Path.{_≡_, refl, sym, ap, _∙_}
+use Prim.Native.Nat.{_-_, _≤_}
+use mathlib.Core.Path.{_≡_, refl}
 use Rattle.store.proofs.ranges.gather.Statement.{statement}
 use Rattle.store.proofs.ranges.gather.Tie as tie
 

@@ -6,8 +6,8 @@ use borrow.Author.Needs.{needs}
 use Rattle.store.proofs.RangeRows.{rows-step, rows-none, row-kept, put-rest, put-turn, put-last, put-over}
 use lib.ListN.{length, take, drop}
 use native.Mathlib.Omega.{arith}
-use Prim.Native.Nat.{ℕ, _+_, _-_, _*_, _≤_, _<_}
-use mathlib.Core.List.{List, [], _∷_, _++_, append-assoc}
+use Prim.Native.Nat.{ℕ, _+_, _-_, _*_, _≤_}
+use mathlib.Core.List.{List, _∷_, _++_, append-assoc}
 use mathlib.Core.Path.{_≡_, refl, sym, ap, _∙_}
 use Rattle.store.proofs.ranges.shift.Statement.{statement}
 use Rattle.store.proofs.ranges.shift.Tie as tie

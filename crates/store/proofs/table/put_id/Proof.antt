@@ -1,7 +1,7 @@
 -- `table::put_id` meets its contract.
 -- Assumes nothing.
 use native.Mathlib.Omega.{arith}
-use Prim.Native.Nat.{_-_, _*_}
+use Prim.Native.Nat.{_*_}
 use lib.ListN.{length-set}
 use Rattle.store.proofs.Stores.{put-three}
 use borrow.Author.Needs.{needs}

@@ -5,7 +5,6 @@ use Prim.Native.Nat.{_+_, _-_, _^_, _<_}
 use lib.ListN.{length}
 use Rattle.objects.specs.Steps.{closedAt, runHere}
 use Rattle.objects.proofs.ItemsAt.{part-fits}
-use Rattle.objects.specs.Steps.{closed}
 use borrow.Author.Needs.{needs}
 use Rattle.objects.proofs.reading.Reading.closed.Statement.{statement}
 use Rattle.objects.proofs.reading.Reading.closed.Tie as tie
