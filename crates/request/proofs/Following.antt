@@ -13,12 +13,12 @@ use borrow.Author.Tests.{eq-eqb, ne-eqb, eqb-true}
 use Rattle.laws.specs.Pick.{pick}
 use Rattle.laws.proofs.Cases.{by-bool, by-eq}
 use Rattle.store.specs.Element.{sameKey}
-use Rattle.store.specs.Tables.{keyAt}
+use Rattle.store.specs.Tables.{keyAt, markOf}
 use Rattle.store.specs.declared.element.Key.{Key}
 use Rattle.store.specs.declared.element.Element.{Element}
-use Rattle.store.proofs.Rows.{same-numbers}
+use Rattle.store.proofs.Rows.{same-mark, mark-lt}
 use Rattle.request.specs.Choice.{elementOf, elementsFrom, elementsIn, setFlags, matchedBy}
-use Rattle.request.specs.Index.{markOf, markAt, lastWith, Linked}
+use Rattle.request.specs.Index.{indexMarks, idMark, lastWith, Linked}
 use Rattle.request.specs.declared.choice.Matched.the-variants.{WithId}
 use Rattle.request.proofs.Elements.{length-elements}
 
@@ -52,15 +52,11 @@ module _ (test : Element → Bool) (to : ℕ) (rows ids : List ℕ) where
 
 -- ---- rows with another mark
 
-same-mark : (a b : Key) → sameKey a b ≡ true → markOf a ≡ markOf b
-unfolding markOf
-same-mark a b e = let n = same-numbers a b e in rw (n .0, n .2)
-
-other-mark : (rows ids : List ℕ) (k : Key) (i : ℕ) → (markAt ids i ≡ markOf k → ⊥) → matchedBy (WithId k) (elementOf rows ids i) ≡ false
+other-mark : (rows ids : List ℕ) (k : Key) (i : ℕ) → (idMark ids i ≡ markOf indexMarks k → ⊥) → matchedBy (WithId k) (elementOf rows ids i) ≡ false
 unfolding matchedBy elementOf
 other-mark rows ids k i h =
     by-bool (sameKey (keyAt ids (i * 3)) k)
-    (λ e. absurd (h (same-mark (keyAt ids (i * 3)) k e)))
+    (λ e. absurd (h (same-mark indexMarks (keyAt ids (i * 3)) k e)))
     (λ e. e)
 
 -- the last row of a mark among n is one of them, and has it
@@ -68,55 +64,51 @@ pub last-within : (ids : List ℕ) (mark n : ℕ) → lastWith ids mark n ≤ n
 unfolding lastWith
 last-within ids mark zero = omega arith
 last-within ids mark (suc i) =
-    by-bool (eqb (markAt ids i) mark)
+    by-bool (eqb (idMark ids i) mark)
     (λ e. rw e (omega arith))
     (λ e. rw e (let l = last-within ids mark i in omega arith))
 
-last-marked : (ids : List ℕ) (mark n i : ℕ) → lastWith ids mark n ≡ suc i → markAt ids i ≡ mark
+last-marked : (ids : List ℕ) (mark n i : ℕ) → lastWith ids mark n ≡ suc i → idMark ids i ≡ mark
 unfolding lastWith
 last-marked ids mark zero i q = absurd (omega arith)
 last-marked ids mark (suc n) i q =
-    by-bool (eqb (markAt ids n) mark)
-    (λ e. let z : n ≡ i = let y : suc n ≡ suc i = rw e at q in omega arith in rw (sym z) (eqb-true (markAt ids n) mark e))
+    by-bool (eqb (idMark ids n) mark)
+    (λ e. let z : n ≡ i = let y : suc n ≡ suc i = rw e at q in omega arith in rw (sym z) (eqb-true (idMark ids n) mark e))
     (λ e. last-marked ids mark n i (rw e at q))
 
 -- rows behind it set nothing
 set-to-last : (k : Key) (to : ℕ) (rows ids : List ℕ) (n : ℕ) (flags : List ℕ)
-    → setFlags (matchedBy (WithId k)) to (elementsIn rows ids n) flags ≡ setFlags (matchedBy (WithId k)) to (elementsIn rows ids (lastWith ids (markOf k) n)) flags
+    → setFlags (matchedBy (WithId k)) to (elementsIn rows ids n) flags ≡ setFlags (matchedBy (WithId k)) to (elementsIn rows ids (lastWith ids (markOf indexMarks k) n)) flags
 unfolding lastWith
 set-to-last k to rows ids zero flags = refl
 set-to-last k to rows ids (suc i) flags =
-    by-eq (markAt ids i) (markOf k)
-    (λ e. rw (eq-eqb (markAt ids i) (markOf k) e))
+    by-eq (idMark ids i) (markOf indexMarks k)
+    (λ e. rw (eq-eqb (idMark ids i) (markOf indexMarks k) e))
     (λ e.
-    rw (ne-eqb (markAt ids i) (markOf k) e)
+    rw (ne-eqb (idMark ids i) (markOf indexMarks k) e)
     (row-last (matchedBy (WithId k)) to rows ids i false flags (other-mark rows ids k i e) ∙ set-to-last k to rows ids i flags))
 
 -- ---- what holds whenever the loop's test is reached: what is told is what the rows still to come set, and the last of them has the mark
 
 pub record Following (k : Key) (to : ℕ) (rows ids : List ℕ) (n : ℕ) (told flags : List ℕ) (left : ℕ) : Type 0 where
   pub within : left ≤ n
-  pub marked : (i : ℕ) → left ≡ suc i → markAt ids i ≡ markOf k
+  pub marked : (i : ℕ) → left ≡ suc i → idMark ids i ≡ markOf indexMarks k
   pub rest : told ≡ setFlags (matchedBy (WithId k)) to (elementsIn rows ids left) flags
 
-mark-low : (k : Key) → markOf k < 1024
-unfolding markOf
-mark-low k = omega arith
-
 module _ {heads links ids : List ℕ} {n : ℕ} (w : Linked heads links ids n) (k : Key) (to : ℕ) (rows : List ℕ) where
-  pub following-start : (flags : List ℕ) (mark : ℕ) → mark ≡ markOf k
+  pub following-start : (flags : List ℕ) (mark : ℕ) → mark ≡ markOf indexMarks k
       → Following k to rows ids n (setFlags (matchedBy (WithId k)) to (elementsIn rows ids n) flags) flags (getD heads mark 0)
   following-start flags mark e =
-      rw (e, w .head (markOf k) (mark-low k))
+      rw (e, w .head (markOf indexMarks k) (mark-lt indexMarks k (omega arith)))
       (record {
-        within = last-within ids (markOf k) n;
-        marked = λ i q. last-marked ids (markOf k) n i q;
+        within = last-within ids (markOf indexMarks k) n;
+        marked = λ i q. last-marked ids (markOf indexMarks k) n i q;
         rest = set-to-last k to rows ids n flags;
       })
 
   module _ {told flags : List ℕ} {left : ℕ} (u : Following k to rows ids n told flags left) (i : ℕ) (e : left ≡ suc i) where
     -- the row before, of the same mark
-    next : getD links i 0 ≡ lastWith ids (markOf k) i
+    next : getD links i 0 ≡ lastWith ids (markOf indexMarks k) i
     next = let l = u .within in rw (sym (u .marked i e)) (w .link i (omega arith))
 
     turn : (t : Bool) → matchedBy (WithId k) (elementOf rows ids i) ≡ t
@@ -124,8 +116,8 @@ module _ {heads links ids : List ℕ} {n : ℕ} (w : Linked heads links ids n) (
     turn t h =
         rw next
         (record {
-          within = let l = u .within in let m = last-within ids (markOf k) i in omega arith;
-          marked = λ j q. last-marked ids (markOf k) i j q;
+          within = let l = u .within in let m = last-within ids (markOf indexMarks k) i in omega arith;
+          marked = λ j q. last-marked ids (markOf indexMarks k) i j q;
           rest =
               rw e at (u .rest)
               ∙ row-last (matchedBy (WithId k)) to rows ids i t flags h
@@ -140,7 +132,7 @@ module _ {heads links ids : List ℕ} {n : ℕ} (w : Linked heads links ids n) (
 
     -- each row is before the one that was looked at
     pub following-less : getD links i 0 < left
-    following-less = let l = last-within ids (markOf k) i in rw (next, e) (omega arith)
+    following-less = let l = last-within ids (markOf indexMarks k) i in rw (next, e) (omega arith)
 
 pub following-end : {k : Key} {to : ℕ} {rows ids : List ℕ} {n : ℕ} {told flags : List ℕ} {left : ℕ} → Following k to rows ids n told flags left → left ≡ 0
     → flags ≡ told

@@ -7,7 +7,7 @@ ghost use lib.Dec.{eqb};
 ghost use Rattle.request.specs.Filter.{idsField, kindPart, filterAt};
 ghost use Rattle.request.specs.Meaning.{keyIn, keysIn, filterRead};
 ghost use Rattle.request.specs.Choice.{elementOf, elementsIn, flagOf, setFlags, setByFilter, matchedBy, withIds, kindMatches, Chooses};
-ghost use Rattle.request.specs.Index.{markOf, NoHeads, Indexed};
+ghost use Rattle.request.specs.Index.{indexMarks, NoHeads, Indexed};
 ghost use Rattle.request.specs.declared.choice.Matched.the-variants.{WithId};
 use crate::filter::ALL;
 use crate::filter::FILTER;
@@ -25,7 +25,11 @@ use objects::reading::ReadingId;
 use store::element::Key;
 use store::element::key_of;
 use store::table::key_at;
+use store::table::mark_of;
 use store::table::same_key;
+
+// Among how many the ids have their marks in the index.
+const INDEX_MARKS: u64 = 1024;
 
 // What is matched at one go through the elements.
 pub enum Matched {
@@ -60,18 +64,11 @@ fn set_matched(m: Matched, rows: &[u64], ids: &[u64], n: usize, flags: &mut [u8]
     }
 }
 
-// Where the mark of an id stands among 1,024.
-fn mark_of(k: Key) -> usize
-    ensures { λ r. ⌜ (r ≡ markOf k) × (r < 1024) ⌝ }
-{
-    ((k.number % 1024 + k.low % 1024) % 1024) as usize
-}
-
 // The elements by the marks of their ids, so that an id of a filter is not put to each of them: in `heads` the last element of each
 // mark, in `links` the one before each element that has the same mark, both counted from 1, and 0 where there is none. Nothing is
 // written where `links` has no room for all.
 fn index_ids(ids: &[u64], n: usize, heads: &mut [u16], links: &mut [u16])
-    requires { ⌜ (n * 3 ≤ length (now ids)) × (1024 ≤ length (now heads)) × (length (now links) ≤ 256) × NoHeads (now heads) ⌝ }
+    requires { ⌜ (n * 3 ≤ length (now ids)) × (indexMarks ≤ length (now heads)) × (length (now links) ≤ 256) × NoHeads (now heads) ⌝ }
     ensures { λ _. ⌜ Indexed (now (heads .exit)) (now (links .exit)) (now (ids .entry)) n ⌝ }
 {
     if links.len() < n {
@@ -79,7 +76,7 @@ fn index_ids(ids: &[u64], n: usize, heads: &mut [u16], links: &mut [u16])
     }
     let mut i = 0;
     while i < n {
-        let mark = mark_of(key_at(ids, i * 3));
+        let mark = mark_of(key_at(ids, i * 3), INDEX_MARKS);
         links[i] = heads[mark];
         heads[mark] = (i + 1) as u16;
         i += 1;
@@ -105,7 +102,7 @@ fn set_key(
         set_matched(Matched::WithId(k), rows, ids, n, flags, to);
         return;
     }
-    let mut left = heads[mark_of(k)] as usize;
+    let mut left = heads[mark_of(k, INDEX_MARKS)] as usize;
     while 0 < left {
         let i = left - 1;
         if is_matched(Matched::WithId(k), rows, ids, i) {
@@ -266,7 +263,7 @@ pub fn choose(
     if count == 0 {
         return;
     }
-    let mut heads = [0u16; 1024];
+    let mut heads = [0u16; INDEX_MARKS as usize];
     let mut links = [0u16; 256];
     index_ids(ids, n, &mut heads, &mut links);
     let mut at = c;

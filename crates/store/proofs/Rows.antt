@@ -4,8 +4,8 @@
 use mathlib.Core.Path.{_≡_, refl, sym, ap, _∙_}
 use mathlib.Core.Bool.{true, false}
 use mathlib.Core.List.{List, [], _∷_, _++_, map, append-assoc, append-nil}
-use Prim.Native.Nat.{ℕ, suc, _+_, _-_, _*_, _≤_, _<_}
-use native.Mathlib.Nat.{suc-mul, zero-mul, mul-le-mul-right}
+use Prim.Native.Nat.{ℕ, suc, _+_, _-_, _*_, _%_, _≤_, _<_}
+use native.Mathlib.Nat.{suc-mul, zero-mul, mul-le-mul-right, mod-lt}
 use native.Mathlib.Numerals.{add-one}
 use native.Mathlib.Omega.{arith}
 use lib.ListN.{length, take, drop, length-append}
@@ -15,7 +15,7 @@ use borrow.Author.Tests.{eq-eqb, ne-eqb, eqb-true}
 use Rattle.laws.specs.Once.{seen}
 use Rattle.laws.proofs.Cases.{by-eq, impossible}
 use Rattle.store.specs.Element.{sameKey}
-use Rattle.store.specs.Tables.{keyAt, keysAt, flat}
+use Rattle.store.specs.Tables.{keyAt, keysAt, markOf, flat}
 use Rattle.store.specs.declared.element.Key.{Key}
 use Rattle.store.specs.declared.element.Element.{Element}
 
@@ -96,6 +96,15 @@ same-numbers a b e =
     (l, h, eqb-true (a .number) (b .number) z))
     (λ h. let z : false ≡ true = rw (eq-eqb _ _ l, ne-eqb _ _ h) at e in impossible (cc)))
     (λ l. let z : false ≡ true = rw (ne-eqb _ _ l) at e in impossible (cc))
+
+-- equal keys have equal marks, and every mark is one of so many
+pub same-mark : (width : ℕ) (a b : Key) → sameKey a b ≡ true → markOf width a ≡ markOf width b
+unfolding markOf
+same-mark width a b e = let n = same-numbers a b e in rw (n .0, n .2)
+
+pub mark-lt : (width : ℕ) (k : Key) → 0 < width → markOf width k < width
+unfolding markOf
+mark-lt width k h = mod-lt (k .number % width + k .low % width) h
 
 pub seen-first : (k x : Key) (l : List Key) → sameKey k x ≡ true → seen sameKey k (x ∷ l) ≡ true
 unfolding seen

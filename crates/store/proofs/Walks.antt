@@ -3,7 +3,7 @@
 use mathlib.Core.Path.{_≡_, refl, sym, ap, _∙_}
 use mathlib.Core.Bool.{true, false}
 use mathlib.Core.List.{List, [], _∷_, _++_, map, map-append}
-use Prim.Native.Nat.{ℕ, zero, suc, _-_, _+_, _*_, _<_, _≤_}
+use Prim.Native.Nat.{ℕ, zero, suc, _-_, _+_, _*_, _≤_}
 use native.Mathlib.Numerals.{add-one}
 use native.Mathlib.Omega.{arith}
 use lib.ListN.{length, getD, take, drop, length-append, set}
@@ -18,7 +18,7 @@ use Rattle.laws.specs.Once.{seen}
 use Rattle.laws.proofs.Cases.{by-bool, by-lt, by-eq, impossible}
 use Rattle.laws.proofs.Twice.{seen-append}
 use Rattle.store.specs.Element.{sameKey, elementAt, idsIn, serialsIn}
-use Rattle.store.specs.Tables.{markOf, Marked, Lent, keyAt, idKeys, serialKeys, rowOf, idOf, flat, rowsOf, idsOf}
+use Rattle.store.specs.Tables.{markOf, keyMarks, Marked, Lent, keyAt, idKeys, serialKeys, rowOf, idOf, flat, rowsOf, idsOf}
 use Rattle.store.specs.Store.{packageStart, Walk, walked, onElement, walkFrom, packagedOf, storedOf, PackageTo}
 use Rattle.store.specs.declared.element.Key.{Key}
 use Rattle.store.specs.declared.element.Element.{Element}
@@ -27,7 +27,7 @@ use Rattle.store.specs.declared.element.ReadElement.the-variants as elem
 use Rattle.store.specs.declared.package.Packaged.{Packaged}
 use Rattle.store.specs.declared.package.Packaged.the-variants as packaged
 use Rattle.store.specs.declared.package.Stored.the-variants as stored
-use Rattle.store.proofs.Rows.{put-more, keys-flat, same-numbers}
+use Rattle.store.proofs.Rows.{put-more, keys-flat, same-mark, mark-lt}
 use Rattle.store.proofs.Fields.{element-within}
 
 -- ---- rows and ids
@@ -95,22 +95,16 @@ held-start s c rows rowmarks ids idmarks g =
     }
 
 -- one key more, with its mark set
-same-mark : (a b : Key) → sameKey a b ≡ true → markOf a ≡ markOf b
-same-mark a b e = let n = same-numbers a b e in rw (n .0, n .2)
-
-mark-lt : (k : Key) → markOf k < 4096
-mark-lt k = omega arith
-
-marked-more : (marks : List ℕ) (keys : List Key) (x : Key) → 4096 ≤ length marks → Marked marks keys → Marked (set marks (markOf x) 1) (keys ++ (x ∷ []))
+marked-more : (marks : List ℕ) (keys : List Key) (x : Key) → keyMarks ≤ length marks → Marked marks keys → Marked (set marks (markOf keyMarks x) 1) (keys ++ (x ∷ []))
 unfolding seen
 marked-more marks keys x l h k e =
-    by-eq (markOf k) (markOf x)
+    by-eq (markOf keyMarks k) (markOf keyMarks x)
     (λ q.
-    let z : 1 ≡ 0 = sym (getD-set-same marks (markOf x) 1 0 (omega (arith, mark-lt x))) ∙ rw q at e in
+    let z : 1 ≡ 0 = sym (getD-set-same marks (markOf keyMarks x) 1 0 (omega (arith, mark-lt keyMarks x (omega arith)))) ∙ rw q at e in
     impossible (sym z))
     (λ q.
-    let f : getD marks (markOf k) 0 ≡ 0 = sym (getD-set-other marks (markOf x) (markOf k) 1 0 q) ∙ e in
-    let g : sameKey k x ≡ false = by-bool (sameKey k x) (λ t. absurd (q (same-mark k x t))) (λ t. t) in
+    let f : getD marks (markOf keyMarks k) 0 ≡ 0 = sym (getD-set-other marks (markOf keyMarks x) (markOf keyMarks k) 1 0 q) ∙ e in
+    let g : sameKey k x ≡ false = by-bool (sameKey k x) (λ t. absurd (q (same-mark keyMarks k x t))) (λ t. t) in
     rw (seen-append sameKey k keys (x ∷ []), h k f, g))
 
 -- ---- the walk at a place
@@ -145,7 +139,7 @@ module _ {s : List ℕ} {c : Reading} {rows₀ ids₀ rows rowmarks ids idmarks 
   held-ids = rw (h .ids-hold, ← h .many) (ids-held (h .done) (drop (length (h .done) * 3) ids₀))
 
   -- what is lent to the reading of the next element
-  pub held-lent : n * 6 ≤ length rows → n * 3 ≤ length ids → 4096 ≤ length rowmarks → 4096 ≤ length idmarks → Lent rows rowmarks ids idmarks n
+  pub held-lent : n * 6 ≤ length rows → n * 3 ≤ length ids → keyMarks ≤ length rowmarks → keyMarks ≤ length idmarks → Lent rows rowmarks ids idmarks n
   held-lent a b d e =
       record {
         row-room = a;
@@ -177,9 +171,9 @@ module _ {s : List ℕ} {c : Reading} {rows₀ ids₀ rows rowmarks ids idmarks 
       h .walk ∙ rw z (walk-element (256 - (n + 1)) s (h .done) at e (element.Refused r) f)
 
   -- an element more
-  pub held-more : nextIs s 0x01 at ≡ true → (n ≡ 256 → ⊥) → 4096 ≤ length rowmarks → 4096 ≤ length idmarks → (x : Element) → elementAt 14 (idKeys ids n) (serialKeys rows n) s at ≡ element.Is x
-      → Held s c rows₀ ids₀ (take (n * 6) rows ++ (rowOf x ++ drop (n * 6 + 6) rows)) (set rowmarks (markOf (x .serial)) 1)
-      (take (n * 3) ids ++ (idOf (x .id) ++ drop (n * 3 + 3) ids)) (set idmarks (markOf (x .id)) 1)
+  pub held-more : nextIs s 0x01 at ≡ true → (n ≡ 256 → ⊥) → keyMarks ≤ length rowmarks → keyMarks ≤ length idmarks → (x : Element) → elementAt 14 (idKeys ids n) (serialKeys rows n) s at ≡ element.Is x
+      → Held s c rows₀ ids₀ (take (n * 6) rows ++ (rowOf x ++ drop (n * 6 + 6) rows)) (set rowmarks (markOf keyMarks (x .serial)) 1)
+      (take (n * 3) ids ++ (idOf (x .id) ++ drop (n * 3 + 3) ids)) (set idmarks (markOf keyMarks (x .id)) 1)
       (At (x .place + x .length) 0) (n + 1)
   held-more e d lr li x q =
       let z : 256 - n ≡ suc (256 - (n + 1)) = let m = h .most in omega arith in

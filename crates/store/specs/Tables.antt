@@ -27,18 +27,23 @@ serialKeys t n = keysAt t 3 6 n
 
 -- ---- marks, so that most keys need no search: a key whose mark is not set was not seen
 
-abbrev pub markOf : Key → ℕ
-markOf k = (k .number % 4096 + k .low % 4096) % 4096
+-- where a key's mark stands, among so many
+unfoldable pub markOf : ℕ → Key → ℕ
+markOf width k = (k .number % width + k .low % width) % width
+
+-- among how many the keys of a store have theirs
+abbrev pub keyMarks : ℕ
+keyMarks = 4096
 
 abbrev pub Marked : List ℕ → List Key → Type 0
-Marked marks keys = (k : Key) → getD marks (markOf k) 0 ≡ 0 → seen sameKey k keys ≡ false
+Marked marks keys = (k : Key) → getD marks (markOf keyMarks k) 0 ≡ 0 → seen sameKey k keys ≡ false
 
 -- both tables and both runs of marks, with n rows in them
 pub record Lent (rows serialMarks ids idMarks : List ℕ) (n : ℕ) : Type 0 where
   pub row-room : n * 6 ≤ length rows
   pub id-room : n * 3 ≤ length ids
-  pub serial-mark-room : 4096 ≤ length serialMarks
-  pub id-mark-room : 4096 ≤ length idMarks
+  pub serial-mark-room : keyMarks ≤ length serialMarks
+  pub id-mark-room : keyMarks ≤ length idMarks
   pub serials-marked : Marked serialMarks (serialKeys rows n)
   pub ids-marked : Marked idMarks (idKeys ids n)
 

@@ -4,7 +4,7 @@ ghost use Prim.Native.Nat.{_*_, _≤_};
 ghost use lib.ListN.{length};
 ghost use Rattle.store.specs.Element.{keyOf, namedKey, numberedKey, freshKey, keyHere, onKey, idField, serialField, fieldsOf, elementOn, elementAt};
 ghost use Rattle.objects.specs.Steps.{Behind};
-ghost use Rattle.store.specs.Tables.{idKeys, serialKeys, Marked, Lent};
+ghost use Rattle.store.specs.Tables.{idKeys, serialKeys, keyMarks, Marked, Lent};
 use crate::table::seen_key;
 use numbers::extended_guid::ExtendedGuid;
 use numbers::guid::Guid;
@@ -133,7 +133,7 @@ impl ReadingKey {
 
 // The id at the front of an element's data, with n ids seen before.
 pub fn id_field(d: &[u8], ids: &[u64], marks: &[u8], n: usize) -> ReadingKey
-    requires { ⌜ (n * 3 ≤ length (now ids)) × (4096 ≤ length (now marks)) × Marked (now marks) (idKeys (now ids) n) ⌝ }
+    requires { ⌜ (n * 3 ≤ length (now ids)) × (keyMarks ≤ length (now marks)) × Marked (now marks) (idKeys (now ids) n) ⌝ }
     ensures { λ r. ⌜ r ≡ idField (idKeys (now (ids .entry)) n) (now (d .entry)) ⌝ }
 {
     let c = named_key(Reading::At(0, 0).extended_guid(d), 0);
@@ -143,7 +143,7 @@ pub fn id_field(d: &[u8], ids: &[u64], marks: &[u8], n: usize) -> ReadingKey
 
 // The serial number behind it, with n rows before.
 pub fn serial_field(d: &[u8], c: Reading, rows: &[u64], marks: &[u8], n: usize) -> ReadingKey
-    requires { ⌜ (n * 6 ≤ length (now rows)) × (4096 ≤ length (now marks)) × Marked (now marks) (serialKeys (now rows) n) ⌝ }
+    requires { ⌜ (n * 6 ≤ length (now rows)) × (keyMarks ≤ length (now marks)) × Marked (now marks) (serialKeys (now rows) n) ⌝ }
     ensures { λ r. ⌜ r ≡ serialField (serialKeys (now (rows .entry)) n) (now (d .entry)) c ⌝ }
 {
     let p = c.place();

@@ -5,11 +5,13 @@ ghost use Prim.Native.Nat.{_≤_};
 ghost use mathlib.Core.List.{[]};
 ghost use lib.ListN.{length};
 ghost use Rattle.objects.specs.Steps.{Good};
+ghost use Rattle.store.specs.Tables.{keyMarks};
 ghost use Rattle.store.specs.Store.{packageStart, packagedOf, storedOf, walkFrom, packageWalk, storeWalk, PackageTo, WalkedTo};
 use crate::element::ELEMENT;
 use crate::element::PACKAGE;
 use crate::element::ReadElement;
 use crate::element::read_element;
+use crate::table::KEY_MARKS;
 use crate::table::put_id;
 use crate::table::put_mark;
 use crate::table::put_row;
@@ -73,7 +75,7 @@ fn walk(
     ids: &mut [u64],
     idmarks: &mut [u8],
 ) -> Packaged
-    requires { ⌜ Good (now s) c × (1536 ≤ length (now rows)) × (768 ≤ length (now ids)) × (4096 ≤ length (now rowmarks)) × (4096 ≤ length (now idmarks)) ⌝ }
+    requires { ⌜ Good (now s) c × (1536 ≤ length (now rows)) × (768 ≤ length (now ids)) × (keyMarks ≤ length (now rowmarks)) × (keyMarks ≤ length (now idmarks)) ⌝ }
     ensures { λ r. ⌜ PackageTo (walkFrom 256 (now (s .entry)) [] c) r (now (rows .entry)) (now (rows .exit)) (now (ids .entry)) (now (ids .exit)) ⌝ }
 {
     let mut at = c;
@@ -106,8 +108,8 @@ pub fn read_package(s: &[u8], c: Reading, outer: u64, rows: &mut [u64], ids: &mu
     requires { ⌜ Good (now s) c × (1536 ≤ length (now rows)) × (768 ≤ length (now ids)) ⌝ }
     ensures { λ r. ⌜ PackageTo (packageWalk outer (now (s .entry)) c) r (now (rows .entry)) (now (rows .exit)) (now (ids .entry)) (now (ids .exit)) ⌝ }
 {
-    let mut rowmarks = [0u8; 4096];
-    let mut idmarks = [0u8; 4096];
+    let mut rowmarks = [0u8; KEY_MARKS as usize];
+    let mut idmarks = [0u8; KEY_MARKS as usize];
     walk(
         s,
         package_start(s, c, outer),

@@ -6,9 +6,12 @@ ghost use Prim.Native.Nat.{_+_, _*_, _≤_, _<_};
 ghost use lib.ListN.{length, take, drop, set};
 ghost use Rattle.laws.specs.Once.{seen};
 ghost use Rattle.store.specs.Element.{sameKey};
-ghost use Rattle.store.specs.Tables.{keyAt, keysAt, rowOf, idOf, markOf, Marked};
+ghost use Rattle.store.specs.Tables.{keyAt, keysAt, rowOf, idOf, markOf, keyMarks, Marked};
 use crate::element::Element;
 use crate::element::Key;
+
+// Among how many the keys of a store have their marks.
+pub const KEY_MARKS: u64 = 4096;
 
 // The key of three numbers at a place of a table.
 pub fn key_at(t: &[u64], at: usize) -> Key
@@ -34,28 +37,29 @@ pub fn same_key(a: Key, b: Key) -> bool
     a.number == b.number
 }
 
-// Where a key's mark stands among 4,096.
-fn mark_of(k: Key) -> usize
-    ensures { λ r. ⌜ (r ≡ markOf k) × (r < 4096) ⌝ }
+// Where a key's mark stands, among so many.
+pub fn mark_of(k: Key, width: u64) -> usize
+    requires { ⌜ (0 < width) × (width ≤ 65536) ⌝ }
+    ensures { λ r. ⌜ (r ≡ markOf width k) × (r < width) ⌝ }
 {
-    ((k.number % 4096 + k.low % 4096) % 4096) as usize
+    ((k.number % width + k.low % width) % width) as usize
 }
 
 // The key's mark is set.
 pub fn put_mark(marks: &mut [u8], k: Key)
-    requires { ⌜ 4096 ≤ length (now marks) ⌝ }
-    ensures { λ _. ⌜ now (marks .exit) ≡ set (now (marks .entry)) (markOf k) 1 ⌝ }
+    requires { ⌜ keyMarks ≤ length (now marks) ⌝ }
+    ensures { λ _. ⌜ now (marks .exit) ≡ set (now (marks .entry)) (markOf keyMarks k) 1 ⌝ }
 {
-    let at = mark_of(k);
+    let at = mark_of(k, KEY_MARKS);
     marks[at] = 1;
 }
 
 // Whether a key is among those of n rows, each with a key at this offset. Only a key whose mark is set is searched for.
 pub fn seen_key(t: &[u64], marks: &[u8], offset: usize, width: usize, n: usize, k: Key) -> bool
-    requires { ⌜ (offset + 3 ≤ width) × (n * width ≤ length (now t)) × (4096 ≤ length (now marks)) × Marked (now marks) (keysAt (now t) offset width n) ⌝ }
+    requires { ⌜ (offset + 3 ≤ width) × (n * width ≤ length (now t)) × (keyMarks ≤ length (now marks)) × Marked (now marks) (keysAt (now t) offset width n) ⌝ }
     ensures { λ r. ⌜ r ≡ seen sameKey k (keysAt (now (t .entry)) offset width n) ⌝ }
 {
-    let at = mark_of(k);
+    let at = mark_of(k, KEY_MARKS);
     if marks[at] == 0 {
         return false;
     }

@@ -5,7 +5,8 @@ use Prim.Native.Nat.{_-_, _≤_}
 use native.Mathlib.Omega.{arith}
 use borrow.Author.Needs.{needs}
 use lib.ListN.{length, length-set}
-use Rattle.request.specs.Index.{markOf, Linked}
+use Rattle.store.specs.Tables.{markOf}
+use Rattle.request.specs.Index.{indexMarks, Linked}
 use Rattle.request.proofs.Indexing.{linked-start, linked-more, indexed-over, indexed-all}
 use Rattle.request.proofs.choice.index_ids.Statement.{statement}
 use Rattle.request.proofs.choice.index_ids.Tie as tie
@@ -76,7 +77,7 @@ loop-again c =
     let k = c .before .before in
     let l = k .before .before in
     let m = c .before .mark-of .ensures in
-    let e = m .0 ∙ ap markOf (k .key-at .ensures) in (
+    let e = m .0 ∙ ap (markOf indexMarks) (k .key-at .ensures) in (
       omega arith,
       length-set (l .loop .heads) _ _ ∙ l .loop .inv .1,
       length-set (l .loop .links) _ _ ∙ l .loop .inv .2,

@@ -7,6 +7,7 @@ use native.Mathlib.Omega.{arith}
 use lib.ListN.{length}
 use borrow.Author.Needs.{needs}
 use Rattle.store.specs.Store.{packagedOf}
+use Rattle.store.specs.Tables.{keyMarks}
 use Rattle.store.proofs.Fields.{element-within}
 use Rattle.store.proofs.Walks.{Held, held-start, held-lent, held-answer, held-over, held-refused, held-more, held-end, packaged-refused}
 use Rattle.store.proofs.package.walk.Statement.{statement}
@@ -57,8 +58,8 @@ returns c =
 room : (c : tie.Else2 Inv-loop μ-loop) →
     (c .before .before .before .loop .n < 256)
     × (768 ≤ length (c .before .before .before .loop .ids))
-    × (4096 ≤ length (c .before .before .before .loop .rowmarks))
-    × (4096 ≤ length (c .before .before .before .loop .idmarks))
+    × (keyMarks ≤ length (c .before .before .before .loop .rowmarks))
+    × (keyMarks ≤ length (c .before .before .before .loop .idmarks))
 room c = (omega arith, omega arith, omega arith, omega arith)
 
 read-element-requires : tie.Need-read-element-requires Inv-loop μ-loop
