@@ -1,4 +1,5 @@
 pub mod Filter
+pub mod ShortId
 pub mod Meaning
 pub mod Message
 pub mod Choice

@@ -1,11 +1,7 @@
 // Filters, read one at a time: kind and operation, and the object that the kind has inside.
 ghost use mathlib.Core.Path.{_≡_};
-ghost use Prim.Native.Nat.{ℕ, _+_, _≤_, _<_};
-ghost use lib.ListN.{length};
-ghost use Rattle.numbers.specs.ExtendedGuid.{readExtendedGuid};
-ghost use Rattle.objects.specs.Steps.{idOn, onId};
-ghost use Rattle.objects.specs.declared.reading.Reading.the-variants.{At};
 ghost use Rattle.request.specs.Filter.{kindTaken, kindField, filterFields, oneNumber, typePart, idStep, idsFrom, idsField, idsPart, kindPart, filterAt, filtersFrom};
+ghost use Rattle.request.specs.ShortId.{shortId};
 use objects::reading::Reading;
 
 // The types of the objects.
@@ -87,7 +83,7 @@ pub fn type_part(s: &[u8], c: Reading) -> Reading
 // How long the id at the front of a part of 18 bytes or more is, where that is seen without reading it: in the form of 17 bytes, and in
 // that of 18 where the number is in the form's range, as it is 32 or more if its upper byte is 8 or more. Else 0.
 fn short_id(s: &[u8]) -> usize
-    ensures { λ r. ⌜ (0 < r → (r ≤ length (now (s .entry))) × ((at : ℕ) → onId (idOn at (readExtendedGuid (now (s .entry)))) ≡ At (at + r) 0)) ⌝ }
+    ensures { λ r. ⌜ r ≡ shortId (now (s .entry)) ⌝ }
 {
     if s.len() < 18 {
         return 0;

@@ -1,12 +1,13 @@
 -- `filter::past_id` meets its contract: it is read in full, or its length was seen.
 -- Assumes nothing.
 use mathlib.Core.Path.{sym}
-use Prim.Native.Nat.{_-_, _≤_, _<_}
+use Prim.Native.Nat.{_-_, _≤_}
 use native.Mathlib.Omega.{arith}
-use lib.ListN.{length, length-drop}
+use lib.ListN.{length, drop, length-drop}
 use Rattle.laws.proofs.Parts.{tail-part}
 use Rattle.objects.specs.Steps.{idHere, onId}
 use borrow.Author.Needs.{needs}
+use Rattle.request.proofs.ShortIds.{Seen, short-seen}
 use Rattle.request.proofs.filter.past_id.Statement.{statement}
 use Rattle.request.proofs.filter.past_id.Tie as tie
 
@@ -46,17 +47,17 @@ on-requires-2 c κs = search needs
 returns-2 : tie.Need-returns-2
 returns-2 c = rw (c .on2 .ensures, c .before .extended-guid2 .ensures, c .before .before .before .before .before .before .before .c2 .given .1)
 
--- the length that was seen is not 0
-seen : (c : tie.Else2) → 0 < c .before .short-id .result
-seen c = omega (arith, c .if2 .left)
+-- the length that was seen is not 0, so the id is as long as that
+seen : (c : tie.Else2)
+    → Seen (drop (c .before .before .before .before .before .c2 .given .0 .0) (c .before .before .before .before .before .before .before .before .args .d .now)) (c .before .short-id .result)
+seen c = rw tail-part at (short-seen _ _ (c .before .short-id .ensures) (omega (arith, c .if2 .left)))
 
 add-t7 : tie.Need-add-t7
 add-t7 c =
-    let k = c .before in
-    let m = k .before .before .before .before in
+    let m = c .before .before .before .before .before in
     let d = m .before .before .before .args .d .now in
-    let l : k .short-id .result ≤ length d - m .c2 .given .0 .0 = rw (tail-part, length-drop) at (k .short-id .ensures (seen c) .0) in
-    omega (arith, l, k .before .before .if1 .left)
+    let l : c .before .short-id .result ≤ length d - m .c2 .given .0 .0 = rw length-drop at (seen c .within) in
+    omega (arith, l, c .before .before .before .if1 .left)
 
 returns-3 : tie.Need-returns-3
 unfolding idHere onId
@@ -65,9 +66,8 @@ returns-3 c = rw (c .before .c .given .1)
 returns-4 : tie.Need-returns-4
 unfolding idHere
 returns-4 c =
-    let k = c .before in
-    let m = k .before .before .before .before in
-    rw (m .c2 .given .1) (sym (rw tail-part at (k .short-id .ensures (seen c) .1 (m .c2 .given .0 .0))))
+    let m = c .before .before .before .before .before in
+    rw (m .c2 .given .1) (sym (seen c .reads (m .c2 .given .0 .0)))
 
 pub past-id-spec : {M : Type 1} → statement M
 past-id-spec =

@@ -1,34 +1,36 @@
--- `filter::short_id` meets its contract: the tests that led to each answer say which form it is.
+-- `filter::short_id` meets its contract.
 -- Assumes nothing.
-use native.Mathlib.Omega.{arith}
-use Rattle.request.proofs.ShortIds.{five-bits-long, ten-bits-long}
+use borrow.Author.Tests.{lt-ltb, le-ltb, eq-eqb, ne-eqb}
+use Rattle.request.specs.ShortId.{shortId}
 use borrow.Author.Needs.{needs}
 use Rattle.request.proofs.filter.short_id.Statement.{statement}
 use Rattle.request.proofs.filter.short_id.Tie as tie
 
 returns : tie.Need-returns
-returns c = λ h. absurd (omega arith)
+unfolding shortId
+returns c = search (lt-ltb, le-ltb, eq-eqb, ne-eqb)
 
 shared-slice-read-zeros : tie.Need-shared-slice-read-zeros
 shared-slice-read-zeros c = search needs
 
 returns-2 : tie.Need-returns-2
-returns-2 c = let l = c .before .before .if1 .left in λ h. (omega arith, five-bits-long _ l (c .if2 .taken))
+unfolding shortId
+returns-2 c = search (lt-ltb, le-ltb, eq-eqb, ne-eqb)
 
 returns-3 : tie.Need-returns-3
-returns-3 c = λ h. absurd (omega arith)
+unfolding shortId
+returns-3 c = search (lt-ltb, le-ltb, eq-eqb, ne-eqb)
 
 shared-slice-read-if4 : tie.Need-shared-slice-read-if4
 shared-slice-read-if4 c = search needs
 
 returns-4 : tie.Need-returns-4
-returns-4 c = λ h. absurd (omega arith)
+unfolding shortId
+returns-4 c = search (lt-ltb, le-ltb, eq-eqb, ne-eqb)
 
 returns-5 : tie.Need-returns-5
-returns-5 c =
-    let k = c .before .before in
-    let l = k .before .before .before .if1 .left in
-    λ h. (l, ten-bits-long _ l (k .if3 .left) (c .if4 .left))
+unfolding shortId
+returns-5 c = search (lt-ltb, le-ltb, eq-eqb, ne-eqb)
 
 pub short-id-spec : {M : Type 1} → statement M
 short-id-spec =
