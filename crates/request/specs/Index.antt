@@ -4,8 +4,8 @@
 use mathlib.Core.Path.{_≡_}
 use Prim.Native.Nat.{ℕ, zero, suc, _*_, _≤_, _<_}
 use mathlib.Core.List.{List}
-use lib.ListN.{length, getD}
-use lib.Dec.{eqb}
+use lib.ListN.{length, getD, set}
+use lib.Dec.{ltb, eqb}
 use Rattle.laws.specs.Pick.{pick}
 use Rattle.store.specs.Tables.{keyAt, markOf}
 
@@ -16,6 +16,27 @@ indexMarks = 1024
 -- the mark of the id of row i
 abbrev pub idMark : List ℕ → ℕ → ℕ
 idMark ids i = markOf indexMarks (keyAt ids (i * 3))
+
+-- ---- the two tables of the index, with n rows put into them one after the other
+
+-- the row, counted from 1, where the last row of its mark is kept
+unfoldable pub headsWith : List ℕ → List ℕ → ℕ → List ℕ
+headsWith heads ids zero = heads
+headsWith heads ids (suc i) = set (headsWith heads ids i) (idMark ids i) (suc i)
+
+-- at the row, the one that was the last of its mark
+unfoldable pub linksWith : List ℕ → List ℕ → List ℕ → ℕ → List ℕ
+linksWith heads links ids zero = links
+linksWith heads links ids (suc i) = set (linksWith heads links ids i) i (getD (headsWith heads ids i) (idMark ids i) 0)
+
+-- if there are more rows than links, both tables stay as they were
+unfoldable pub indexHeads : List ℕ → List ℕ → List ℕ → ℕ → List ℕ
+indexHeads heads links ids n = pick (ltb (length links) n) heads (headsWith heads ids n)
+
+unfoldable pub indexLinks : List ℕ → List ℕ → List ℕ → ℕ → List ℕ
+indexLinks heads links ids n = pick (ltb (length links) n) links (linksWith heads links ids n)
+
+-- ---- what is looked up in them
 
 -- the last of the first n rows whose id has this mark, counted from 1; 0 where there is none
 unfoldable pub lastWith : List ℕ → ℕ → ℕ → ℕ

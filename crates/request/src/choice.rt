@@ -7,7 +7,7 @@ ghost use lib.Dec.{eqb};
 ghost use Rattle.request.specs.Filter.{idsField, kindPart, filterAt};
 ghost use Rattle.request.specs.Meaning.{keyIn, keysIn, filterRead};
 ghost use Rattle.request.specs.Choice.{elementOf, elementsIn, flagOf, setFlags, setByFilter, matchedBy, withIds, kindMatches, Chooses};
-ghost use Rattle.request.specs.Index.{indexMarks, NoHeads, Indexed};
+ghost use Rattle.request.specs.Index.{indexMarks, indexHeads, indexLinks, Indexed};
 ghost use Rattle.request.specs.declared.choice.Matched.the-variants.{WithId};
 use crate::filter::ALL;
 use crate::filter::FILTER;
@@ -64,12 +64,12 @@ fn set_matched(m: Matched, rows: &[u64], ids: &[u64], n: usize, flags: &mut [u8]
     }
 }
 
-// The elements by the marks of their ids, so that an id of a filter is not put to each of them: in `heads` the last element of each
-// mark, in `links` the one before each element that has the same mark, both counted from 1, and 0 where there is none. Nothing is
-// written where `links` has no room for all.
+// The elements by the marks of their ids, so that an id of a filter is not put to each of them: `heads`, if it was all 0, then has the
+// last element of each mark, and `links` the one before each element that has the same mark, both counted from 1, and 0 where there is
+// none. Nothing is written where `links` has no room for all.
 fn index_ids(ids: &[u64], n: usize, heads: &mut [u16], links: &mut [u16])
-    requires { ⌜ (n * 3 ≤ length (now ids)) × (indexMarks ≤ length (now heads)) × (length (now links) ≤ 256) × NoHeads (now heads) ⌝ }
-    ensures { λ _. ⌜ Indexed (now (heads .exit)) (now (links .exit)) (now (ids .entry)) n ⌝ }
+    requires { ⌜ (n * 3 ≤ length (now ids)) × (indexMarks ≤ length (now heads)) × (length (now links) ≤ 256) ⌝ }
+    ensures { λ _. ⌜ (now (heads .exit) ≡ indexHeads (now (heads .entry)) (now (links .entry)) (now (ids .entry)) n) × (now (links .exit) ≡ indexLinks (now (heads .entry)) (now (links .entry)) (now (ids .entry)) n) ⌝ }
 {
     if links.len() < n {
         return;

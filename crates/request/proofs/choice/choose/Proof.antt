@@ -7,8 +7,10 @@ use borrow.Author.Needs.{needs}
 use lib.ListN.{length, getD-replicate}
 use Rattle.request.specs.Meaning.{filtersRead}
 use Rattle.request.specs.Choice.{elementsIn}
+use Rattle.request.specs.Index.{indexMarks}
 use Rattle.request.proofs.Putting.{Putting, putting-start, putting-more, putting-end, putting-all}
 use Rattle.request.proofs.Choosing.{setByAll}
+use Rattle.request.proofs.Indexing.{indexed}
 use Rattle.request.proofs.choice.choose.Statement.{statement}
 use Rattle.request.proofs.choice.choose.Tie as tie
 
@@ -41,7 +43,7 @@ slice-aggregate-index-ids-2 : tie.Need-slice-aggregate-index-ids-2 Inv-loop μ-l
 slice-aggregate-index-ids-2 c = search needs
 
 index-ids-requires : tie.Need-index-ids-requires Inv-loop μ-loop
-index-ids-requires c κs = (omega arith, omega arith, omega arith, λ m l. getD-replicate 1024 m 0 0 l)
+index-ids-requires c κs = (omega arith, omega arith, omega arith)
 
 loop-holds : tie.Need-loop-holds Inv-loop μ-loop
 loop-holds c = (refl, putting-start _ _ _ _ _)
@@ -59,7 +61,8 @@ put-filter-requires c κs =
     let m = j .before .before .before .before .before .before in
     let b = m .before .before .before .before .before .before in
     let h : b .args .n ≤ length (l .loop .flags) = rw (l .loop .inv .0 ∙ m .set-matched .kept .1 .1 .1 .1 .0) (b .pre .2) in
-    (b .pre .0, b .pre .1, h, j .index-ids .ensures)
+    let x = j .index-ids .ensures in
+    (b .pre .0, b .pre .1, h, rw (x .0, x .1) (indexed _ _ _ (λ mark low. getD-replicate indexMarks mark 0 0 low) (omega arith) _))
 
 add-i : tie.Need-add-i Inv-loop μ-loop
 add-i c = omega arith

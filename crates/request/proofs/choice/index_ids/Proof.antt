@@ -1,4 +1,4 @@
--- `choice::index_ids` meets its contract. The invariant: both tables hold the rows so far.
+-- `choice::index_ids` meets its contract. The invariant: the rows so far are put into both tables.
 -- Assumes nothing.
 use mathlib.Core.Path.{_≡_, refl, ap, _∙_}
 use Prim.Native.Nat.{_-_, _≤_}
@@ -6,27 +6,25 @@ use native.Mathlib.Omega.{arith}
 use borrow.Author.Needs.{needs}
 use lib.ListN.{length, length-set}
 use Rattle.store.specs.Tables.{markOf}
-use Rattle.request.specs.Index.{indexMarks, Linked}
-use Rattle.request.proofs.Indexing.{linked-start, linked-more, indexed-over, indexed-all}
+use Rattle.request.specs.Index.{indexMarks, headsWith, linksWith}
+use Rattle.request.proofs.Indexing.{index-none, heads-more, links-more, index-all}
 use Rattle.request.proofs.choice.index_ids.Statement.{statement}
 use Rattle.request.proofs.choice.index_ids.Tie as tie
 
 abbrev Inv-loop : tie.InvT-loop
 Inv-loop ids n heads₀ links₀ i₀ heads links i =
-    (i ≤ n) × (length heads ≡ length heads₀) × (length links ≡ length links₀) × Linked heads links ids i
+    (i ≤ n) × (length heads ≡ length heads₀) × (length links ≡ length links₀)
+    × (heads ≡ headsWith heads₀ ids i) × (links ≡ linksWith heads₀ links₀ ids i)
 
 abbrev μ-loop : tie.MeasureT-loop
 μ-loop ids n heads₀ links₀ i₀ heads links i = n - i
 
 returns : tie.Need-returns Inv-loop μ-loop
-returns c =
-    let b = c .before .before .before .before in
-    indexed-over _ _ _ _ (b .pre .1) (c .if1 .taken)
+returns c = index-none _ _ _ _ (c .if1 .taken)
 
 loop-holds : tie.Need-loop-holds Inv-loop μ-loop
-loop-holds c =
-    let b = c .before .before .before .before in
-    (omega arith, refl, refl, linked-start _ _ _ (b .pre .3))
+unfolding headsWith linksWith
+loop-holds c = (omega arith, refl, refl, refl, refl)
 
 mul-key-at : tie.Need-mul-key-at Inv-loop μ-loop
 mul-key-at c = omega arith
@@ -81,7 +79,8 @@ loop-again c =
       omega arith,
       length-set (l .loop .heads) _ _ ∙ l .loop .inv .1,
       length-set (l .loop .links) _ _ ∙ l .loop .inv .2,
-      linked-more (l .loop .inv .3) _ e (m .1) (omega arith) (omega arith),
+      heads-more _ _ _ _ (l .loop .inv .3) (l .loop .inv .4) _ e,
+      links-more _ _ _ _ (l .loop .inv .3) (l .loop .inv .4) _ e,
     )
 
 same-length : tie.Need-same-length Inv-loop μ-loop
@@ -93,7 +92,7 @@ same-length-2 c = c .before .loop .inv .2
 returns-2 : tie.Need-returns-2 Inv-loop μ-loop
 returns-2 c =
     let l = c .before in
-    indexed-all (omega arith) (omega arith) (l .loop .inv .3)
+    index-all _ _ _ _ (l .loop .inv .3) (l .loop .inv .4) _ (omega arith) (omega arith)
 
 pub index-ids-spec : {M : Type 1} → statement M
 index-ids-spec =
