@@ -1,7 +1,7 @@
 // The working tables of a store: rows of six numbers (place, length, type, the serial's GUID as two little-endian numbers,
 // the serial's number) and ids of three (the GUID as two numbers, the number).
 ghost use mathlib.Core.Path.{_≡_};
-ghost use mathlib.Core.List.{_++_, _∷_};
+ghost use mathlib.Core.List.{_++_};
 ghost use Prim.Native.Nat.{_+_, _*_, _≤_, _<_};
 ghost use lib.ListN.{length, take, drop, set};
 ghost use Rattle.laws.specs.Once.{seen};
