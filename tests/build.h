@@ -133,17 +133,20 @@ static inline void add_elements(struct text *t, unsigned id, uint8_t guid, uint6
     }
 }
 
+/* The type of nested objects, short, unless a test sets another. */
+static unsigned nested_type = INSIDE;
+
 /* n compound objects, each within the one before. */
 static inline void add_nested(struct text *t, unsigned n) {
     for (unsigned i = 0; i < n; i++) {
-        add_start(t, INSIDE, 1, 0);
+        add_start(t, nested_type, 1, 0);
     }
     for (unsigned i = 0; i < n; i++) {
-        add_end(t, INSIDE);
+        add_end(t, nested_type);
     }
 }
 
-/* n elements, 47 bytes long and 3 more for each object nested inside them. The ids' numbers count up from 0x20 in the 10-bit form,
+/* n elements, 47 bytes long and 3 more for each object of a short type nested inside them. The ids' numbers count up from 0x20 in the 10-bit form,
    of which there are 992, and the serial numbers from here. */
 static inline void add_many_elements(struct text *t, uint8_t guid, uint64_t serial, unsigned n, unsigned nested) {
     for (unsigned i = 0; i < n; i++) {

@@ -1,7 +1,8 @@
-/* How much stack the calls take, each on the inputs that take it deepest: objects nested as deep as they may be, 256 elements, 512
-   ranges, 16 filters of 64 ids, a page of 256 elements. Each call runs on a stack of its own with exactly HUB_STACK_BYTES below
-   the caller's, and behind them 64 KiB that nobody may touch: a call that takes more ends the program by a fault. The stack is
-   painted before, so that it can be told how much was written to. The exit status is 1 if a line is not ok. */
+/* How much stack the calls take, each on the inputs that take it deepest: objects nested as deep as they may be, with short headers
+   and with long ones, 256 elements, 512 ranges, 16 filters of 64 ids, a page of 256 elements. Each call runs on a stack of its
+   own with exactly HUB_STACK_BYTES below the caller's, and behind them 64 KiB that nobody may touch: a call that takes more ends
+   the program by a fault. The stack is painted before, so that it can be told how much was written to. The exit status is 1 if a
+   line is not ok. */
 #define _DEFAULT_SOURCE /* MAP_ANONYMOUS */
 #include "../include/hub.h"
 #include "build.h"
@@ -196,11 +197,16 @@ static void elements_found(void) {
 }
 
 int main(void) {
+    static const unsigned types[] = {INSIDE, 0x3FFF}; /* where headers are short one call goes by many levels, else by one */
     make_stack();
-    answers();
-    requests();
-    answers_read();
-    elements_found();
+    for (size_t i = 0; i < sizeof types / sizeof *types; i++) {
+        nested_type = types[i];
+        printf("nested objects of type %u:\n", nested_type);
+        answers();
+        requests();
+        answers_read();
+        elements_found();
+    }
     printf("%zu bytes of stack at most, of %u\n", most, HUB_STACK_BYTES);
     return ended();
 }
