@@ -47,7 +47,8 @@ run: target/bench
 	@sh tools/run target/bench --limit 400 --answer-bytes 200 bench/sample/book.store target/run/book
 
 # Looks into a fault from the field: CASE is a file of cases, as bench/sample/sample.cases is one. Every call in it is made by
-# library and peer, and a difference is a failure.
+# library and peer, and a difference is a failure. If cases in it lend tables, these are compared through target/bin/cases, which
+# rt check cases makes.
 replay: $(archive_file)
 	@test -n '$(CASE)' || { echo 'make replay CASE=FILE: a file of cases, such as bench/sample/sample.cases'; exit 2; }
 	@sh peer/replay.sh '$(CASE)'

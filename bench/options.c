@@ -30,10 +30,11 @@ static void say_words(void) {
 
 static void say_forms(void) {
     puts("\n"
-         "A line of a file of cases is one of these. Files stand beside the file of cases; bytes are hex, - for none. Behind\n"
-         "`answer` two more numbers may stand, which are passed over, and so are empty lines and those that begin with #.\n"
+         "A line of a file of cases is one of these. Files stand beside the file of cases; bytes are hex, - for none. Empty\n"
+         "lines and those that begin with # are passed over. STORETABLELEN and KNOWTABLELEN may be left out, and here they have\n"
+         "no bearing: the call has tables of its own. `make replay` compares lent ones through another program.\n"
          "   store=FILE request=FILE out=OUTLEN\n"
-         "   answer STOREHEX REQUESTHEX OUTLEN\n"
+         "   answer STOREHEX REQUESTHEX OUTLEN [STORETABLELEN KNOWTABLELEN]\n"
          "   ask ID LIMIT FILTERHEX KNOWLEDGEHEX OUTLEN\n"
          "   read ANSWERHEX\n"
          "   received ANSWERHEX POSITION\n"

@@ -19,8 +19,11 @@ struct line {
 
 /* The forms of a line that has its bytes in hex, each under its first word. */
 static const char *const forms[] = {
-    "answer STOREHEX REQUESTHEX OUTLEN", "ask ID LIMIT FILTERHEX KNOWLEDGEHEX OUTLEN", "read ANSWERHEX",
-    "received ANSWERHEX POSITION",       "element STOREHEX POSITION",
+    "answer STOREHEX REQUESTHEX OUTLEN [STORETABLELEN KNOWTABLELEN]",
+    "ask ID LIMIT FILTERHEX KNOWLEDGEHEX OUTLEN",
+    "read ANSWERHEX",
+    "received ANSWERHEX POSITION",
+    "element STOREHEX POSITION",
 };
 
 static const char *form_of(const char *word) {
@@ -61,19 +64,31 @@ static int is_hex(struct bytes *b, const char *word) {
     return strcmp(word, "-") == 0 || bytes_spelled(b, word, strlen(word));
 }
 
-static int is_room(struct stored *c, const char *word) {
-    uint64_t room = 0;
-    int good = decimal(word, STORED_LONGEST, &room);
-    c->room = (size_t)room;
+/* A length, at most so great. */
+static int is_length(size_t *length, const char *word, size_t most) {
+    uint64_t value = 0;
+    int good = decimal(word, most, &value);
+    *length = (size_t)value;
     return good;
 }
 
-/* One of the forms: whether the line is as it says. Behind those of `answer` two numbers may stand, which are passed over. */
+static int is_room(struct stored *c, const char *word) {
+    return is_length(&c->room, word, STORED_LONGEST);
+}
+
+/* The lengths of both tables. Nothing is lent here by them, so they may be as great as a length can be. */
+static int are_tables(struct stored *c, const char *rows, const char *ranges) {
+    c->lent = 1;
+    return is_length(&c->rows, rows, SIZE_MAX) && is_length(&c->ranges, ranges, SIZE_MAX);
+}
+
+/* One of the forms: whether the line is as it says. */
 static int spelled_case(const struct line *l, struct stored *c) {
     char *const *w = l->words;
     if (strcmp(w[0], "answer") == 0) {
         c->call = CALL_ANSWER;
-        return (l->count == 4 || l->count == 6) && is_hex(&c->first, w[1]) && is_hex(&c->second, w[2]) && is_room(c, w[3]);
+        return (l->count == 4 || (l->count == 6 && are_tables(c, w[4], w[5]))) && is_hex(&c->first, w[1]) &&
+               is_hex(&c->second, w[2]) && is_room(c, w[3]);
     }
     if (strcmp(w[0], "ask") == 0) {
         c->call = CALL_ASK;
@@ -130,7 +145,7 @@ struct course {
 
 /* One line; empty ones and those that begin with # are passed over. */
 static int one_line(const struct line *l, struct course *course) {
-    struct stored c = {l->number, CALL_ANSWER, 0, 0, 0, 0, {NULL, 0, 0}, {NULL, 0, 0}, 0};
+    struct stored c = {l->number, CALL_ANSWER, 0, 0, 0, 0, {NULL, 0, 0}, {NULL, 0, 0}, 0, 0, 0, 0};
     if (l->count == 0 || l->words[0][0] == '#') {
         return ENDED_WELL;
     }

@@ -18,6 +18,8 @@ struct stored {
     uint64_t kind, position;    /* of CALL_ELEMENT */
     struct bytes first, second; /* the inputs in their order; a call with one has nothing as the second */
     size_t room;                /* of the output, if there is one */
+    int lent;                   /* whether a line of CALL_ANSWER has the lengths of two tables, which hub_answer is not lent */
+    size_t rows, ranges;        /* how many numbers these are, if it has: of the store's table and of the knowledge's */
 };
 
 /* Reads the cases of a file, and hands each to `run` with the pointer. It stops at the first status that is not ENDED_WELL: that

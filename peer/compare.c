@@ -1,7 +1,8 @@
 /* Compares the library with the peer on generated cases: valid, nearly valid (one decision spoiled), damaged, cut at each place,
    with --bytes every byte of a few cases changed to every other, and with --large at 16,777,216 bytes and one more. The words:
-   --cases N, --seed N, --bytes, --large, --save FILE, --replay FILE. The seed is printed. A difference ends the run with status 1,
-   and its case is saved. With --replay it makes the calls of a file of stored cases again instead (field.h). */
+   --cases N, --seed N, --bytes, --large, --save FILE, --replay FILE, --lent FILE. The seed is printed. A difference ends the run
+   with status 1, and its case is saved. With --replay it makes the calls of a file of stored cases again instead, and --lent
+   names the file that is told how many of them lend tables (field.h). */
 #include "cases.h"
 #include "field.h"
 #include "generate.h"
@@ -16,7 +17,7 @@
 struct run {
     uint64_t seed, cases;
     int large, bytes;
-    const char *save, *replay;
+    const char *save, *replay, *lent;
     uint64_t done, answered, refused[16];
 };
 
@@ -170,8 +171,10 @@ static void read_words(struct run *r, int count, char **words) {
             r->save = value;
         } else if (strcmp(words[i], "--replay") == 0) {
             r->replay = value;
+        } else if (strcmp(words[i], "--lent") == 0) {
+            r->lent = value;
         } else {
-            printf("the words are --cases N, --seed N, --bytes, --large, --save FILE and --replay FILE\n");
+            printf("the words are --cases N, --seed N, --bytes, --large, --save FILE, --replay FILE and --lent FILE\n");
             exit(2);
         }
         i++;
@@ -189,7 +192,7 @@ int main(int count, char **words) {
     signal(SIGSEGV, stopped);
     signal(SIGBUS, stopped);
     if (r.replay != NULL) {
-        return field_cases(r.replay);
+        return field_cases(r.replay, r.lent);
     }
     begin_cases(r.large ? LARGEST_CASE : LONGEST_SMALL);
     printf("seed %llu\n", (unsigned long long)r.seed);

@@ -3,33 +3,11 @@
 #include "field.h"
 #include "../bench/replay.h"
 #include "../bench/status.h"
-#include "cases.h"
+#include "stored_case.h"
 
 struct course {
-    size_t cases, differences;
+    size_t cases, differences, lent;
 };
-
-static struct text lent_text(const struct bytes *b) {
-    struct text t;
-    t.at = b->at;
-    t.length = t.room = b->length;
-    return t;
-}
-
-static struct one_case case_of(const struct stored *s) {
-    static const enum call calls[] = {ANSWER, ASK, READ, FIND}; /* in the order of enum stored_call */
-    struct one_case c;
-    c.call = calls[s->call];
-    c.id = s->id;
-    c.limit = s->limit;
-    c.kind = s->kind;
-    c.position = s->position;
-    c.first = lent_text(&s->first);
-    c.second = lent_text(&s->second);
-    c.room = s->room;
-    c.report = 0;
-    return c;
-}
 
 /* One case by both, with reports of each length that makes a difference, which a line does not tell, and with each kind. The
    first report is as long as what is told, so that a difference is shown with all of it. */
@@ -72,6 +50,7 @@ static int by_both(const struct stored *s, void *with) {
     current_line = s->line;
     status = replay_case(s);
     course->cases++;
+    course->lent += s->lent != 0;
     if (both_agree(s, &o)) {
         printf("library and peer agree: number %llu, report %llu %llu %llu\n", (unsigned long long)o.number,
                (unsigned long long)o.input, (unsigned long long)o.place, (unsigned long long)o.length);
@@ -83,15 +62,27 @@ static int by_both(const struct stored *s, void *with) {
     return status;
 }
 
-int field_cases(const char *name) {
-    struct course course = {0, 0};
+/* How many cases lend tables, in a file that is written only if some do: whether that was done. */
+static int lent_told(const struct course *course, const char *name) {
+    FILE *to;
+    int good;
+    if (name == NULL || course->lent == 0) {
+        return 1;
+    }
+    to = fopen(name, "w");
+    good = to != NULL && fprintf(to, "%zu\n", course->lent) > 0;
+    return to != NULL && fclose(to) == 0 && good;
+}
+
+int field_cases(const char *name, const char *lent) {
+    struct course course = {0, 0, 0};
     int status;
     begin_cases(STORED_LONGEST);
     status = stored_each(name, by_both, &course);
     if (course.cases > 0) {
         printf("cases by library and peer: %zu, with a difference: %zu\n", course.cases, course.differences);
     }
-    if ((fflush(stdout) != 0 || ferror(stdout)) && status == ENDED_WELL) {
+    if ((!lent_told(&course, lent) || fflush(stdout) != 0 || ferror(stdout)) && status == ENDED_WELL) {
         fprintf(stderr, "bench: the output cannot be written\n");
         status = CANNOT_WRITE;
     }

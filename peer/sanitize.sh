@@ -104,10 +104,12 @@ talks_well() {
     passed=$((passed + 1))
 }
 
-# The tables that are lent, by the peer alone: what it has no right to touch is looked at, and nothing is compared.
+# The tables that are lent, by the peer alone: what it has no right to touch is looked at, and nothing is compared. Generated cases,
+# and stored ones.
 lends_tables() {
     mkdir -p "$room/tables.lent" || fail 'there is no room for the lines'
-    "$room/tables" --cases "$cases" --into "$room/tables.lent" --save "$saved" >"$room/log" 2>&1 ||
+    "$room/tables" --cases "$cases" --into "$room/tables.lent" --save "$saved" >"$room/log" 2>&1 &&
+        "$room/tables" --replay tests/answers.in --into "$room/tables.lent" >"$room/log" 2>&1 ||
         { tail -n 40 "$room/log"; fail "tables, built by $compiler, does not end well"; }
     passed=$((passed + 1))
 }

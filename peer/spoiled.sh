@@ -1,7 +1,8 @@
 #!/bin/sh
 # Holds the driver to what it is for: peers with one line spoiled are compared with the library, and each has to be told from it.
 # Each line says which case or talk told one, and the last line how many were. A case that told one is replayed, and so is the
-# sample of cases from the field, where one of them tells it. Those spoiled in the tables are compared with the program `cases`.
+# sample of cases from the field, where one of them tells it. Those spoiled in the tables are compared with the program `cases`, and
+# so is what tells one, replayed.
 set -u
 cd "$(dirname "$0")/.." || exit 1
 . peer/files.sh
@@ -83,16 +84,20 @@ spoil_talk() { # FILE RIGHT WRONG
     found=$((found + 1))
 }
 
-# By the tables that the program `cases` lends, or by what the peer itself has no right to touch.
+# By the tables that the program `cases` lends, or by what the peer itself has no right to touch; again by the case that is saved.
 spoil_tables() { # FILE RIGHT WRONG
     build tables "$@"
     sh peer/tables.sh "$room/tables" 1000 1 "$room/case" >"$room/log" 2>&1
     got=$?
     [ "$got" = 1 ] || { tail -n 40 "$room/log"; fail "with '$3' for '$2' the tables are compared with the status $got, not 1"; }
-    where=$(sed -n -e 's/^library and peer differ in \(line [0-9]*\) .*/\1/p' \
+    where=$(sed -n -e 's/^library and peer differ in \(case [0-9]*\) .*/\1/p' \
         -e 's/^the peer .* in \(case [0-9]*\) .*/\1/p' "$room/log")
     [ -n "$where" ] && [ "$(awk '{ print $1, NF }' "$room/case")" = 'answer 6' ] ||
         { cat "$room/log"; fail "the tables end in another way with '$3'"; }
+    sh peer/tables.sh "$room/tables" --replay "$room/case" >"$room/again" 2>&1
+    got=$?
+    [ "$got" = 1 ] && grep -Eq '^(library and peer differ|the peer .*) in line 1$' "$room/again" ||
+        { cat "$room/again"; fail "the case for '$3' tells nothing when replayed with its tables"; }
     printf 'told by %s of the tables: %s: %s for %s\n' "$where" "$1" "${3:-nothing}" "$2"
     found=$((found + 1))
 }

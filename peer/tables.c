@@ -1,19 +1,23 @@
-/* Makes generated cases of the answering call with lent tables, for the program `cases` (crates/cases/README.md), which makes it
-   with the library's own sources. The peer makes each call, on tables, output and inputs that end at a protected page, and what it
-   has no right to touch is looked at. Written are pairs of files, N.cases with the lines for the program and N.lines with what it
-   has to print: as many as are needed for each to be short enough. peer/tables.sh compares. The words: --cases N, --seed N,
-   --into FOLDER, --save FILE. The seed is printed. A peer that touches more than it may ends the run with status 1, and its case
-   is saved. */
+/* Makes cases of the answering call with lent tables, for the program `cases` (crates/cases/README.md), which makes it with the
+   library's own sources. The peer makes each call, on tables, output and inputs that end at a protected page, and what it has no
+   right to touch is looked at. Written are files that go together, N.cases with the lines for the program, N.lines with what it has
+   to print and N.names with which case each is: as many as are needed for each to be short enough. peer/tables.sh compares. The
+   words: --cases N, --seed N, --into FOLDER, --save FILE, --replay FILE. The cases are generated, and the seed is printed; with
+   --replay they are those of a file of stored cases that lend tables. A peer that touches more than it may ends the run with
+   status 1, and its case is saved, if it is a generated one. */
+#include "../bench/status.h"
 #include "generate.h"
 #include "hub.h"
 #include "lend.h"
 #include "peer.h"
+#include "stored_case.h"
 
 #include <signal.h>
 #include <stdlib.h>
 #include <string.h>
 
-/* What the program `cases` takes. An input of 4 MiB would be too long for it by one byte. */
+/* What the program `cases` takes: an output of so many bytes, and inputs of so many together, as they stand in one space there. An
+   input of 4 MiB would be too long for it by one byte. */
 #define LONGEST_BYTES 1048576u
 #define LONGEST_TABLE 5120u
 #define LONGEST_FILE 4194303u
@@ -25,14 +29,16 @@
 
 struct run {
     uint64_t seed, cases, done, answered, refused[16];
-    const char *into, *save;
+    uint64_t too_long; /* stored cases that the program does not take */
+    const char *into, *save, *replay;
     unsigned files;
-    size_t length;      /* of the lines in the file under way */
-    FILE *lines, *told; /* the pair under way */
+    size_t length;              /* of the lines in the file under way */
+    FILE *lines, *told, *names; /* the files under way */
 };
 
 /* One case with its tables, whose lengths count numbers, and what the peer made of it. */
 struct lent_case {
+    char name[64]; /* as it is told: `case N of seed N`, or `line N` */
     struct one_case c;
     size_t rows_len, ranges_len;
     const uint8_t *first, *second;
@@ -115,15 +121,15 @@ static void spell_told(struct lent_case *k) {
 
 /* ---- a peer that touches more than it may */
 
-static const struct run *current_run;
-static const struct lent_case *current_case;
+static struct run current_run;
+static struct lent_case current_case;
 
+/* A stored case has its file already, and it might be the one that would be written. */
 static void give_up(const char *what) {
-    FILE *to = fopen(current_run->save, "w");
-    printf("%s in case %llu of seed %llu\n", what, (unsigned long long)current_run->done + 1,
-           (unsigned long long)current_run->seed);
-    if (to != NULL && current_case != NULL && fwrite(current_case->line.at, current_case->line.length, 1, to) == 1) {
-        printf("the case is saved as %s\n", current_run->save);
+    FILE *to = current_run.replay == NULL ? fopen(current_run.save, "w") : NULL;
+    printf("%s in %s\n", what, current_case.name);
+    if (to != NULL && fwrite(current_case.line.at, current_case.line.length, 1, to) == 1) {
+        printf("the case is saved as %s\n", current_run.save);
     }
     if (to != NULL) {
         fclose(to);
@@ -231,13 +237,13 @@ static void end_files(struct run *r) {
     if (r->files == 0) {
         return;
     }
-    if (fclose(r->lines) != 0 || fclose(r->told) != 0) {
+    if (fclose(r->lines) != 0 || fclose(r->told) != 0 || fclose(r->names) != 0) {
         printf("the lines cannot be written into %s\n", r->into);
         exit(2);
     }
 }
 
-/* The lines of one case, in a new pair of files if those under way would get too long. */
+/* The lines of one case, in new files if those under way would get too long. */
 static void write_lent(struct run *r, const struct lent_case *k) {
     if (r->files == 0 || k->line.length > LONGEST_FILE - r->length) {
         end_files(r);
@@ -245,32 +251,65 @@ static void write_lent(struct run *r, const struct lent_case *k) {
         r->length = 0;
         r->lines = open_file(r, "cases");
         r->told = open_file(r, "lines");
+        r->names = open_file(r, "names");
     }
     r->length += k->line.length;
     fwrite(k->line.at, k->line.length, 1, r->lines);
     fwrite(k->told.at, k->told.length, 1, r->told);
+    fprintf(r->names, "%s\n", k->name);
 }
 
-static void run_cases(struct run *r) {
-    static struct lent_case k;
+/* ---- all cases */
+
+/* Whether the program takes the case; its line is then shorter than a file may be. */
+static int is_taken(const struct lent_case *k) {
+    return k->c.first.length <= LONGEST_BYTES && k->c.second.length <= LONGEST_BYTES - k->c.first.length &&
+           k->c.room <= LONGEST_BYTES && k->rows_len <= LONGEST_TABLE && k->ranges_len <= LONGEST_TABLE;
+}
+
+/* A case that is taken, by the peer and into the files. */
+static void take_case(struct run *r, struct lent_case *k) {
+    spell_case(k);
+    run_lent(k);
+    look_at(k);
+    spell_told(k);
+    write_lent(r, k);
+    r->done++;
+    r->answered += k->number == 0;
+    r->refused[k->number < 16 ? k->number : 15]++;
+}
+
+static void run_cases(struct run *r, struct lent_case *k) {
     struct luck l = luck_from(r->seed);
-    current_run = r;
-    current_case = &k;
     while (r->done < r->cases) {
-        make_lent(&l, &k);
-        spell_case(&k);
-        if (k.c.first.length > LONGEST_BYTES || k.c.second.length > LONGEST_BYTES || k.line.length > LONGEST_FILE) {
-            continue; /* the program takes no such case */
+        snprintf(k->name, sizeof k->name, "case %llu of seed %llu", (unsigned long long)r->done + 1, (unsigned long long)r->seed);
+        make_lent(&l, k);
+        if (is_taken(k)) {
+            take_case(r, k);
         }
-        run_lent(&k);
-        look_at(&k);
-        spell_told(&k);
-        write_lent(r, &k);
-        r->done++;
-        r->answered += k.number == 0;
-        r->refused[k.number < 16 ? k.number : 15]++;
     }
-    end_files(r);
+}
+
+/* A stored case, if it lends tables. One that the program does not take is told, as nobody else could compare it. */
+static int run_stored(const struct stored *s, void *with) {
+    struct run *r = with;
+    struct lent_case *k = &current_case;
+    if (!s->lent) {
+        return ENDED_WELL;
+    }
+    snprintf(k->name, sizeof k->name, "line %zu", s->line);
+    k->c = case_of(s);
+    k->rows_len = s->rows;
+    k->ranges_len = s->ranges;
+    if (is_taken(k)) {
+        take_case(r, k);
+    } else {
+        printf("the tables of %s are not compared: it is too long for the program `cases`, which takes at most %u bytes of inputs, "
+               "as many of output, and %u numbers of a table\n",
+               k->name, LONGEST_BYTES, LONGEST_TABLE);
+        r->too_long++;
+    }
+    return ENDED_WELL;
 }
 
 /* ---- words */
@@ -287,31 +326,46 @@ static void read_words(struct run *r, int count, char **words) {
             r->into = value;
         } else if (strcmp(words[i], "--save") == 0) {
             r->save = value;
+        } else if (strcmp(words[i], "--replay") == 0) {
+            r->replay = value;
         } else {
-            printf("the words are --cases N, --seed N, --into FOLDER and --save FILE\n");
+            printf("the words are --cases N, --seed N, --into FOLDER, --save FILE and --replay FILE\n");
             exit(2);
         }
     }
 }
 
-int main(int count, char **words) {
-    struct run r;
+static void say_counts(const struct run *r) {
     unsigned i;
-    memset(&r, 0, sizeof r);
-    r.seed = 1;
-    r.cases = 10000;
-    r.into = ".";
-    r.save = "tables.case";
-    read_words(&r, count, words);
+    printf("%llu cases, %llu without a refusal; by number of refusal:", (unsigned long long)r->done,
+           (unsigned long long)r->answered);
+    for (i = 1; i < 15; i++) {
+        printf(" %u: %llu", i, (unsigned long long)r->refused[i]);
+    }
+    printf("\n");
+}
+
+int main(int count, char **words) {
+    struct run *r = &current_run;
+    int status = ENDED_WELL;
+    r->seed = 1;
+    r->cases = 10000;
+    r->into = ".";
+    r->save = "tables.case";
+    read_words(r, count, words);
     signal(SIGSEGV, stopped);
     signal(SIGBUS, stopped);
     begin_blocks();
-    printf("seed %llu\n", (unsigned long long)r.seed);
-    run_cases(&r);
-    printf("%llu cases, %llu without a refusal; by number of refusal:", (unsigned long long)r.done, (unsigned long long)r.answered);
-    for (i = 1; i < 15; i++) {
-        printf(" %u: %llu", i, (unsigned long long)r.refused[i]);
+    if (r->replay != NULL) {
+        status = stored_each(r->replay, run_stored, r);
+    } else {
+        printf("seed %llu\n", (unsigned long long)r->seed);
+        run_cases(r, &current_case);
+        say_counts(r);
     }
-    printf("\n%u files\n", r.files);
-    return 0;
+    end_files(r);
+    if (status == ENDED_WELL) { /* for peer/tables.sh */
+        printf("%u files, %llu cases, %llu too long\n", r->files, (unsigned long long)r->done, (unsigned long long)r->too_long);
+    }
+    return status;
 }

@@ -1,53 +1,84 @@
 #!/bin/sh
-# peer/tables.sh PROGRAM CASES SEED SAVED: compares the tables of the answering call. PROGRAM is peer/tables.c, built: it writes
-# cases with lent tables, and what the peer makes of each. The program `cases` makes the same calls with the library's sources, and
-# what it prints is compared line by line. The first case that differs is saved as SAVED. The last line is '0 differences' and
-# the status 0; with a difference the status is 1, and 2 if it cannot be run.
+# peer/tables.sh PROGRAM CASES SEED SAVED, or PROGRAM --replay FILE: compares the tables of the answering call. PROGRAM is
+# peer/tables.c, built: it writes cases with lent tables, generated ones or those of a file of stored cases, and what the peer makes
+# of each. The program `cases` makes the same calls with the library's sources, and what it prints is compared line by line. The
+# first generated case that differs is saved as SAVED; if none does the last line is '0 differences'. Of stored cases each that
+# differs is told, and the last line counts them; nothing is said if none of them lends tables. The status is 0, with a difference
+# 1, 2 if it cannot be run, and else one of those that bench --help tells, as for a file that cannot be read.
 set -u
-[ $# -eq 4 ] || { printf 'peer/tables.sh: needed: peer/tables.sh PROGRAM CASES SEED SAVED\n'; exit 2; }
-cd "$(dirname "$0")/.." || exit 2
-program=$1 count=$2 seed=$3 saved=$4 library=target/bin/cases
 
 fail() {
     printf 'peer/tables.sh: FAILED: %s\n' "$*"
     exit 2
 }
 
-[ -s "$library" ] || fail "there is no $library: rt check cases makes it, and so does make test"
+# Names are taken from where the caller is.
+from=$PWD
+cd "$(dirname "$0")/.." || exit 2
+root=$PWD library=target/bin/cases
+cd "$from" || exit 2
+program=${1:-} count='' saved=''
+case "$# ${2:-}" in
+'3 --replay') set -- --replay "$3" ;;
+'4 '*)
+    count=$2 saved=$4
+    set -- --cases "$2" --seed "$3" --save "$4"
+    ;;
+*) fail 'needed: peer/tables.sh PROGRAM CASES SEED SAVED, or peer/tables.sh PROGRAM --replay FILE' ;;
+esac
 room=$(mktemp -d) || fail 'there is no room for temporary files'
 trap 'rm -rf "$room"' EXIT
 trap 'exit 1' HUP INT TERM
 
-sh tools/run "$program" --cases "$count" --seed "$seed" --into "$room" --save "$saved" >"$room/log" 2>&1
+# ---- what the peer makes of the cases
+sh "$root/tools/run" "$program" "$@" --into "$room" >"$room/log" 2>&1
 status=$?
 sed '$d' "$room/log"
 [ "$status" = 0 ] || { tail -n 1 "$room/log"; exit "$status"; }
-files=$(sed -n '$s/^\([0-9]*\) files$/\1/p' "$room/log")
-[ "${files:-0}" -gt 0 ] || fail 'the driver writes no case'
+# shellcheck disable=SC2046
+set -- $(sed -n '$s/^\([0-9]*\) files, \([0-9]*\) cases, \([0-9]*\) too long$/\1 \2 \3/p' "$room/log")
+[ $# -eq 3 ] || fail 'the driver does not come to its end'
+files=$1 cases=$2 long=$3
+if [ -n "$saved" ]; then
+    [ "$cases" -gt 0 ] && [ "$cases" = "$count" ] || fail "the driver writes $cases cases, not $count"
+fi
+[ "$files" = 0 ] || [ -s "$root/$library" ] ||
+    fail "the tables are not compared: there is no $library (rt check cases makes it, and so does make test)"
 
-# The first line that differs, also if one side ends before it.
-differs() { # FILE
-    cmp -s "$room/$1.lines" "$room/$1.got" && return 1
-    line=$(awk -v got="$room/$1.got" '
-        { if ((getline other <got) <= 0 || other != $0) { print FNR; told = 1; exit } }
-        END { if (!told) print FNR + 1 }' "$room/$1.lines")
+# ---- the same by the library
+# The lines that differ, or are missing; one too many is found when they are counted.
+differing() { # FILE
+    cmp -s "$room/$1.lines" "$room/$1.got" || awk -v got="$room/$1.got" '
+        { if ((getline other <got) <= 0 || other != $0) print FNR }' "$room/$1.lines"
 }
 
 tell() { # FILE LINE
-    sed -n "$2p" "$room/$1.cases" >"$saved"
-    printf 'library and peer differ in line %s of file %s\n' "$2" "$1"
+    printf 'library and peer differ in %s\n' "$(sed -n "$2p" "$room/$1.names")"
     printf '  library: %s\n' "$(sed -n "$2p" "$room/$1.got" | cut -c 1-2000)"
     printf '  peer: %s\n' "$(sed -n "$2p" "$room/$1.lines" | cut -c 1-2000)"
+    differences=$((differences + 1))
+    [ -n "$saved" ] || return 0
+    sed -n "$2p" "$room/$1.cases" >"$saved"
     printf 'the case is saved as %s\n' "$saved"
     exit 1
 }
 
-lines=0 file=0
+lines=0 file=0 differences=0
 while [ "$file" -lt "$files" ]; do
     file=$((file + 1))
-    sh tools/run "$library" <"$room/$file.cases" >"$room/$file.got" || fail "$library ends with another status than 0"
-    ! differs "$file" || tell "$file" "$line"
+    sh "$root/tools/run" "$root/$library" <"$room/$file.cases" >"$room/$file.got" ||
+        fail "$library ends with another status than 0"
+    for line in $(differing "$file"); do
+        tell "$file" "$line"
+    done
     lines=$((lines + $(wc -l <"$room/$file.got")))
 done
-[ "$lines" -eq "$count" ] || fail "$lines lines are compared, not $count"
-printf '0 differences\n'
+[ "$differences" -gt 0 ] || [ "$lines" -eq "$cases" ] || fail "$lines lines are compared, not $cases"
+if [ -n "$saved" ]; then
+    printf '0 differences\n'
+elif [ "$((cases + long))" -gt 0 ]; then
+    printf 'tables of %s cases by library and peer: %s differences' "$cases" "$differences"
+    [ "$long" = 0 ] || printf ', and %s not compared' "$long"
+    printf '\n'
+fi
+[ "$differences" = 0 ] || exit 1

@@ -523,6 +523,13 @@ cmp "$room/calls" tests/benches.out || fail 'other results come from --replay te
 fresh
 printf 'answer 00 00\n' >"$room/cases"
 fault 5 "$room/cases, line 1: it is no case" '* ' --replay "$room/cases"
+for lengths in 1536 '1536 x' '- 2048' '1536 18446744073709551616' '1536 2048 0'; do
+    printf 'read -\nanswer 00 00 0 %s\n' "$lengths" >"$room/cases"
+    fault 5 "line 2: it is no case of the form \`answer STOREHEX REQUESTHEX OUTLEN [STORETABLELEN KNOWTABLELEN]\`" '* ' \
+        --replay "$room/cases"
+done
+printf 'answer 00 00 0 0 18446744073709551615\n' >"$room/cases"
+bench 0 'hub_answer: 2, input 0, place 0, length 0' --replay "$room/cases"
 printf 'read -\nreceived 00\n' >"$room/cases"
 fault 5 "$room/cases, line 2: it is no case of the form \`received ANSWERHEX POSITION\`" '* ' --replay "$room/cases"
 printf '# nothing\n#\000 answer 00 00 0\n' >"$room/cases"

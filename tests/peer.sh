@@ -91,7 +91,7 @@ cp bench/sample/manifests.store bench/sample/first.request "$room/folder/"
 {
     printf '# words\n\nanswer %s %s 4096\nanswer %s %s 40 1536 2048\n' "$store" "$request" "$store" "$request"
     printf 'store=manifests.store request=first.request out=4096\n  \t\r\n'
-    printf ' store=%s\trequest=../folder/first.request  out=534 \r\n' "$room/folder/manifests.store"
+    printf ' store=%s\trequest=../folder/first.request  out=534 \r\n' "$PWD/bench/sample/manifests.store"
     printf 'answer AC020055 - 0\nask 1 18446744073709551615 - - 256\nread 00\n#\nreceived 0c00 0\nelement %s 0' "$store"
 } >"$room/folder/field"
 replays 0 9 folder/field
@@ -101,7 +101,7 @@ says 'hub_answer: 14, input 0, place 0, length 41 (the output is too short)'
 says 'line 7: store 417 bytes, request 88 bytes, output 534 bytes'
 says 'hub_element: 9, place 0, length 0 ('
 says 'cases by library and peer: 9, with a difference: 0'
-cp "$room/log" "$room/before"
+{ cat "$room/log" && printf 'tables of 1 cases by library and peer: 0 differences\n'; } >"$room/before"
 (cd "$room" && sh "$OLDPWD/peer/replay.sh" folder/field) >"$room/log" 2>&1
 cmp "$room/before" "$room/log" || fail 'peer/replay.sh in another folder does not do the same'
 
@@ -145,6 +145,9 @@ says 'bench: folder/absent: it cannot be opened: No such file'
 printf 'read 00\nask 1\n' >"$room/folder/field"
 replays 5 1 folder/field
 says 'bench: folder/field, line 2: it is no case of the form `ask ID LIMIT FILTERHEX KNOWLEDGEHEX OUTLEN`'
+printf 'read 00\nanswer 00 00 0 1536 all\n' >"$room/folder/field"
+replays 5 1 folder/field
+says 'bench: folder/field, line 2: it is no case of the form `answer STOREHEX REQUESTHEX OUTLEN [STORETABLELEN KNOWTABLELEN]`'
 printf '# none\n' >"$room/folder/field"
 replays 5 0 folder/field
 says 'bench: folder/field: there is no case in it'
@@ -177,14 +180,101 @@ both series --talks "$talks" --seed "$seed" --save "$saved"
 compile tables $peer_core $peer_tables
 sh peer/tables.sh "$room/tables" "$tables" "$seed" "$saved_tables" >"$room/log" 2>&1 || {
     cat "$room/log"
-    [ ! -s "$saved_tables" ] || {
-        printf 'tests/peer.sh: sh tools/run target/bin/cases <%s prints the line of the library again\n' "$saved_tables"
-        printf 'tests/peer.sh: make replay CASE=%s makes the call without lent tables\n' "$saved_tables"
-    }
+    [ ! -s "$saved_tables" ] || printf 'tests/peer.sh: make replay CASE=%s\n' "$saved_tables"
     fail 'library and peer differ with lent tables, or they cannot be run'
 }
 [ "$(tail -n 1 "$room/log")" = '0 differences' ] || { cat "$room/log"; fail 'the tables are not compared to the end'; }
 sed -e '$d' -e 's|^|tests/peer.sh: tables: |' "$room/log"
+passed=$((passed + 1))
+
+# ---- stored cases that lend tables, by the script of a tree that is made of links, and has by turns all that this one has, no
+# program `cases`, and a peer with one line spoiled in the tables
+mkdir -p "$room/tree/target" || fail 'there is no room for a tree'
+for name in bench include peer tools target/bin target/staticlib; do
+    ln -s "$PWD/$name" "$room/tree/$name" || fail 'there is no room for a link'
+done
+replays_tables() { # STATUS AGREEMENTS FILE: all agree without their tables
+    (cd "$room/folder" && sh ../tree/peer/replay.sh "$3") >"$room/log" 2>&1
+    got=$?
+    [ "$got" = "$1" ] && [ "$(grep -c '^library and peer agree: number ' "$room/log")" = "$2" ] &&
+        grep -q "^cases by library and peer: $2, with a difference: 0\$" "$room/log" ||
+        { cut -c 1-200 "$room/log"; fail "$3 is replayed with the status $got, not $1, or without $2 agreements"; }
+}
+ends() { # WORDS: the last line
+    [ "$(tail -n 1 "$room/log")" = "$1" ] || { cut -c 1-200 "$room/log"; fail "a replay does not end with '$1'"; }
+}
+
+# The answers that the program has stored, with their rows and with tables that are too short: each is taken as it stands, and the
+# peer makes of it what is stored.
+paste -d '|' crates/cases/stdin crates/cases/stdout | awk -F '|' -v room="$room" '
+    $1 ~ /^answer / && $2 != "bad" {
+        print $1 >(room "/lent.in")
+        print $2 >(room "/lent.out")
+    }'
+mkdir "$room/into" || fail 'there is no room for the lines'
+sh tools/run "$room/tables" --replay "$room/lent.in" --into "$room/into" >"$room/log" 2>&1 &&
+    [ "$(tail -n 1 "$room/log")" = "1 files, $(wc -l <"$room/lent.in" | tr -d ' ') cases, 0 too long" ] ||
+    { cat "$room/log"; fail 'the answers of crates/cases/stdin are not taken with their tables'; }
+cmp "$room/into/1.cases" "$room/lent.in" || fail 'stored cases are handed on as others'
+cmp "$room/into/1.lines" "$room/lent.out" || fail 'with lent tables the peer makes other lines than crates/cases/stdout has'
+
+# One element, answered with tables and without them, and with a table too short by one, which the call for C does not see.
+one=$(awk '$1 == "answer" { print $2, $3; exit }' bench/sample/sample.cases)
+{
+    printf '# words\nread 00\nanswer %s 132\n\nanswer %s 132 1536 2048\nanswer %s 132 1536 2047\n' "$one" "$one" "$one"
+    printf ' answer\tAC020055 %s  0041 05120 5120 \r\nanswer %s 131 1536 2048' "$request" "$one"
+} >"$room/folder/lent"
+printf 'read 00\nanswer %s 132\n' "$one" >"$room/folder/plain"
+replays_tables 0 6 lent
+ends 'tables of 4 cases by library and peer: 0 differences'
+replays_tables 0 2 plain
+ends 'cases by library and peer: 2, with a difference: 0'
+cp "$room/log" "$room/before"
+
+# Without the program; what lends no tables does not need it.
+rm "$room/tree/target/bin"
+replays_tables 2 6 lent
+says 'the tables are not compared: there is no target/bin/cases (rt check cases makes it, and so does make test)'
+replays_tables 0 2 plain
+cmp "$room/before" "$room/log" || fail 'a replay that lends no tables is another one without the program cases'
+ln -s "$PWD/target/bin" "$room/tree/target/bin" || fail 'there is no room for a link'
+
+# What is read from a pipe is gone when it comes to the tables.
+# shellcheck disable=SC2002
+cat "$room/folder/lent" | replays_tables 2 6 /dev/stdin || exit 1
+ends 'peer/replay.sh: the tables are not compared: only a file can be read a second time'
+
+# Spoiled: the line is told with what both make of it, and the others are compared all the same.
+rm "$room/tree/peer"
+mkdir "$room/tree/peer" || fail 'there is no room for a copy of the peer'
+cp peer/* "$room/tree/peer/"
+sed 's/to\[1\] = e->length/to[1] = e->place + e->length/' peer/answer.c >"$room/tree/peer/answer.c"
+! cmp -s peer/answer.c "$room/tree/peer/answer.c" || fail 'no line of the peer is spoiled'
+printf '\nanswer %s 132 1537 2049\n' "$one" >>"$room/folder/lent"
+replays_tables 1 7 lent
+[ "$(grep '^library and peer differ' "$room/log" | tr '\n' ';')" = \
+    'library and peer differ in line 5;library and peer differ in line 9;' ] ||
+    { cut -c 1-200 "$room/log"; fail 'lines 5 and 9 are to differ in their tables'; }
+[ "$(grep -Ec '^  library: ok [0-9a-f]{264} 3,46,' "$room/log")" = 2 ] &&
+    [ "$(grep -Ec '^  peer: ok [0-9a-f]{264} 3,49,' "$room/log")" = 2 ] ||
+    { cut -c 1-400 "$room/log"; fail 'it is not told what library and peer make of lines 5 and 9'; }
+ends 'tables of 5 cases by library and peer: 2 differences'
+
+# What is too long for the program is told: inputs, output, either table. The longest are compared, each in a file of its own.
+zeros() { # COUNT: so many bytes in hex
+    dd if=/dev/zero bs="$1" count=1 2>/dev/null | od -An -v -tx1 | tr -d ' \n'
+}
+{
+    printf 'answer %s %s 1048576 5120 5120\n' "$store" "$(zeros 1048572)"
+    printf 'answer %s %s 0 1536 2048\n' "$(zeros 1048575)" 00
+    printf 'answer %s %s 0 1536 2048\n' "$(zeros 1048575)" 0000
+    printf 'answer %s 1048577 1536 2048\n' "$one"
+    printf 'answer %s 132 5121 2048\nanswer %s 132 1536 18446744073709551615\n' "$one" "$one"
+} >"$room/folder/long"
+sh peer/tables.sh "$room/tables" --replay "$room/folder/long" >"$room/log" 2>&1 || { cat "$room/log"; fail 'long cases'; }
+[ "$(sed -n 's/^the tables of line \([0-9]\) are not compared: .*/\1/p' "$room/log" | tr '\n' ' ')" = '3 4 5 6 ' ] ||
+    { cat "$room/log"; fail 'it is not told which lines are too long'; }
+ends 'tables of 2 cases by library and peer: 0 differences, and 4 not compared'
 passed=$((passed + 1))
 
 # ---- the driver itself
