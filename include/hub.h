@@ -135,7 +135,7 @@ static inline const char *hub_refusal_text(uint64_t number) {
    - out and the report overlap neither each other nor an input. Inputs may overlap.
    - Nothing else writes to the buffers of a call while it runs. Calls on buffers of their own may run side by side.
    - HUB_STACK_BYTES of stack are left, 64 KiB. On inputs as deep, as many and as long as they may be, hub_answer takes 49 KiB,
-     hub_read and hub_element 46, and hub_ask 19. That is measured, and not proved. */
+     hub_read and hub_element 46, and hub_ask 20. That is measured, and not proved. */
 
 /* Answers one Query Changes request from a store.
 

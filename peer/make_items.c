@@ -376,7 +376,7 @@ static void make_inside(struct maker *m, struct text *t, unsigned levels) {
     }
 }
 
-/* As deep as may be, or by a wrong decision one deeper; a plain object in the innermost. */
+/* As deep as may be, or by a wrong decision one deeper; a plain object in the innermost, and behind some of the others. */
 static void make_deep(struct maker *m, struct text *t, unsigned levels) {
     unsigned i, type = (unsigned)luck_below(&m->luck, 100);
     if (spoils(m)) {
@@ -388,7 +388,10 @@ static void make_deep(struct maker *m, struct text *t, unsigned levels) {
     make_start(m, t, type, 0, 0);
     while (i > 0) {
         i--;
-        plain_end(t, type + i);
+        make_end(m, t, type + i);
+        if (luck_one_in(&m->luck, 8)) {
+            make_start(m, t, type, 0, 0);
+        }
     }
 }
 

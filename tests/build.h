@@ -11,6 +11,7 @@
 
 /* Types by number. */
 enum { ELEMENT = 0x01, RANGE = 0x0F, KNOWLEDGE = 0x10, CELL_KNOWLEDGE = 0x14, PACKAGE = 0x15, ENTRY = 0x17, INSIDE = 0x1D };
+enum { LONGEST_TYPE = 0x3FFF }; /* of 14 bits */
 enum { REQUEST = 0x40, SUB_RESPONSE = 0x41, SUB_REQUEST = 0x42, SPECIALIZED = 0x44, FILTER = 0x47, QUERY_CHANGES = 0x51 };
 enum { FILTER_IDS = 0x54, CONSTRAINT = 0x59, ARGUMENTS = 0x5B, USER_AGENT = 0x5D, CHANGES = 0x5F, RESPONSE = 0x62 };
 
@@ -146,8 +147,8 @@ static inline void add_nested(struct text *t, unsigned n) {
     }
 }
 
-/* n elements, 47 bytes long and 3 more for each object of a short type nested inside them. The ids' numbers count up from 0x20 in the 10-bit form,
-   of which there are 992, and the serial numbers from here. */
+/* n elements, 47 bytes long and 3 more for each object of a short type nested inside them. The ids' numbers count up from 0x20 in
+   the 10-bit form, of which there are 992, and the serial numbers from here. */
 static inline void add_many_elements(struct text *t, uint8_t guid, uint64_t serial, unsigned n, unsigned nested) {
     for (unsigned i = 0; i < n; i++) {
         add_start(t, ELEMENT, 1, 44);

@@ -43,7 +43,7 @@ static inline struct text store_of(uint64_t serial, unsigned n) {
     return store;
 }
 
-/* A store of n elements of 47 bytes, and 3 more for each object nested inside them. */
+/* A store of n elements of 47 bytes, and 3 more for each object of a short type nested inside them. */
 static inline struct text many_store(unsigned n, unsigned nested) {
     struct text elements = {0}, store = {0};
     add_many_elements(&elements, SERIALS, 7, n, nested);

@@ -9,26 +9,26 @@ use lib.ListN.{length, getD}
 use lib.Dec.{ltb, eqb}
 use borrow.Author.Tests.{lt-ltb, le-ltb, ltb-true, ltb-false, eqb-true, eqb-false, eq-eqb, ne-eqb}
 use Rattle.laws.specs.Loop.Turn.{more, done}
-use Rattle.laws.proofs.Cases.{pick-all}
+use Rattle.laws.proofs.Cases.{by-bool, impossible, pick-all}
 use Rattle.laws.proofs.Loops.{Falls, iterate-at, iterate-ind}
 use Rattle.objects.specs.Nesting.{runAt}
-use Rattle.objects.specs.Next.{shortNumber, nextAt, nested}
-use Rattle.objects.specs.Nest.{held, roomIn, Room, noneOpen, onTo, into, outTo, pastStart, pastEnd, shortTurn, goingOn, goneShort}
+use Rattle.objects.specs.Next.{shortNumber, nextAt}
+use Rattle.objects.specs.Nest.{mostHeld, roomIn, Room, noneOpen, onTo, into, outTo, pastStart, pastEnd, shortTurn, goingOn, goneShort}
 use Rattle.objects.specs.declared.nesting.Passed.{Passed}
 use Rattle.objects.specs.declared.nesting.Next.the-variants as next
-use Rattle.objects.specs.declared.nesting.Nest.{Nest}
-use Rattle.objects.specs.declared.nesting.Going.{Going}
-use Rattle.objects.specs.declared.nesting.Going.the-variants.{On, Stops}
+use Rattle.objects.specs.declared.nest.Nest.{Nest}
+use Rattle.objects.specs.declared.nest.Going.{Going}
+use Rattle.objects.specs.declared.nest.Going.the-variants.{On, Stops}
 use Rattle.objects.proofs.Short.{short-room}
 use Rattle.objects.proofs.Next.{next-plain, next-opens, next-end}
 use Rattle.objects.proofs.Nested as turn
-use Rattle.objects.proofs.Nested.{held-into, held-out, unfolded}
+use Rattle.objects.proofs.Nested.{nested, held-into, held-out, unfolded}
 
-pub room-fits : (depth : ℕ) → (roomIn depth ≤ depth) × (roomIn depth ≤ held)
+pub room-fits : (depth : ℕ) → (roomIn depth ≤ depth) × (roomIn depth ≤ mostHeld)
 unfolding roomIn
 room-fits depth =
-    pick-all (λ (r : ℕ). (r ≤ depth) × (r ≤ held)) (ltb depth held) depth held
-    (λ t. let l = ltb-true depth held t in (omega arith, omega arith)) (λ t. let l = ltb-false depth held t in (omega arith, omega arith))
+    pick-all (λ (r : ℕ). (r ≤ depth) × (r ≤ mostHeld)) (ltb depth mostHeld) depth mostHeld
+    (λ t. let l = ltb-true depth mostHeld t in (omega arith, omega arith)) (λ t. let l = ltb-false depth mostHeld t in (omega arith, omega arith))
 
 -- ---- what a turn gives, by the two bytes that stand there
 
@@ -55,6 +55,24 @@ module _ (s : List ℕ) (room : ℕ) (nest : Nest) (w : ℕ) (is : shortNumber s
   pub other-turn : (w % 4 ≡ 0 → ⊥) → (w % 4 ≡ 1 → ⊥) → shortTurn s room nest ≡ Stops
   unfolding shortTurn
   other-turn a b = rw (is, ne-eqb (w % 4) 0 a, ne-eqb (w % 4) 1 b)
+
+-- ---- an end inside a run
+
+ends-on : (nest n : Nest) (k e : ℕ) → pastEnd nest k e ≡ On n → (n ≡ outTo nest e) × (nest .inner ≡ 0 → ⊥) × (k ≡ nest .kinds % 64)
+unfolding pastEnd
+ends-on nest n k e h =
+    by-bool (eqb (nest .inner) 0) (λ t. impossible (let x = rw t at h in cc))
+    (λ t.
+    by-bool (eqb k (nest .kinds % 64))
+    (λ u. let x : On (outTo nest e) ≡ On n = rw (t, u) at h in (cc, eqb-false (nest .inner) 0 t, eqb-true k (nest .kinds % 64) u))
+    (λ u. impossible (let x = rw (t, u) at h in cc)))
+
+pub ends-stop : (nest : Nest) (k e : ℕ) → (nest .inner ≡ 0 → ⊥) → pastEnd nest k e ≡ Stops → k ≡ nest .kinds % 64 → ⊥
+unfolding pastEnd
+ends-stop nest k e f h q = impossible (let x = rw (ne-eqb (nest .inner) 0 f, eq-eqb k (nest .kinds % 64) q) at h in cc)
+
+pub out-to : (nest n : Nest) (k e : ℕ) → pastEnd nest k e ≡ On n → n .place ≡ e
+out-to nest n k e h = ap (λ (m : Nest). m .place) (ends-on nest n k e h .0)
 
 -- ---- the same run
 
@@ -210,6 +228,19 @@ module _ (s : List ℕ) (room : ℕ) where
 
   pub gone-less : (nest n : Nest) → n ≡ goneShort s room nest → length s - n .place ≤ length s - nest .place
   gone-less nest n e = let l = gone-same nest .0 in rw e l
+
+  pub out-under : (p : Passed) (kind depth : ℕ) (nest n : Nest) (k e : ℕ) → nextAt s (nest .place) (depth - nest .inner) ≡ next.Ends k e
+      → pastEnd nest k e ≡ On n → Under p kind depth nest → Under p kind depth n
+  out-under p kind depth nest n k e w h u =
+      let o = ends-on nest n k e h in
+      let a = u .1 in
+      let b = u .2 .0 in
+      let f = o .1 in
+      subst (Under p kind depth) (sym (o .0)) (
+        u .0 ∙ turn.out s kind (nest .inner) (nest .kinds) (depth - nest .inner) (depth - (nest .inner - 1)) (nest .place) k e f (omega arith) w (o .2),
+        a,
+        (omega arith, u .2 .1, held-out (nest .inner) (nest .kinds) (omega arith) (u .2 .2)),
+      )
 
 -- nothing is open inside at first
 pub begin-under : (s : List ℕ) (kind depth at room : ℕ) → room ≡ roomIn depth

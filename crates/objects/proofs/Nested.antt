@@ -1,4 +1,4 @@
--- A run with objects open inside it, turn by turn: as the loop of `read_run` goes. Only its proof needs this.
+-- A run with objects open inside it, turn by turn: as the loops of `read_run` and `gone_short` go. Only their proofs need this.
 -- Assumes nothing.
 use mathlib.Core.Path.{_≡_, refl, ap, _∙_}
 use mathlib.Core.List.{List}
@@ -9,12 +9,17 @@ use borrow.Author.Tests.{eq-eqb, ne-eqb}
 use Rattle.numbers.specs.Refusals.{faultAt}
 use Rattle.numbers.specs.declared.refusal.Refusal.{Refusal}
 use Rattle.objects.specs.Nesting.{andOn, runAt}
-use Rattle.objects.specs.Next.{nextAt, endedAt, nested}
+use Rattle.objects.specs.Next.{nextAt, endedAt}
 use Rattle.objects.specs.Nest.{Held}
 use Rattle.objects.specs.declared.nesting.Passed.{Passed}
 use Rattle.objects.specs.declared.nesting.Passed.the-variants.{To, Refused}
 use Rattle.objects.specs.declared.nesting.Next.the-variants as next
 use Rattle.objects.proofs.Next.{run-next-on}
+
+-- a run with so many objects open inside it: theirs, the innermost first, and then its own
+unfoldable pub nested : List ℕ → ℕ → ℕ → ℕ → ℕ → ℕ → Passed
+nested s kind zero kinds d at = runAt s at d kind
+nested s kind (suc inner) kinds d at = andOn (runAt s at d (kinds % 64)) (λ e. nested s kind inner (kinds / 64) (suc d) e)
 
 pub held-few : (inner kinds : ℕ) → inner < 10 → Held inner kinds → kinds < 2 ^ 54
 held-few inner kinds l h =

@@ -15,7 +15,7 @@ use Rattle.laws.proofs.Cases.{by-bool, impossible, pick-all}
 use Rattle.numbers.specs.Refusals.{faultAt}
 use Rattle.objects.specs.Header.{startOf, headerAt}
 use Rattle.objects.specs.Nesting.{dataPast, andOn, onward, objectAt, runAt}
-use Rattle.objects.specs.Next.{shortNumber, objectOn, MayOpen, passing, opening, nextOn, nextAt, runOn}
+use Rattle.objects.specs.Next.{shortNumber, objectOn, MayOpen, passing, opening, nextOn, nextAt, endedAt}
 use Rattle.objects.specs.declared.header.Header.{Header}
 use Rattle.objects.specs.declared.header.Header.the-variants as header
 use Rattle.objects.specs.declared.nesting.Passed.{Passed}
@@ -99,6 +99,12 @@ pub next-may-open : (s : List ℕ) (at d : ℕ) → MayOpen d (nextAt s at d)
 next-may-open s at d = may-open s at d (nextAt s at d) (next-ahead s at d (nextAt s at d) refl)
 
 -- ---- an object, and a run, by what stands there
+
+abbrev pub runOn : List ℕ → ℕ → ℕ → ℕ → Next → Passed
+runOn s at d kind (next.Refused r) = Refused r
+runOn s at d kind (next.Ends k e) = endedAt at kind k e
+runOn s at d kind (next.Past e) = runAt s e d kind
+runOn s at d kind (next.Opens k e) = andOn (runAt s e (d - 1) k) (λ i. runAt s i d kind)
 
 object-passing : (s : List ℕ) (at d : ℕ) (p : Passed) → p ≡ objectOn s at d (passing p)
 object-passing s at d (To e) = refl

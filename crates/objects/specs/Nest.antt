@@ -10,24 +10,24 @@ use Rattle.laws.specs.Pick.{pick}
 use Rattle.laws.specs.Loop.{Turn, iterate}
 use Rattle.laws.specs.Loop.Turn.{more, done}
 use Rattle.objects.specs.Next.{shortNumber}
-use Rattle.objects.specs.declared.nesting.Nest.{Nest}
-use Rattle.objects.specs.declared.nesting.Going.{Going}
-use Rattle.objects.specs.declared.nesting.Going.the-variants.{On, Stops}
+use Rattle.objects.specs.declared.nest.Nest.{Nest}
+use Rattle.objects.specs.declared.nest.Going.{Going}
+use Rattle.objects.specs.declared.nest.Going.the-variants.{On, Stops}
 
 -- how many types a number of 64 bits holds
-abbrev pub held : ℕ
-held = 10
+abbrev pub mostHeld : ℕ
+mostHeld = 10
 
 -- how many objects may be open inside a run, with so many levels left
 unfoldable pub roomIn : ℕ → ℕ
-roomIn depth = pick (ltb depth held) depth held
+roomIn depth = pick (ltb depth mostHeld) depth mostHeld
 
 -- the types of so many open objects, six bits each, are one number
 abbrev pub Held : ℕ → ℕ → Type 0
 Held inner kinds = kinds < 64 ^ inner
 
 abbrev pub Room : ℕ → Nest → Type 0
-Room room nest = (nest .inner ≤ room) × (room ≤ held) × Held (nest .inner) (nest .kinds)
+Room room nest = (nest .inner ≤ room) × (room ≤ mostHeld) × Held (nest .inner) (nest .kinds)
 
 abbrev pub noneOpen : ℕ → Nest
 noneOpen at = record { place = at; inner = 0; kinds = 0 }

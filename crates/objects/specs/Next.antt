@@ -1,7 +1,7 @@
--- What stands at a place of a run, and a run under way with objects open inside it. Only the code of `nesting` needs this: that a run is
--- what document 01 says stands in Nesting.antt, and nothing here adds to it, so a reader of the promises can skip it.
+-- What stands at a place of a run, and an object from there. Only the code of `nesting` needs this: that a run is what document 01 says
+-- stands in Nesting.antt, and nothing here adds to it, so a reader of the promises can skip it.
 -- Assumes nothing.
-use Prim.Native.Nat.{ℕ, zero, suc, _+_, _-_, _/_, _%_, _<_}
+use Prim.Native.Nat.{ℕ, _+_, _-_, _/_, _%_, _<_}
 use mathlib.Core.Bool.{Bool, false}
 use mathlib.Core.List.{List}
 use lib.ListN.{length, take, drop}
@@ -10,7 +10,7 @@ use Rattle.laws.specs.Pick.{pick}
 use Rattle.laws.specs.Bytes.{le}
 use Rattle.numbers.specs.Refusals.{faultAt}
 use Rattle.objects.specs.Header.{headerAt}
-use Rattle.objects.specs.Nesting.{dataPast, andOn, runAt}
+use Rattle.objects.specs.Nesting.{dataPast, runAt}
 use Rattle.objects.specs.Steps.{sameBit}
 use Rattle.objects.specs.declared.header.Header.{Header}
 use Rattle.objects.specs.declared.header.Header.the-variants as header
@@ -46,7 +46,7 @@ nextOn s at d (header.Start k c n u) =
 unfoldable pub nextAt : List ℕ → ℕ → ℕ → Next
 nextAt s at d = nextOn s at d (headerAt s at)
 
--- ---- an object, and a run, from there
+-- ---- an object, from there
 
 abbrev pub objectOn : List ℕ → ℕ → ℕ → Next → Passed
 objectOn s at d (next.Refused r) = Refused r
@@ -63,15 +63,3 @@ MayOpen d (next.Past e) = Unit {0}
 
 abbrev pub endedAt : ℕ → ℕ → ℕ → ℕ → Passed
 endedAt at kind k e = pick (eqb k kind) (To e) (Refused (faultAt 4 at))
-
-abbrev pub runOn : List ℕ → ℕ → ℕ → ℕ → Next → Passed
-runOn s at d kind (next.Refused r) = Refused r
-runOn s at d kind (next.Ends k e) = endedAt at kind k e
-runOn s at d kind (next.Past e) = runAt s e d kind
-runOn s at d kind (next.Opens k e) = andOn (runAt s e (d - 1) k) (λ i. runAt s i d kind)
-
--- ---- a run with so many objects open inside it: theirs, the innermost first, and then its own
-
-unfoldable pub nested : List ℕ → ℕ → ℕ → ℕ → ℕ → ℕ → Passed
-nested s kind zero kinds d at = runAt s at d kind
-nested s kind (suc inner) kinds d at = andOn (runAt s at d (kinds % 64)) (λ e. nested s kind inner (kinds / 64) (suc d) e)

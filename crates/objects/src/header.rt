@@ -1,6 +1,7 @@
-// Stream object headers: 16- and 32-bit starts, 8- and 16-bit ends, read.
+// Stream object headers: 16- and 32-bit starts, 8- and 16-bit ends, read; and the two bytes of the shortest, as a number.
 ghost use mathlib.Core.Path.{_≡_};
-ghost use Prim.Native.Nat.{_≤_, _<_};
+ghost use Prim.Native.Nat.{_-_, _≤_, _<_};
+ghost use Rattle.objects.specs.Next.{shortNumber};
 ghost use Rattle.objects.specs.Header.{startOf, endOf, sized, headerOf, headerAt, lengthAt, wholeHeader};
 ghost use Rattle.objects.specs.Calls.{ReadsHeader};
 use numbers::bytes::read_le;
@@ -24,8 +25,32 @@ pub enum Length {
     Refused(Refusal),
 }
 
+// The type in a start of two bytes has six bits.
+pub const SHORT_TYPES: u64 = 64;
+
 // This length says that the true one follows the header.
 pub const ESCAPE: u64 = 32767;
+
+// What is left of n from `at` on.
+pub fn left_of(n: usize, at: usize) -> usize
+    ensures { λ r. ⌜ r ≡ n - at ⌝ }
+{
+    if n < at {
+        return 0;
+    }
+    n - at
+}
+
+// The two bytes at a place as a number. Where they are not there it is 3, which is neither a start of two bytes nor an end of one.
+// The bound on the place does not hang on the place, so that it is worked out once and not in each turn of a loop.
+pub fn short_number(s: &[u8], at: usize) -> u64
+    ensures { λ r. ⌜ r ≡ shortNumber (now (s .entry)) at ⌝ }
+{
+    if left_of(s.len(), 1) <= at {
+        return 3;
+    }
+    read_le(&s[at..], 2)
+}
 
 // A start of n bytes at the front of t, the place `at` of the input; its type is below `span`.
 fn start_of(t: &[u8], at: usize, n: usize, span: u64) -> Header
@@ -60,7 +85,7 @@ fn header_of(t: &[u8], at: usize) -> Header
     }
     let low = t[0] % 4;
     match low {
-        0 => start_of(t, at, 2, 64),
+        0 => start_of(t, at, 2, SHORT_TYPES),
         1 => end_of(t, at, 1),
         2 => start_of(t, at, 4, 16384),
         _ => end_of(t, at, 2),

@@ -3,5 +3,6 @@
 pub mod header;
 pub mod header_write;
 pub mod layout;
+pub mod nest;
 pub mod nesting;
 pub mod reading;

@@ -5,7 +5,7 @@ ghost use Prim.Native.Nat.{_+_, _-_, _≤_, _<_};
 ghost use lib.ListN.{length, take, drop};
 ghost use Rattle.laws.specs.Bytes.{le};
 ghost use Rattle.objects.specs.Steps.{placeOf, valueOf, valued, need, fixedIn, number, numberIs, nullId, skip, guidHere, onGuid, idHere, onId, serialHere, onSerial};
-use crate::nesting::left_of;
+use crate::header::left_of;
 use numbers::compact::Compact;
 use numbers::extended_guid::ExtendedGuid;
 use numbers::extended_guid::ReadExtendedGuid;

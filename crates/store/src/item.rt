@@ -5,7 +5,7 @@ use crate::ranges::range_of;
 use numbers::guid::Guid;
 use numbers::refusal::Refusal;
 use numbers::serial::Serial;
-use objects::nesting::short_number;
+use objects::header::short_number;
 use objects::reading::Reading;
 use objects::reading::ReadingGuid;
 use objects::reading::ReadingSerial;

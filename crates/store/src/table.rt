@@ -37,7 +37,7 @@ pub fn same_key(a: Key, b: Key) -> bool
     a.number == b.number
 }
 
-// Where a key's mark stands, among so many.
+// Where a key's mark stands, among so many: few enough that the sum fits.
 pub fn mark_of(k: Key, width: u64) -> usize
     requires { ⌜ (0 < width) × (width ≤ 65536) ⌝ }
     ensures { λ r. ⌜ (r ≡ markOf width k) × (r < width) ⌝ }

@@ -2,7 +2,6 @@
 -- an object and once more for a run; that of the loop is what is left of the input.
 -- Assumes nothing.
 use mathlib.Core.Path.{sym, subst, _∙_}
-use Prim.Native.Nat.{suc, _+_, _-_}
 use native.Mathlib.Omega.{arith}
 use lib.ListN.{length}
 use borrow.Author.Needs.{needs}
@@ -10,9 +9,9 @@ use Rattle.objects.specs.Nesting.{runAt}
 use Rattle.objects.specs.Next.{MayOpen}
 use Rattle.objects.proofs.Ahead.{run-next}
 use Rattle.objects.proofs.Next.{next-ahead}
-use Rattle.objects.proofs.Nested.{held-out, past, refused, own-end, wrong-end, out, read, read-refused}
-use Rattle.objects.proofs.Gone.{Under, begin-under, gone-under, gone-less}
-use Prim.Native.Nat.{ℕ, _<_}
+use Rattle.objects.proofs.Nested.{past, refused, own-end, wrong-end, read, read-refused}
+use Rattle.objects.proofs.Gone.{Under, begin-under, gone-under, gone-less, ends-stop, out-under, out-to}
+use Prim.Native.Nat.{ℕ, suc, _+_, _-_, _<_}
 use borrow.Fn.Kinds.{In}
 use borrow.Fn.PlainCycle.{Measures, is, falls, and}
 use Rattle.objects.proofs.nesting.object_on.Reads as object-on
@@ -22,13 +21,13 @@ use Rattle.objects.proofs.nesting.read_run.Reads as read-run
 use Rattle.objects.proofs.nesting.read_run.Kinds as read-run-kinds
 use Rattle.objects.proofs.nesting.+object_on+read_run.Lts-read_run as read-run-lts
 use Rattle.numbers.proofs.refusal.at_place.Reads as at-place-reads
-use Rattle.objects.proofs.nesting.Nest.new.Reads as new-reads
-use Rattle.objects.proofs.nesting.Nest.on.Reads as on-reads
-use Rattle.objects.proofs.nesting.Nest.out.Reads as out-reads
+use Rattle.objects.proofs.nest.Nest.new.Reads as new-reads
+use Rattle.objects.proofs.nest.Nest.on.Reads as on-reads
+use Rattle.objects.proofs.nest.Nest.past_end.Reads as past-end-reads
 use Rattle.objects.proofs.nesting.ended_at.Reads as ended-at-reads
-use Rattle.objects.proofs.nesting.gone_short.Reads as gone-short-reads
+use Rattle.objects.proofs.nest.gone_short.Reads as gone-short-reads
 use Rattle.objects.proofs.nesting.next_at.Reads as next-at-reads
-use Rattle.objects.proofs.nesting.room_in.Reads as room-in-reads
+use Rattle.objects.proofs.nest.room_in.Reads as room-in-reads
 use Rattle.objects.proofs.nesting.+object_on+read_run.{statement}
 use Rattle.objects.proofs.nesting.+object_on+read_run.Tie.{close}
 
@@ -75,10 +74,10 @@ in-run t = (
   on-reads.Learnt,
   ended-at-reads.Asked,
   ended-at-reads.Learnt,
+  past-end-reads.Asked,
+  past-end-reads.Learnt,
   at-place-reads.Asked,
   at-place-reads.Learnt,
-  out-reads.Asked,
-  out-reads.Learnt,
   object-on-below t,
   object-on.Post,
 )
@@ -188,40 +187,42 @@ read-run-returns-2 t c =
     let u = gone-under _ _ _ _ _ _ _ (k .before .gone-short .ensures) (k .before .before .loop .inv) in
     c .ended-at .ensures ∙ sym (u .0 ∙ own-end _ _ _ _ _ _ _ _ (c .before .if1 .taken) (sym (k .next-at .ensures) ∙ c .before .before .before .k .given .1))
 
+read-run-past-end-requires : (t : ℕ) → read-run-lts.Need-past-end-requires (in-run t) (read-run-at t) read-run.Post read-run-Inv-loop read-run-μ-loop
+read-run-past-end-requires t c κs = search needs
+
+read-run-enum-told : (t : ℕ) → read-run-lts.Need-enum-told (in-run t) (read-run-at t) read-run.Post read-run-Inv-loop read-run-μ-loop
+read-run-enum-told t c = search needs
+
 read-run-at-place-requires : (t : ℕ) → read-run-lts.Need-at-place-requires (in-run t) (read-run-at t) read-run.Post read-run-Inv-loop read-run-μ-loop
 read-run-at-place-requires t c κs = search needs
 
 read-run-returns-3 : (t : ℕ) → read-run-lts.Need-returns-3 (in-run t) (read-run-at t) read-run.Post read-run-Inv-loop read-run-μ-loop
 read-run-returns-3 t c =
-    let k = c .before .before .before .before .before .before .before in
+    let k = c .before .before .before .before .before .before .before .before in
     let u = gone-under _ _ _ _ _ _ _ (k .before .gone-short .ensures) (k .before .before .loop .inv) in
-    rw (c .at-place .ensures)
-    (sym (u .0 ∙ wrong-end _ _ _ _ _ _ _ _ (c .before .before .before .if1 .left) (sym (k .next-at .ensures) ∙ c .before .before .before .before .before .k .given .1) (c .before .if2 .taken)))
+    let f = c .before .before .before .before .if1 .left in
+    let w = sym (k .next-at .ensures) ∙ c .before .before .before .before .before .before .k .given .1 in
+    let e = sym (c .before .before .before .past-end .ensures) ∙ c .before .enum-told .given .1 in
+    rw (c .at-place .ensures) (sym (u .0 ∙ wrong-end _ _ _ _ _ _ _ _ f w (ends-stop _ _ _ f e)))
 
-read-run-out-requires : (t : ℕ) → read-run-lts.Need-out-requires (in-run t) (read-run-at t) read-run.Post read-run-Inv-loop read-run-μ-loop
-read-run-out-requires t c κs = search needs
+read-run-enum-known-next : (t : ℕ) → read-run-lts.Need-enum-known-next (in-run t) (read-run-at t) read-run.Post read-run-Inv-loop read-run-μ-loop
+read-run-enum-known-next t c = search needs
 
 read-run-loop-less-2 : (t : ℕ) → read-run-lts.Need-loop-less-2 (in-run t) (read-run-at t) read-run.Post read-run-Inv-loop read-run-μ-loop
 read-run-loop-less-2 t c =
-    let k = c .before .before .before .before .before .before .before in
+    let k = c .before .before .before .before .before .before .before .before in
     let u = gone-under _ _ _ _ _ _ _ (k .before .gone-short .ensures) (k .before .before .loop .inv) in
     let l = gone-less _ _ _ _ (k .before .gone-short .ensures) in
-    let w = next-ahead _ _ _ _ (sym (k .next-at .ensures) ∙ c .before .before .before .before .before .k .given .1) in
-    rw (c .out .ensures) (omega arith)
+    let w = next-ahead _ _ _ _ (sym (k .next-at .ensures) ∙ c .before .before .before .before .before .before .k .given .1) in
+    let e = out-to _ _ _ _ (sym (c .before .before .before .past-end .ensures) ∙ c .before .next .given .1) in
+    omega arith
 
 read-run-loop-again-2 : (t : ℕ) → read-run-lts.Need-loop-again-2 (in-run t) (read-run-at t) read-run.Post read-run-Inv-loop read-run-μ-loop
 read-run-loop-again-2 t c =
-    let k = c .before .before .before .before .before .before .before in
+    let k = c .before .before .before .before .before .before .before .before in
     let u = gone-under _ _ _ _ _ _ _ (k .before .gone-short .ensures) (k .before .before .loop .inv) in
-    let z = c .before .before .before .if1 .left in
-    let a = u .1 in
-    let r = u .2 in
-    let b = r .0 in
-    rw (c .out .ensures) (
-      u .0 ∙ out _ _ _ _ _ _ _ _ _ z (omega arith) (sym (k .next-at .ensures) ∙ c .before .before .before .before .before .k .given .1) (c .before .if2 .left),
-      a,
-      (omega arith, r .1, held-out _ _ (omega arith) (r .2)),
-    )
+    let w = sym (k .next-at .ensures) ∙ c .before .before .before .before .before .before .k .given .1 in
+    out-under _ _ _ _ _ _ _ _ _ w (sym (c .before .before .before .past-end .ensures) ∙ c .before .next .given .1) u
 
 read-run-enum-known-k-2 : (t : ℕ) → read-run-lts.Need-enum-known-k-2 (in-run t) (read-run-at t) read-run.Post read-run-Inv-loop read-run-μ-loop
 read-run-enum-known-k-2 t c = search needs
@@ -250,8 +251,8 @@ read-run-returns-4 t c =
     let u = gone-under _ _ _ _ _ _ _ (k .before .gone-short .ensures) (k .before .before .loop .inv) in
     sym (u .0 ∙ read-refused _ _ _ _ _ _ _ _ _ (sym (k .next-at .ensures) ∙ c .before .before .before .before .before .k2 .given .1) (sym (c .before .before .before .object-on .ensures) ∙ c .before .r2 .given .1))
 
-read-run-enum-known-next : (t : ℕ) → read-run-lts.Need-enum-known-next (in-run t) (read-run-at t) read-run.Post read-run-Inv-loop read-run-μ-loop
-read-run-enum-known-next t c = search needs
+read-run-enum-known-next-2 : (t : ℕ) → read-run-lts.Need-enum-known-next-2 (in-run t) (read-run-at t) read-run.Post read-run-Inv-loop read-run-μ-loop
+read-run-enum-known-next-2 t c = search needs
 
 read-run-on-requires-2 : (t : ℕ) → read-run-lts.Need-on-requires-2 (in-run t) (read-run-at t) read-run.Post read-run-Inv-loop read-run-μ-loop
 read-run-on-requires-2 t c κs = search needs
@@ -262,7 +263,7 @@ read-run-loop-less-3 t c =
     let u = gone-under _ _ _ _ _ _ _ (k .before .gone-short .ensures) (k .before .before .loop .inv) in
     let l = gone-less _ _ _ _ (k .before .gone-short .ensures) in
     let w = next-ahead _ _ _ _ (sym (k .next-at .ensures) ∙ c .before .before .before .before .before .before .k2 .given .1) in
-    let x = run-next _ _ _ _ _ (sym (c .before .before .before .before .object-on .ensures) ∙ c .before .before .next .given .1) in
+    let x = run-next _ _ _ _ _ (sym (c .before .before .before .before .object-on .ensures) ∙ c .before .before .next2 .given .1) in
     rw (c .on2 .ensures) (omega arith)
 
 read-run-loop-again-3 : (t : ℕ) → read-run-lts.Need-loop-again-3 (in-run t) (read-run-at t) read-run.Post read-run-Inv-loop read-run-μ-loop
@@ -270,7 +271,7 @@ read-run-loop-again-3 t c =
     let k = c .before .before .before .before .before .before .before .before in
     let u = gone-under _ _ _ _ _ _ _ (k .before .gone-short .ensures) (k .before .before .loop .inv) in
     rw (c .on2 .ensures) (
-      u .0 ∙ read _ _ _ _ _ _ _ _ _ (sym (k .next-at .ensures) ∙ c .before .before .before .before .before .before .k2 .given .1) (sym (c .before .before .before .before .object-on .ensures) ∙ c .before .before .next .given .1),
+      u .0 ∙ read _ _ _ _ _ _ _ _ _ (sym (k .next-at .ensures) ∙ c .before .before .before .before .before .before .k2 .given .1) (sym (c .before .before .before .before .object-on .ensures) ∙ c .before .before .next2 .given .1),
       u .1,
       u .2,
     )
@@ -310,9 +311,11 @@ pub +object-on+read-run-spec : {M : Type 1} → statement M
     (read-run-enum-known-k t)
     (read-run-ended-at-requires t)
     (read-run-returns-2 t)
+    (read-run-past-end-requires t)
+    (read-run-enum-told t)
     (read-run-at-place-requires t)
     (read-run-returns-3 t)
-    (read-run-out-requires t)
+    (read-run-enum-known-next t)
     (read-run-loop-less-2 t)
     (read-run-loop-again-2 t)
     (read-run-enum-known-k-2 t)
@@ -320,7 +323,7 @@ pub +object-on+read-run-spec : {M : Type 1} → statement M
     (read-run-object-on-requires t)
     (read-run-enum-known-r-2 t)
     (read-run-returns-4 t)
-    (read-run-enum-known-next t)
+    (read-run-enum-known-next-2 t)
     (read-run-on-requires-2 t)
     (read-run-loop-less-3 t)
     (read-run-loop-again-3 t)

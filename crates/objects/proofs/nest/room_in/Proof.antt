@@ -1,9 +1,9 @@
--- `nesting::room_in` meets its contract.
+-- `nest::room_in` meets its contract.
 -- Assumes nothing.
 use borrow.Author.Tests.{lt-ltb, le-ltb}
 use Rattle.objects.specs.Nest.{roomIn}
-use Rattle.objects.proofs.nesting.room_in.Statement.{statement}
-use Rattle.objects.proofs.nesting.room_in.Tie as tie
+use Rattle.objects.proofs.nest.room_in.Statement.{statement}
+use Rattle.objects.proofs.nest.room_in.Tie as tie
 
 returns : tie.Need-returns
 unfolding roomIn

@@ -1,4 +1,4 @@
--- `nesting::short_number` meets its contract.
+-- `header::short_number` meets its contract.
 -- Assumes nothing.
 use Prim.Native.Nat.{ℕ, _-_, _≤_, _<_}
 use native.Mathlib.Omega.{arith}
@@ -6,8 +6,8 @@ use borrow.Author.Tests.{lt-ltb, le-ltb}
 use Rattle.laws.proofs.Parts.{tail-part}
 use Rattle.objects.specs.Next.{shortNumber}
 use borrow.Author.Needs.{needs}
-use Rattle.objects.proofs.nesting.short_number.Statement.{statement}
-use Rattle.objects.proofs.nesting.short_number.Tie as tie
+use Rattle.objects.proofs.header.short_number.Statement.{statement}
+use Rattle.objects.proofs.header.short_number.Tie as tie
 
 less-than-two : (n at : ℕ) → n - 1 ≤ at → n - at < 2
 less-than-two n at h = omega arith

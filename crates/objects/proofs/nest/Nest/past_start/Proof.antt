@@ -1,12 +1,11 @@
--- `nesting::Nest::past_start` meets its contract.
+-- `nest::Nest::past_start` meets its contract.
 -- Assumes nothing.
 use native.Mathlib.Omega.{arith}
 use borrow.Author.Tests.{eq-eqb, ne-eqb}
 use Rattle.objects.specs.Nest.{pastStart}
-use Rattle.objects.proofs.Nested.{held-few}
 use borrow.Author.Needs.{needs}
-use Rattle.objects.proofs.nesting.Nest.past_start.Statement.{statement}
-use Rattle.objects.proofs.nesting.Nest.past_start.Tie as tie
+use Rattle.objects.proofs.nest.Nest.past_start.Statement.{statement}
+use Rattle.objects.proofs.nest.Nest.past_start.Tie as tie
 
 on-requires : tie.Need-on-requires
 on-requires c κs = search needs
@@ -24,7 +23,7 @@ into-requires c κs =
     let r = c .before .before .before .pre in
     let x = r .0 in
     let y = r .1 in
-    (omega arith, omega arith, held-few _ _ (omega arith) (r .2))
+    (omega arith, omega arith, r .2)
 
 returns-3 : tie.Need-returns-3
 unfolding pastStart

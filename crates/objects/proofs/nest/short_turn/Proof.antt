@@ -1,12 +1,12 @@
--- `nesting::short_turn` meets its contract.
+-- `nest::short_turn` meets its contract.
 -- Assumes nothing.
 use mathlib.Core.Path.{refl, sym, _∙_}
 use native.Mathlib.Omega.{arith}
 use Rattle.objects.proofs.Short.{short-room}
 use Rattle.objects.proofs.Gone.{start-turn, cut-turn, wide-turn, end-turn, other-turn}
 use borrow.Author.Needs.{needs}
-use Rattle.objects.proofs.nesting.short_turn.Statement.{statement}
-use Rattle.objects.proofs.nesting.short_turn.Tie as tie
+use Rattle.objects.proofs.nest.short_turn.Statement.{statement}
+use Rattle.objects.proofs.nest.short_turn.Tie as tie
 
 short-number-requires : tie.Need-short-number-requires
 short-number-requires c κs = search needs

@@ -1,4 +1,4 @@
--- `nesting::gone_short` meets its contract.
+-- `nest::gone_short` meets its contract.
 -- Assumes nothing.
 use mathlib.Core.Path.{_≡_, refl, sym, _∙_}
 use Prim.Native.Nat.{_-_}
@@ -6,8 +6,8 @@ use lib.ListN.{length}
 use Rattle.objects.specs.Nest.{Room, goneShort}
 use Rattle.objects.proofs.Gone.{turn-less, turn-room, gone-on, gone-stops}
 use borrow.Author.Needs.{needs}
-use Rattle.objects.proofs.nesting.gone_short.Statement.{statement}
-use Rattle.objects.proofs.nesting.gone_short.Tie as tie
+use Rattle.objects.proofs.nest.gone_short.Statement.{statement}
+use Rattle.objects.proofs.nest.gone_short.Tie as tie
 
 abbrev Inv-loop : tie.InvT-loop
 Inv-loop s room nest₀ nest = (goneShort s room nest₀ ≡ goneShort s room nest) × Room room nest

@@ -1,10 +1,10 @@
--- `nesting::Nest::past_end` meets its contract.
+-- `nest::Nest::past_end` meets its contract.
 -- Assumes nothing.
 use borrow.Author.Tests.{eq-eqb, ne-eqb}
 use Rattle.objects.specs.Nest.{pastEnd}
 use borrow.Author.Needs.{needs}
-use Rattle.objects.proofs.nesting.Nest.past_end.Statement.{statement}
-use Rattle.objects.proofs.nesting.Nest.past_end.Tie as tie
+use Rattle.objects.proofs.nest.Nest.past_end.Statement.{statement}
+use Rattle.objects.proofs.nest.Nest.past_end.Tie as tie
 
 returns : tie.Need-returns
 unfolding pastEnd
