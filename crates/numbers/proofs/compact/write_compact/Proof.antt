@@ -1,9 +1,9 @@
 -- `compact::write_compact` meets its contract: 0 is one byte; any other value is the number of its form.
 -- Assumes nothing.
-use mathlib.Core.Path.{_≡_}
+use mathlib.Core.Path.{_≡_, sym, ap, _∙_}
 use native.Mathlib.Omega.{arith}
 use lib.ListN.{length}
-use Rattle.numbers.specs.Compact.{compactBytes}
+use Rattle.numbers.specs.Compact.{sizeOf, compactBytes}
 use Rattle.numbers.proofs.Forms.{form-of-le, marked-lt, compact-is, length-compact}
 use Rattle.numbers.proofs.Calls.{wrote-short, wrote-done}
 use borrow.Author.Needs.{needs}
@@ -34,7 +34,8 @@ too-short-requires c κs = search needs
 returns-2 : tie.Need-returns-2
 returns-2 c =
     let a = c .before .before .before .before .before .before .args in
-    let e : length (compactBytes (a .v)) ≡ c .before .before .size-of .result = cc (length-compact (a .v) (c .before .before .before .before .if1 .left)) in
+    let e : length (compactBytes (a .v)) ≡ c .before .before .size-of .result =
+    length-compact (a .v) (c .before .before .before .before .if1 .left) ∙ ap sizeOf (sym (c .before .before .before .form-of .ensures)) ∙ sym (c .before .before .size-of .ensures) in
     rw (c .too-short .ensures) (wrote-short (compactBytes (a .v)) (a .out .now) (c .before .before .size-of .result) e (c .before .if2 .taken))
 
 put-form-requires : tie.Need-put-form-requires
@@ -51,8 +52,9 @@ returns-3 c =
     let a = c .before .before .before .before .before .before .before .before .before .args in
     let k = c .before .before .before .before .before in
     let n = k .before .before .if1 .left in
-    let e : length (compactBytes (a .v)) ≡ k .size-of .result = cc (length-compact (a .v) n) in
-    wrote-done (compactBytes (a .v)) (a .out .now) _ (k .size-of .result) e (c .before .before .before .before .if2 .left) (cc (compact-is (a .v) n))
+    let f = k .before .form-of .ensures in
+    let e : length (compactBytes (a .v)) ≡ k .size-of .result = length-compact (a .v) n ∙ ap sizeOf (sym f) ∙ sym (k .size-of .ensures) in
+    wrote-done (compactBytes (a .v)) (a .out .now) _ (k .size-of .result) e (c .before .before .before .before .if2 .left) (c .before .before .put-form .ensures ∙ rw (compact-is (a .v) n, k .size-of .ensures, f))
 
 pub write-compact-spec : {M : Type 1} → statement M
 write-compact-spec =

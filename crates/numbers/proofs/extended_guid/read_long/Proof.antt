@@ -1,6 +1,6 @@
 -- `extended_guid::read_long` meets its contract: the tests that led to a `return` say which case of `namedOf` holds.
 -- Assumes nothing.
-use mathlib.Core.Path.{_≡_}
+use mathlib.Core.Path.{_≡_, _∙_}
 use native.Mathlib.Omega.{arith}
 use borrow.Author.Tests.{lt-ltb, le-ltb}
 use Prim.Native.Nat.{_^_, _<_}
@@ -61,7 +61,7 @@ cast-t14 c =
     let s = k .before .before .before .before .args .s .now in
     let b = take-bytes 4 (drop 17 s) (drop-bytes 17 s (λ i. k .before .before .before .shared-slice-known .given i .fits)) in
     let l : le (take 4 (drop 17 s)) < 256 ^ 4 = le-lt 4 (take 4 (drop 17 s)) (simp length-take (omega arith)) b in
-    let e : k .read-le .result ≡ le (take 4 (drop 17 s)) = cc (tail-part 17 s) in
+    let e : k .read-le .result ≡ le (take 4 (drop 17 s)) = k .read-le .ensures ∙ rw (tail-part 17 s) in
     omega arith
 
 returns-3 : tie.Need-returns-3
@@ -69,7 +69,7 @@ unfolding longForm namedOf
 returns-3 c =
     let k = c .before .before .before in
     let s = k .before .before .before .before .args .s .now in
-    let e : k .read-le .result ≡ le (take 4 (drop 17 s)) = cc (tail-part 17 s) in
+    let e : k .read-le .result ≡ le (take 4 (drop 17 s)) = k .read-le .ensures ∙ rw (tail-part 17 s) in
     let h = rw e at (c .before .before .if2 .left) in
     rw (le-ltb _ _ (k .before .before .if1 .left), le-ltb _ _ h, e, c .guid-at .ensures, tail-part 1 s)
 

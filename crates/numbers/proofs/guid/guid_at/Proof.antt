@@ -25,7 +25,7 @@ returns : tie.Need-returns
 unfolding guidAt
 returns c =
     let s = c .before .before .before .before .args .s .now in
-    cc (tail-part 8 s)
+    rw (c .before .before .read-le .ensures, c .read-le2 .ensures, tail-part 8 s)
 
 pub guid-at-spec : {M : Type 1} → statement M
 guid-at-spec =

@@ -1,9 +1,10 @@
 -- `knowledge_write::ranges_length` meets its contract. The invariant: with the bytes of the rows still to come, n is the whole.
 -- Assumes nothing.
-use mathlib.Core.Path.{_≡_}
+use mathlib.Core.Path.{_≡_, ap, _∙_}
 use Prim.Native.Nat.{_+_, _-_, _*_, _≤_, _<_}
 use native.Mathlib.Omega.{arith}
 use lib.ListN.{length}
+use Rattle.talk.specs.declared.range.Range.{Range}
 use Rattle.store.specs.RangeTable.{rangeAt, rangesAt}
 use Rattle.store.specs.KnowledgeWritten.{rangeBytes, rangesBytes}
 use Rattle.store.proofs.KnowledgeLengths.{length-turn, length-end}
@@ -40,7 +41,8 @@ loop-again c =
     let l = c .before .before .before in
     let a = l .before .before .args in
     let h : l .loop .i < a .rows = omega arith in
-    let e : c .range-length .result ≡ length (rangeBytes (rangeAt (a .table .now) (l .loop .i))) = cc in
+    let e : c .range-length .result ≡ length (rangeBytes (rangeAt (a .table .now) (l .loop .i))) =
+    c .range-length .ensures .0 ∙ ap (λ (x : Range). length (rangeBytes x)) (c .before .range-at .ensures) in
     (omega arith, omega (arith, e, length-turn (a .table .now) (l .loop .i) (a .rows) h), omega arith)
 
 returns : tie.Need-returns Inv-loop μ-loop

@@ -49,7 +49,7 @@ returns c =
     let a = l .before .before .args in
     let h : l .loop .i < a .n = omega arith in
     let x = keyAt (a .t .now) (l .loop .i * a .width + a .offset) in
-    let e : sameKey (a .k) x ≡ true = cc in
+    let e : sameKey (a .k) x ≡ true = ap (sameKey (a .k)) (sym (c .before .before .key-at .ensures)) ∙ sym (c .before .same-key .ensures) ∙ c .if1 .taken in
     let t = keys-turn (a .t .now) (a .width) (a .offset) (l .loop .i) (a .n) h in
     sym (l .loop .inv .1 ∙ ap (seen sameKey (a .k)) t ∙ seen-first (a .k) x _ e)
 
@@ -65,7 +65,7 @@ loop-again c =
     let a = l .before .before .args in
     let h : l .loop .i < a .n = omega arith in
     let x = keyAt (a .t .now) (l .loop .i * a .width + a .offset) in
-    let e : sameKey (a .k) x ≡ false = cc in
+    let e : sameKey (a .k) x ≡ false = ap (sameKey (a .k)) (sym (c .before .before .key-at .ensures)) ∙ sym (c .before .same-key .ensures) ∙ c .if1 .left in
     let t = keys-turn (a .t .now) (a .width) (a .offset) (l .loop .i) (a .n) h in
     (omega arith, l .loop .inv .1 ∙ ap (seen sameKey (a .k)) t ∙ seen-later (a .k) x _ e)
 
