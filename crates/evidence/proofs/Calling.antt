@@ -23,7 +23,7 @@ use Rattle.client.specs.Read.{longestAnswer, answerIn, answerEnd, answerOn}
 use Rattle.client.specs.declared.answer.Received.{Received}
 use Rattle.client.specs.declared.answer.ReadAnswer.the-variants as read
 use Rattle.client.proofs.CallBack.{call-back}
-use Rattle.hub.specs.Report.{threeNumbers}
+use Rattle.report.specs.Report.{threeNumbers}
 use Rattle.hub.specs.Call.{reportBytes, hubOutcome, HubAnswers}
 use Rattle.hub.proofs.Laws.{tables-enough}
 use Rattle.evidence.proofs.Refusals.{by-tables, refused-why, why-fault}

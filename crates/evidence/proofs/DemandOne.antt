@@ -36,7 +36,7 @@ use Rattle.client.specs.AskWritten.{askBytes}
 use Rattle.client.specs.Ask.{askWrote}
 use Rattle.client.specs.Back.{ReadBack}
 use Rattle.client.proofs.NextAsk.{written-reads}
-use Rattle.hub.specs.Report.{refusalReport}
+use Rattle.report.specs.Report.{refusalReport}
 use Rattle.hub.specs.Call.{HubAnswers}
 use Rattle.hub.specs.Bench.{HubAsks, HubReads, HubFinds}
 use Rattle.hub.proofs.Laws.{gives-no-thirteen}

@@ -53,7 +53,7 @@ use Rattle.client.specs.Read.{statusByte, responseFields, responseStart, packag
 use Rattle.client.specs.declared.answer.Received.{Received}
 use Rattle.client.specs.declared.answer.ReadAnswer.{ReadAnswer}
 use Rattle.client.specs.declared.answer.ReadAnswer.the-variants as read
-use Rattle.hub.specs.Report.{numbersBytes}
+use Rattle.report.specs.Report.{numbersBytes}
 use Rattle.hub.specs.Call.{reportBytes, hubOutcome}
 use Rattle.hub.specs.Bench.{wroteReport, reportAfter}
 use Rattle.talk.specs.Series.{Chain}

@@ -16,9 +16,9 @@ use Rattle.numbers.specs.declared.extended_guid.ExtendedGuid.the-variants as id
 use Rattle.client.specs.Read.{idNumbers, receivedNumbers}
 use Rattle.client.specs.declared.answer.Received.{Received}
 use Rattle.client.specs.declared.answer.ReadAnswer.the-variants as answer
-use Rattle.hub.specs.Report.{numbersBytes, threeNumbers}
+use Rattle.report.specs.Report.{numbersBytes, threeNumbers}
 use Rattle.hub.specs.Bench.{receivedReport, reportAfter}
-use Rattle.hub.proofs.Reports.{length-numbers}
+use Rattle.report.proofs.Numbers.{length-numbers}
 use Rattle.evidence.specs.Calling.{reportNumber}
 
 -- ---- any numbers

@@ -28,7 +28,7 @@ use Rattle.client.specs.Ask.{askWrote, outputAfter as requestAfter}
 use Rattle.client.specs.Read.{answerIn, tellReadAnswer}
 use Rattle.client.specs.declared.answer.ReadAnswer.{ReadAnswer}
 use Rattle.client.specs.declared.answer.ReadAnswer.the-variants as answer
-use Rattle.hub.specs.Report.{refusalReport}
+use Rattle.report.specs.Report.{refusalReport}
 use Rattle.hub.specs.Call.{reportBytes, hubOutcome, HubGives, HubAnswers}
 use Rattle.hub.specs.Bench.{wroteReport, HubWrites, reportAfter, elementFound, foundReport, HubAsks, HubReads, HubFinds}
 use Rattle.evidence.specs.Refusing.{Fault, Why}

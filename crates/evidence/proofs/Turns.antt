@@ -30,7 +30,7 @@ use Rattle.client.specs.declared.answer.ReadAnswer.the-variants as answer
 use Rattle.client.proofs.AskAgain.{knowledge-size, knowledge-sent-back}
 use Rattle.client.proofs.AskRead.{ask-read}
 use Rattle.client.proofs.NextAsk.{filters-fine, knowledge-fine, room-enough}
-use Rattle.hub.specs.Report.{threeNumbers}
+use Rattle.report.specs.Report.{threeNumbers}
 use Rattle.hub.specs.Bench.{wroteReport, HubAsks, reportAfter, HubReads}
 use Rattle.evidence.specs.Calling.{reportNumber, GivesAnswer, exported}
 use Rattle.evidence.specs.Talk.{AnsweredAsk, Talk, rangesIn}

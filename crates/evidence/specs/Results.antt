@@ -20,7 +20,7 @@ use Rattle.client.specs.AskWritten.{askBytes}
 use Rattle.client.specs.Read.{answerIn}
 use Rattle.client.specs.declared.answer.Received.{Received}
 use Rattle.client.specs.declared.answer.ReadAnswer.the-variants as answer
-use Rattle.hub.specs.Report.{threeNumbers, refusalReport}
+use Rattle.report.specs.Report.{threeNumbers, refusalReport}
 use Rattle.hub.specs.Bench.{reportAfter, elementFound}
 use Rattle.evidence.specs.Refusing.{Fault}
 

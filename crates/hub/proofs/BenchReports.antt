@@ -19,7 +19,7 @@ use Rattle.client.specs.Read.{receivedNumbers, tellReadAnswer}
 use Rattle.client.specs.declared.answer.Received.{Received}
 use Rattle.client.specs.declared.answer.ReadAnswer.{ReadAnswer}
 use Rattle.client.specs.declared.answer.ReadAnswer.the-variants as answer
-use Rattle.hub.specs.Report.{threeNumbers, refusalReport}
+use Rattle.report.specs.Report.{threeNumbers, refusalReport}
 use Rattle.hub.specs.Bench.{wroteReport, HubWrites, reportAfter, foundReport}
 use Rattle.hub.proofs.Reports.{same-refusal}
 

@@ -22,7 +22,7 @@ use Rattle.client.specs.AskWritten.{userAgentBytes, subRequestData, subRequestB
 use Rattle.client.specs.Ask.{noMore, filtersGiven, knowledgeOf, knowledgeGiven, writtenIn, judgedKnowledge, judgedFilters, askWrote, outputAfter}
 use Rattle.client.specs.Read.{responseStart, subResponse, changes, knowledgeIn, endsOf, restOf, answerEnd, answerOn, answerIn}
 use Rattle.client.specs.Accessor.{receivedAt}
-use Rattle.hub.specs.Report.{numbersBytes}
+use Rattle.report.specs.Report.{numbersBytes}
 use Rattle.hub.specs.Call.{reportBytes, HubAnswers}
 use Rattle.hub.specs.Bench.{elementFound, reportAfter, HubAsks, HubReads, HubFinds}
 

@@ -21,7 +21,7 @@ use Rattle.client.specs.Accessor.{receivedAt}
 use Rattle.client.specs.declared.answer.Received.{Received}
 use Rattle.client.specs.declared.answer.ReadAnswer.{ReadAnswer}
 use Rattle.client.specs.declared.answer.ReadAnswer.the-variants as answer
-use Rattle.hub.specs.Report.{numbersBytes, threeNumbers, refusalReport}
+use Rattle.report.specs.Report.{numbersBytes, threeNumbers, refusalReport}
 
 -- ---- a request written: on success 0, 0 and its length
 

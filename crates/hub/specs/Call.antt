@@ -8,7 +8,7 @@ use mathlib.Core.List.{List}
 use lib.ListN.{length}
 use Rattle.laws.specs.Placed.{placed}
 use Rattle.pages.specs.Answer.{Outcome, refused, answered, numberIn, answerOf, outputAfter}
-use Rattle.hub.specs.Report.{threeNumbers, refusalReport}
+use Rattle.report.specs.Report.{threeNumbers, refusalReport}
 
 -- the report: "input (0 or 1), place and length"
 unfoldable pub reportBytes : Outcome → List ℕ

@@ -1,3 +1,2 @@
-pub mod Report
 pub mod Call
 pub mod Bench

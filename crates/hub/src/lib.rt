@@ -3,11 +3,9 @@
 ghost use mathlib.Core.Path.{_≡_};
 ghost use mathlib.Core.List.{_∷_, []};
 ghost use Rattle.laws.specs.Pick.{pick};
-ghost use Rattle.laws.specs.Placed.{placed};
 ghost use Rattle.store.specs.Accessor.{tellFound};
 ghost use Rattle.client.specs.Read.{idNumbers};
 ghost use Rattle.client.specs.declared.answer.ReadAnswer.the-variants.{Is};
-ghost use Rattle.hub.specs.Report.{numbersBytes, refusalReport};
 ghost use Rattle.hub.specs.Call.{HubAnswers};
 ghost use Rattle.hub.specs.Bench.{elementFound, reportAfter, HubAsks, HubReads, HubFinds};
 use client::accessor::find_received;
@@ -16,37 +14,14 @@ use client::answer::Received;
 use client::answer::read_answer;
 use client::ask::write_request;
 use numbers::extended_guid::ExtendedGuid;
-use numbers::refusal::Refusal;
 use numbers::refusal::Wrote;
 use pages::answer::Answered;
 use pages::answer::answer;
+use report::done;
+use report::put_report;
+use report::refuse;
 use store::accessor::Found;
 use store::accessor::find_element;
-use store::lay::lay_le;
-
-// The numbers of a report, 8 bytes each; a slice that is too short for all of them is left alone.
-fn put_report(report: &mut [u8], numbers: &[u64])
-    ensures { λ _. ⌜ now (report .exit) ≡ placed (numbersBytes (now (numbers .entry))) (now (report .entry)) ⌝ }
-{
-    let n = numbers.len();
-    if report.len() / 8 < n {
-        return;
-    }
-    let mut at = 0;
-    let mut i = 0;
-    while i < n {
-        at = lay_le(report, at, 8, numbers[i]);
-        i += 1;
-    }
-}
-
-// A refusal's own report, and its number.
-fn refuse(report: &mut [u8], r: Refusal) -> u64
-    ensures { λ n. ⌜ (n ≡ r .number) × (now (report .exit) ≡ placed (refusalReport r) (now (report .entry))) ⌝ }
-{
-    put_report(report, &[r.input as u64, r.place as u64, r.needed as u64]);
-    r.number as u64
-}
 
 // One answer to one request: 0 if the output has it, else the refusal's number. The report tells the rest. Ruled out
 // (proofs/WrongAnswers), of no store and no request: 0; a report of one byte that is written to.
@@ -58,10 +33,7 @@ pub extern "C" fn hub_answer(store: &[u8], request: &[u8], out: &mut [u8], repor
     let mut ranges = [0u64; 2048];
     match answer(store, request, &mut rows, &mut ranges, out) {
         Answered::Refused(r) => refuse(report, r),
-        Answered::Sent(n, _, _) => {
-            put_report(report, &[0, 0, n as u64]);
-            0
-        }
+        Answered::Sent(n, _, _) => done(report, 0, n),
     }
 }
 
@@ -80,10 +52,7 @@ pub extern "C" fn hub_ask(
 {
     match write_request(out, id, limit, filters, knowledge) {
         Wrote::Refused(r) => refuse(report, r),
-        Wrote::Done(n) => {
-            put_report(report, &[0, 0, n as u64]);
-            0
-        }
+        Wrote::Done(n) => done(report, 0, n),
     }
 }
 
@@ -130,8 +99,7 @@ fn put_received(report: &mut [u8], x: Received)
 {
     let named = x.index;
     let index = index_numbers(named);
-    let three = [0, x.knowledge as u64, x.length as u64];
-    put_report(report, &three);
+    done(report, x.knowledge, x.length);
     let all = [
         0,
         x.knowledge as u64,
@@ -180,9 +148,6 @@ pub extern "C" fn hub_element(kind: u64, bytes: &[u8], position: u64, report: &m
 {
     match find_in(kind, bytes, position as usize) {
         Found::Refused(r) => refuse(report, r),
-        Found::At(at, n) => {
-            put_report(report, &[0, at as u64, n as u64]);
-            0
-        }
+        Found::At(at, n) => done(report, at, n),
     }
 }

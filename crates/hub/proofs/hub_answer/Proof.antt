@@ -23,11 +23,8 @@ refuse-requires c κs = search needs
 enum-known-n : tie.Need-enum-known-n
 enum-known-n c = search needs
 
-slice-aggregate-put-report : tie.Need-slice-aggregate-put-report
-slice-aggregate-put-report c = search needs
-
-put-report-requires : tie.Need-put-report-requires
-put-report-requires c κs = search needs
+done-requires : tie.Need-done-requires
+done-requires c κs = search needs
 
 same-length : tie.Need-same-length
 same-length c = search needs
@@ -50,9 +47,10 @@ same-length-4 c = search needs
 
 returns-2 : tie.Need-returns-2
 returns-2 c =
-    let k = c .before .before .before .before .before .before .before .before .before .before .before .before in
-    let out = c .before .before .before .before .before .before .before .before .before .before .before .before .before .before .before .before .before .before .before .before .args .out .now in
-    hub-sent _ _ _ _ out _ _ _ _ _ _ (rw (c .before .before .before .before .before .before .n .given .1) at (k .answer .ensures)) (c .before .before .put-report .ensures)
+    let k = c .before .before .before .before .before .before .before .before .before .before .before in
+    let out = c .before .before .before .before .before .before .before .before .before .before .before .before .before .before .before .before .before .before .before .args .out .now in
+    let f = c .before .before .done .ensures in
+    rw (f .0) (hub-sent _ _ _ _ out _ _ _ _ _ _ (rw (c .before .before .before .before .before .n .given .1) at (k .answer .ensures)) (f .1))
 
 pub hub-answer-spec : {M : Type 1} → statement M
 hub-answer-spec =
@@ -64,8 +62,7 @@ hub-answer-spec =
     enum-known-r
     refuse-requires
     enum-known-n
-    slice-aggregate-put-report
-    put-report-requires
+    done-requires
     same-length
     same-length-2
     returns

@@ -17,11 +17,8 @@ refuse-requires c κs = search needs
 enum-known-n : tie.Need-enum-known-n
 enum-known-n c = search needs
 
-slice-aggregate-put-report : tie.Need-slice-aggregate-put-report
-slice-aggregate-put-report c = search needs
-
-put-report-requires : tie.Need-put-report-requires
-put-report-requires c κs = search needs
+done-requires : tie.Need-done-requires
+done-requires c κs = search needs
 
 same-length : tie.Need-same-length
 same-length c = search needs
@@ -43,8 +40,9 @@ same-length-4 c = search needs
 
 returns-2 : tie.Need-returns-2
 returns-2 c =
-    let k = c .before .before .before .before .before .before .before .before .before .before in
-    hub-wrote _ _ _ _ _ _ (c .before .before .before .before .before .before .n .given .0 .0) (rw (c .before .before .before .before .before .before .n .given .1) at (k .write-request .ensures)) (c .before .before .put-report .ensures)
+    let k = c .before .before .before .before .before .before .before .before .before in
+    let f = c .before .before .done .ensures in
+    rw (f .0) (hub-wrote _ _ _ _ _ _ (c .before .before .before .before .before .n .given .0 .0) (rw (c .before .before .before .before .before .n .given .1) at (k .write-request .ensures)) (f .1))
 
 pub hub-ask-spec : {M : Type 1} → statement M
 hub-ask-spec =
@@ -54,8 +52,7 @@ hub-ask-spec =
     enum-known-r
     refuse-requires
     enum-known-n
-    slice-aggregate-put-report
-    put-report-requires
+    done-requires
     same-length
     same-length-2
     returns

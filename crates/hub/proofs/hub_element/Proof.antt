@@ -22,11 +22,8 @@ refuse-requires c κs = search needs
 enum-known-at : tie.Need-enum-known-at
 enum-known-at c = search needs
 
-slice-aggregate-put-report : tie.Need-slice-aggregate-put-report
-slice-aggregate-put-report c = search needs
-
-put-report-requires : tie.Need-put-report-requires
-put-report-requires c κs = search needs
+done-requires : tie.Need-done-requires
+done-requires c κs = search needs
 
 same-length : tie.Need-same-length
 same-length c = search needs
@@ -42,8 +39,9 @@ same-length-2 c = search needs
 
 returns-2 : tie.Need-returns-2
 returns-2 c =
-    let t = found-told _ (c .before .before .before .before .before .before .at .given .0 .0) (c .before .before .before .before .before .before .at .given .0 .1 .0) (ap tellFound (sym (c .before .before .before .before .before .before .at .given .1)) ∙ c .before .before .before .before .before .before .before .before .find-in .ensures) in
-    (t .0, c .before .before .put-report .ensures ∙ ap (λ (v : List ℕ). placed v (c .before .before .before .before .before .before .before .before .before .before .before .args .report .now)) (t .1))
+    let f = c .before .before .done .ensures in
+    let t = found-told _ (c .before .before .before .before .before .at .given .0 .0) (c .before .before .before .before .before .at .given .0 .1 .0) (ap tellFound (sym (c .before .before .before .before .before .at .given .1)) ∙ c .before .before .before .before .before .before .before .find-in .ensures) in
+    (f .0 ∙ t .0, f .1 ∙ ap (λ (v : List ℕ). placed v (c .before .before .before .before .before .before .before .before .before .before .args .report .now)) (t .1))
 
 pub hub-element-spec : {M : Type 1} → statement M
 hub-element-spec =
@@ -53,8 +51,7 @@ hub-element-spec =
     enum-known-r
     refuse-requires
     enum-known-at
-    slice-aggregate-put-report
-    put-report-requires
+    done-requires
     same-length
     returns
     same-length-2

@@ -8,10 +8,10 @@ use lib.Seq.{take-all}
 use Rattle.laws.specs.Bytes.{bytes}
 use Rattle.laws.specs.Placed.{Lays}
 use Rattle.laws.proofs.Numbers.{length-bytes}
-use Rattle.hub.specs.Report.{numbersBytes}
-use Rattle.hub.proofs.Reports.{numbers-then, numbers-short, numbers-placed}
-use Rattle.hub.proofs.put_report.Statement.{statement}
-use Rattle.hub.proofs.put_report.Tie as tie
+use Rattle.report.specs.Report.{numbersBytes}
+use Rattle.report.proofs.Numbers.{numbers-then, numbers-short, numbers-placed}
+use Rattle.report.proofs.put_report.Statement.{statement}
+use Rattle.report.proofs.put_report.Tie as tie
 
 abbrev Inv-loop : tie.InvT-loop
 Inv-loop report₀ numbers n at₀ i₀ report at i =
