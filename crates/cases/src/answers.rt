@@ -42,32 +42,6 @@ fn lent(line: &[u8], out: &[u8]) -> Rooms
     }
 }
 
-// The row at a place of the knowledge table, behind a mark. The lent table has its GUIDs as little-endian numbers, which are told
-// as they stand.
-fn range_row(mark: &[u8], t: &[u64], at: usize)
-    requires { ⌜ at + 4 ≤ length (now t) ⌝ }
-{
-    say::marked(mark, t[at]);
-    say::marked(b",", t[at + 1]);
-    say::marked(b",", t[at + 2]);
-    say::marked(b",", t[at + 3])
-}
-
-// The first n rows of the knowledge table.
-fn every_range_row(t: &[u64], n: usize)
-    requires { ⌜ n * 4 ≤ length (now t) ⌝ }
-{
-    if n == 0 {
-        return say::text(b" -");
-    }
-    range_row(b" ", t, 0);
-    let mut i = 1;
-    while i < n {
-        range_row(b";", t, i * 4);
-        i += 1;
-    }
-}
-
 // Whether the output from a place on and both tables from theirs hold what they held.
 fn kept(out: &[u8], at: usize, rows: &[u64], row: usize, ranges: &[u64], range: usize) -> bool
     requires { ⌜ (at ≤ length (now out)) × (row ≤ length (now rows)) × (range ≤ length (now ranges)) ⌝ }
@@ -87,27 +61,28 @@ fn sent(whole: usize, n: usize, count: usize, out: &[u8], rows: &[u64], ranges: 
     requires { ⌜ (1536 ≤ length (now rows)) × (2048 ≤ length (now ranges)) ⌝ }
 {
     if out.len() < whole {
-        return say::text(b"touched");
+        return say::touched();
     }
     if MOST_ELEMENTS < n {
-        return say::text(b"touched");
+        return say::touched();
     }
     if MOST_RANGES < count {
-        return say::text(b"touched");
+        return say::touched();
     }
     if !kept(out, whole, rows, n * 6, ranges, count * 4) {
-        return say::text(b"touched");
+        return say::touched();
     }
-    say::text(b"ok");
+    say::ok();
     say::bytes(&out[0..whole]);
-    stores::every_row(rows, n);
-    every_range_row(ranges, count)
+    say::table(rows, n * 6, 6, 0);
+    // its GUIDs are little-endian numbers, which are told as they stand
+    say::table(ranges, count * 4, 4, 0)
 }
 
 // A refusal; or that something was changed.
 fn refused(r: Refusal, out: &[u8], rows: &[u64], ranges: &[u64]) {
     if !kept(out, 0, rows, 0, ranges, 0) {
-        return say::text(b"touched");
+        return say::touched();
     }
     say::refusal(r)
 }
@@ -164,7 +139,7 @@ pub(crate) fn answered(line: &[u8], space: &mut [u8]) {
     let first = words::bytes(words::word(line, 1), space);
     let n = first.count;
     let second = words::bytes(words::word(line, 2), &mut space[n..]);
-    if !first.good || !second.good {
+    if !words::all(first.good, second.good, true, true) {
         return say::bad();
     }
     let end = n + second.count;

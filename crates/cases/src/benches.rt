@@ -48,7 +48,7 @@ fn output_lent(line: &[u8], id: u64, limit: u64, filters: &[u8], knowledge: &[u8
 fn numbered(line: &[u8], filters: &[u8], knowledge: &[u8]) {
     let id = words::number(words::word(line, 1));
     let limit = words::number(words::word(line, 2));
-    if !id.good || !limit.good {
+    if !words::all(id.good, limit.good, true, true) {
         return say::bad();
     }
     output_lent(line, id.value, limit.value, filters, knowledge)
@@ -59,7 +59,7 @@ pub(crate) fn asked(line: &[u8], space: &mut [u8]) {
     let first = words::bytes(words::word(line, 3), space);
     let n = first.count;
     let second = words::bytes(words::word(line, 4), &mut space[n..]);
-    if !first.good || !second.good {
+    if !words::all(first.good, second.good, true, true) {
         return say::bad();
     }
     let end = n + second.count;
@@ -90,7 +90,7 @@ fn mark(partial: bool) {
 }
 
 fn received(x: Received) {
-    say::text(b"ok");
+    say::ok();
     say::number(x.id);
     mark(x.partial);
     let named = x.index;
@@ -115,14 +115,14 @@ fn at_position(s: &[u8], position: usize) {
     match find_received(s, position) {
         Found::At(at, n) => {
             if !stands_at(s, at, n, part) {
-                return say::text(b"apart");
+                return say::apart();
             }
-            say::text(b"ok");
+            say::ok();
             say::bytes(part)
         }
         Found::Refused(r) => {
             if part.len() != 0 {
-                return say::text(b"apart");
+                return say::apart();
             }
             say::refusal(r)
         }
@@ -133,7 +133,7 @@ fn at_position(s: &[u8], position: usize) {
 pub(crate) fn element(line: &[u8], space: &mut [u8]) {
     let given = words::bytes(words::word(line, 1), space);
     let position = words::number(words::word(line, 2));
-    if !given.good || !position.good {
+    if !words::all(given.good, position.good, true, true) {
         return say::bad();
     }
     let n = given.count;

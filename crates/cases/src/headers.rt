@@ -44,7 +44,7 @@ pub(crate) fn wstart(line: &[u8], out: &mut [u8]) {
     let compound = words::number(words::word(line, 2));
     let length = words::number(words::word(line, 3));
     let room = words::lent(words::word(line, 4), out);
-    if !kind.good || !compound.good || !length.good || !room.good {
+    if !words::all(kind.good, compound.good, length.good, room.good) {
         return say::bad();
     }
     if 1 < compound.value {
@@ -64,7 +64,7 @@ pub(crate) fn wstart(line: &[u8], out: &mut [u8]) {
 pub(crate) fn wend(line: &[u8], out: &mut [u8]) {
     let kind = words::number(words::word(line, 1));
     let room = words::lent(words::word(line, 2), out);
-    if !kind.good || !room.good {
+    if !words::all(kind.good, room.good, true, true) {
         return say::bad();
     }
     let n = room.count;

@@ -14,7 +14,7 @@ use numbers::serial::Serial;
 pub(crate) fn compact(s: &[u8]) {
     match numbers::compact::read_compact(s) {
         Compact::Value(value, used) => {
-            say::text(b"ok");
+            say::ok();
             say::number(value);
             say::number(used as u64)
         }
@@ -24,7 +24,7 @@ pub(crate) fn compact(s: &[u8]) {
 
 // A GUID, a number and the bytes used; null is all zeros.
 fn named(g: Guid, number: u64, used: usize) {
-    say::text(b"ok");
+    say::ok();
     say::guid(g);
     say::number(number);
     say::number(used as u64)
@@ -60,7 +60,7 @@ pub(crate) fn serial(s: &[u8]) {
 pub(crate) fn wcompact(line: &[u8], out: &mut [u8]) {
     let given = words::number(words::word(line, 1));
     let room = words::lent(words::word(line, 2), out);
-    if !given.good || !room.good {
+    if !words::all(given.good, room.good, true, true) {
         return say::bad();
     }
     let n = room.count;

@@ -10,7 +10,6 @@ use crate::stores::UNTOUCHED;
 use crate::stores::untouched;
 use crate::words;
 use numbers::guid::Guid;
-use numbers::guid::swap;
 use numbers::refusal::Refusal;
 use objects::reading::Reading;
 use store::knowledge::MOST_RANGES;
@@ -25,30 +24,12 @@ const SUB_REQUEST: u64 = 0x42;
 
 const LEVELS: usize = 12;
 
-// The row at a place of the table, behind a mark. The working table has a GUID as two numbers with the first byte highest;
-// document 01's knowledge table has little-endian numbers, and these are told.
-fn row(mark: &[u8], t: &[u64], at: usize)
-    requires { ⌜ at + 4 ≤ length (now t) ⌝ }
-{
-    say::marked(mark, swap(t[at]));
-    say::marked(b",", swap(t[at + 1]));
-    say::marked(b",", t[at + 2]);
-    say::marked(b",", t[at + 3])
-}
-
-// The first n rows of the table.
+// The first n rows of the table. The working table has a GUID as two numbers with the first byte highest; document 01's
+// knowledge table has little-endian numbers, and these are told.
 pub(crate) fn every_row(t: &[u64], n: usize)
     requires { ⌜ n * 4 ≤ length (now t) ⌝ }
 {
-    if n == 0 {
-        return say::text(b" -");
-    }
-    row(b" ", t, 0);
-    let mut i = 1;
-    while i < n {
-        row(b";", t, i * 4);
-        i += 1;
-    }
+    say::table(t, n * 4, 4, 2)
 }
 
 // Whether no number was changed behind the rows of 512 ranges. Before that a row may be left from before it was joined with
@@ -65,12 +46,12 @@ fn held(place: usize, n: usize, t: &[u64])
     requires { ⌜ 2048 ≤ length (now t) ⌝ }
 {
     if MOST_RANGES < n {
-        return say::text(b"touched");
+        return say::touched();
     }
     if !kept(t) {
-        return say::text(b"touched");
+        return say::touched();
     }
-    say::text(b"ok");
+    say::ok();
     say::number(place as u64);
     every_row(t, n)
 }
@@ -80,7 +61,7 @@ pub(crate) fn refused(r: Refusal, t: &[u64])
     requires { ⌜ 2048 ≤ length (now t) ⌝ }
 {
     if !kept(t) {
-        return say::text(b"touched");
+        return say::touched();
     }
     say::refusal(r)
 }
@@ -113,10 +94,10 @@ fn written(t: &[u64], n: usize, out: &mut [u8], room: usize)
     requires { ⌜ (2048 ≤ length (now t)) × (room ≤ length (now out)) ⌝ }
 {
     if MOST_RANGES < n {
-        return say::text(b"touched");
+        return say::touched();
     }
     if !kept(t) {
-        return say::text(b"touched");
+        return say::touched();
     }
     let wrote = write_knowledge(&mut out[0..room], t, n);
     say::written(wrote, out)
@@ -138,11 +119,16 @@ pub(crate) fn rewritten(line: &[u8], space: &mut [u8]) {
     let mut out = output_space();
     let given = words::bytes(words::word(line, 1), space);
     let room = words::lent(words::word(line, 2), &out);
-    if !given.good || !room.good {
+    if !words::all(given.good, room.good, true, true) {
         return say::bad();
     }
     let n = given.count;
     read_and_written(&space[0..n], &mut out, room.count)
+}
+
+fn known_is(n: u64) {
+    say::ok();
+    say::number(n)
 }
 
 // Whether the number is known under the GUID; or that numbers behind all rows were changed.
@@ -150,15 +136,15 @@ fn asked(t: &[u64], n: usize, g: Guid, number: u64)
     requires { ⌜ (2048 ≤ length (now t)) × Normal (rangesAt (now t) 0 n) ⌝ }
 {
     if MOST_RANGES < n {
-        return say::text(b"touched");
+        return say::touched();
     }
     if !kept(t) {
-        return say::text(b"touched");
+        return say::touched();
     }
     if is_known(t, n, g, number) {
-        return say::text(b"ok 1");
+        return known_is(1);
     }
-    say::text(b"ok 0")
+    known_is(0)
 }
 
 // The knowledge at the front of s, asked for one number.
@@ -175,7 +161,7 @@ pub(crate) fn known(line: &[u8], space: &mut [u8]) {
     let given = words::bytes(words::word(line, 1), space);
     let id = words::guid(words::word(line, 2));
     let number = words::number(words::word(line, 3));
-    if !given.good || !id.good || !number.good {
+    if !words::all(given.good, id.good, number.good, true) {
         return say::bad();
     }
     let n = given.count;

@@ -29,38 +29,28 @@ fn output_space() -> [u8; 512] {
     [say::UNTOUCHED; 512]
 }
 
-// Here and below a mode is one test and one function, which writes the result; `one_line` ends the line. These read a whole.
-fn whole(mode: &[u8], s: &[u8]) {
-    if check::same(mode, b"store") {
-        return stores::rows(s);
+// Here and below a mode is the number of its word (words::code), which is written above it, and one function, which writes the
+// result; `one_line` ends the line. These read a single item or a whole.
+fn item(mode: u64, s: &[u8]) {
+    match mode {
+        // compact
+        3738698868 => items::compact(s),
+        // exguid
+        193189156 => items::exguid(s),
+        // serial
+        643376172 => items::serial(s),
+        // header
+        273715378 => headers::header(s),
+        // store
+        20594245 => stores::rows(s),
+        // knowledge
+        12592554873061 => knowledges::rows(s),
+        // request
+        19513644660 => requests::message(s),
+        // read
+        594980 => benches::read(s),
+        _ => say::bad(),
     }
-    if check::same(mode, b"knowledge") {
-        return knowledges::rows(s);
-    }
-    if check::same(mode, b"request") {
-        return requests::message(s);
-    }
-    if check::same(mode, b"read") {
-        return benches::read(s);
-    }
-    say::bad()
-}
-
-// And these a single item.
-fn item(mode: &[u8], s: &[u8]) {
-    if check::same(mode, b"compact") {
-        return items::compact(s);
-    }
-    if check::same(mode, b"exguid") {
-        return items::exguid(s);
-    }
-    if check::same(mode, b"serial") {
-        return items::serial(s);
-    }
-    if check::same(mode, b"header") {
-        return headers::header(s);
-    }
-    whole(mode, s)
 }
 
 // `MODE HEX`
@@ -70,68 +60,60 @@ fn two_words(line: &[u8], space: &mut [u8]) {
         return say::bad();
     }
     let n = given.count;
-    item(words::word(line, 0), &space[0..n])
+    item(words::mode(line), &space[0..n])
 }
 
 // `MODE NUMBER OUTLEN`, `element STOREHEX POSITION`, `rewritten HEX OUTLEN`,
 // `chosen STOREHEX REQUESTHEX` or `received ANSWERHEX POSITION`.
 fn three_words(line: &[u8], space: &mut [u8], out: &mut [u8]) {
-    let mode = words::word(line, 0);
-    if check::same(mode, b"wcompact") {
-        return items::wcompact(line, out);
+    match words::mode(line) {
+        // wcompact
+        794012681332 => items::wcompact(line, out),
+        // wend
+        759236 => headers::wend(line, out),
+        // element
+        5777036756 => stores::element(line, space),
+        // rewritten
+        19988318146734 => knowledges::rewritten(line, space),
+        // chosen
+        109563054 => requests::chosen(line, space),
+        // received
+        623950223524 => benches::element(line, space),
+        _ => say::bad(),
     }
-    if check::same(mode, b"wend") {
-        return headers::wend(line, out);
-    }
-    if check::same(mode, b"element") {
-        return stores::element(line, space);
-    }
-    if check::same(mode, b"rewritten") {
-        return knowledges::rewritten(line, space);
-    }
-    if check::same(mode, b"chosen") {
-        return requests::chosen(line, space);
-    }
-    if check::same(mode, b"received") {
-        return benches::element(line, space);
-    }
-    say::bad()
 }
 
 // `MODE GUIDHEX NUMBER OUTLEN`, or `known HEX GUIDHEX NUMBER`.
 fn four_words(line: &[u8], space: &mut [u8], out: &mut [u8]) {
-    let mode = words::word(line, 0);
-    if check::same(mode, b"wexguid") {
-        return items::wexguid(line, out);
+    match words::mode(line) {
+        // wexguid
+        24889251108 => items::wexguid(line, out),
+        // wserial
+        25339438124 => items::wserial(line, out),
+        // known
+        12009198 => knowledges::known(line, space),
+        _ => say::bad(),
     }
-    if check::same(mode, b"wserial") {
-        return items::wserial(line, out);
-    }
-    if check::same(mode, b"known") {
-        return knowledges::known(line, space);
-    }
-    say::bad()
 }
 
 // `MODE TYPE COMPOUND LENGTH OUTLEN`
 fn five_words(line: &[u8], out: &mut [u8]) {
-    let mode = words::word(line, 0);
-    if check::same(mode, b"wstart") {
-        return headers::wstart(line, out);
+    match words::mode(line) {
+        // wstart
+        792331860 => headers::wstart(line, out),
+        _ => say::bad(),
     }
-    say::bad()
 }
 
 // `answer STOREHEX REQUESTHEX OUTLEN STORETABLELEN KNOWTABLELEN` or `ask ID LIMIT FILTERHEX KNOWLEDGEHEX OUTLEN`
 fn six_words(line: &[u8], space: &mut [u8]) {
-    let mode = words::word(line, 0);
-    if check::same(mode, b"answer") {
-        return answers::answered(line, space);
+    match words::mode(line) {
+        // answer
+        48880818 => answers::answered(line, space),
+        // ask
+        1643 => benches::asked(line, space),
+        _ => say::bad(),
     }
-    if check::same(mode, b"ask") {
-        return benches::asked(line, space);
-    }
-    say::bad()
 }
 
 // The modes go by how many words a case has, so that a word too many or too few is told.

@@ -21,12 +21,12 @@ fn asked(id: u64, limit: u64, place: usize, count: u64, n: usize, t: &[u64])
     requires { ⌜ 2048 ≤ length (now t) ⌝ }
 {
     if MOST_RANGES < n {
-        return say::text(b"touched");
+        return say::touched();
     }
     if !knowledges::kept(t) {
-        return say::text(b"touched");
+        return say::touched();
     }
-    say::text(b"ok");
+    say::ok();
     say::number(id);
     say::number(limit);
     say::number(place as u64);
@@ -50,13 +50,13 @@ fn left_in(s: &[u8], place: usize, count: u64, rows: &[u64], ids: &[u64], n: usi
 {
     let mut flags = [say::UNTOUCHED; 320];
     if MOST_ELEMENTS < n {
-        return say::text(b"touched");
+        return say::touched();
     }
     choose(s, Reading::At(place, 0), count, rows, ids, n, &mut flags);
     if !say::untouched(&flags[n..]) {
-        return say::text(b"touched");
+        return say::touched();
     }
-    say::text(b"ok");
+    say::ok();
     say::bytes(&flags[0..n])
 }
 
@@ -86,7 +86,7 @@ pub(crate) fn chosen(line: &[u8], space: &mut [u8]) {
     let first = words::bytes(words::word(line, 1), space);
     let n = first.count;
     let second = words::bytes(words::word(line, 2), &mut space[n..]);
-    if !first.good || !second.good {
+    if !words::all(first.good, second.good, true, true) {
         return say::bad();
     }
     let end = n + second.count;

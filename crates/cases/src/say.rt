@@ -6,6 +6,7 @@ ghost use lib.ListN.{length, getD};
 use crate::words::wide;
 use libc::STDOUT_FILENO;
 use numbers::guid::Guid;
+use numbers::guid::swap;
 use numbers::refusal::Refusal;
 use numbers::refusal::Wrote;
 
@@ -19,6 +20,21 @@ pub(crate) fn text(s: &[u8]) {
 // The line is no case of this program.
 pub(crate) fn bad() {
     text(b"bad");
+}
+
+// A call did as it should.
+pub(crate) fn ok() {
+    text(b"ok");
+}
+
+// A call changed what is not its own.
+pub(crate) fn touched() {
+    text(b"touched");
+}
+
+// Two calls that should agree do not.
+pub(crate) fn apart() {
+    text(b"apart");
 }
 
 // A number behind a mark.
@@ -123,23 +139,63 @@ pub(crate) fn untouched(s: &[u8]) -> bool
     true
 }
 
+fn decimal(n: u64) {
+    io::print_decimal(STDOUT_FILENO, n);
+}
+
+// What stands before number i of a table: a blank before the first, `;` before a row, `,` before any other.
+fn between(i: usize, width: usize)
+    requires { ⌜ 0 < width ⌝ }
+{
+    if i == 0 {
+        return text(b" ");
+    }
+    if i % width == 0 {
+        return text(b";");
+    }
+    text(b",")
+}
+
+// A number as it is told: turned round if its column is one of the first `turned`.
+fn shown(column: usize, turned: usize, x: u64) -> u64 {
+    if column < turned {
+        return swap(x);
+    }
+    x
+}
+
+// The first `end` numbers of a table whose rows have `width` numbers.
+pub(crate) fn table(t: &[u64], end: usize, width: usize, turned: usize)
+    requires { ⌜ (end ≤ length (now t)) × (0 < width) ⌝ }
+{
+    if end == 0 {
+        return text(b" -");
+    }
+    let mut i = 0;
+    while i < end {
+        between(i, width);
+        decimal(shown(i % width, turned, t[i]));
+        i += 1;
+    }
+}
+
 // What a call that writes an item answered, and the item from out; or that the call changed bytes that are not the item's. An
 // item longer than out counts as that.
 pub(crate) fn written(wrote: Wrote, out: &[u8]) {
     match wrote {
         Wrote::Done(n) => {
             if out.len() < n {
-                return text(b"touched");
+                return touched();
             }
             if !untouched(&out[n..]) {
-                return text(b"touched");
+                return touched();
             }
-            text(b"ok");
+            ok();
             bytes(&out[0..n])
         }
         Wrote::Refused(r) => {
             if !untouched(out) {
-                return text(b"touched");
+                return touched();
             }
             refusal(r)
         }

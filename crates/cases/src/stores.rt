@@ -30,52 +30,25 @@ pub(crate) fn untouched(t: &[u64]) -> bool
     true
 }
 
-// The row at a place of the table, behind a mark.
-fn row(mark: &[u8], t: &[u64], at: usize)
-    requires { ⌜ at + 6 ≤ length (now t) ⌝ }
-{
-    say::marked(mark, t[at]);
-    say::marked(b",", t[at + 1]);
-    say::marked(b",", t[at + 2]);
-    say::marked(b",", t[at + 3]);
-    say::marked(b",", t[at + 4]);
-    say::marked(b",", t[at + 5])
-}
-
-// The first n rows of the table.
-pub(crate) fn every_row(t: &[u64], n: usize)
-    requires { ⌜ n * 6 ≤ length (now t) ⌝ }
-{
-    if n == 0 {
-        return say::text(b" -");
-    }
-    row(b" ", t, 0);
-    let mut i = 1;
-    while i < n {
-        row(b";", t, i * 6);
-        i += 1;
-    }
-}
-
 // How many elements, and their rows; or that numbers behind the rows or the ids were changed. More elements than a store may
 // hold count as that.
 fn held(n: usize, rows: &[u64], ids: &[u64])
     requires { ⌜ (1536 ≤ length (now rows)) × (768 ≤ length (now ids)) ⌝ }
 {
     if MOST_ELEMENTS < n {
-        return say::text(b"touched");
+        return say::touched();
     }
     let rows_end = n * 6;
     let ids_end = n * 3;
     if !untouched(&rows[rows_end..]) {
-        return say::text(b"touched");
+        return say::touched();
     }
     if !untouched(&ids[ids_end..]) {
-        return say::text(b"touched");
+        return say::touched();
     }
-    say::text(b"ok");
+    say::ok();
     say::number(n as u64);
-    every_row(rows, n)
+    say::table(rows, rows_end, 6, 0)
 }
 
 // A refusal; or that numbers were changed behind the rows and the ids of 256 elements. Before that the tables may hold those of
@@ -84,10 +57,10 @@ fn refused(r: Refusal, rows: &[u64], ids: &[u64])
     requires { ⌜ (1536 ≤ length (now rows)) × (768 ≤ length (now ids)) ⌝ }
 {
     if !untouched(&rows[1536..]) {
-        return say::text(b"touched");
+        return say::touched();
     }
     if !untouched(&ids[768..]) {
-        return say::text(b"touched");
+        return say::touched();
     }
     say::refusal(r)
 }
@@ -120,14 +93,14 @@ fn at_position(s: &[u8], position: usize) {
     match find_element(s, position) {
         Found::At(at, n) => {
             if !stands_at(s, at, n, part) {
-                return say::text(b"apart");
+                return say::apart();
             }
-            say::text(b"ok");
+            say::ok();
             say::bytes(part)
         }
         Found::Refused(r) => {
             if part.len() != 0 {
-                return say::text(b"apart");
+                return say::apart();
             }
             say::refusal(r)
         }
@@ -138,7 +111,7 @@ fn at_position(s: &[u8], position: usize) {
 pub(crate) fn element(line: &[u8], space: &mut [u8]) {
     let given = words::bytes(words::word(line, 1), space);
     let position = words::number(words::word(line, 2));
-    if !given.good || !position.good {
+    if !words::all(given.good, position.good, true, true) {
         return say::bad();
     }
     let n = given.count;

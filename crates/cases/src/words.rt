@@ -75,6 +75,52 @@ pub(crate) fn word(line: &[u8], k: usize) -> &[u8] {
     &line[at..end]
 }
 
+// A letter's place in the alphabet, from 1; 0 if the byte is no small letter.
+fn letter(b: u8) -> u8
+    ensures { λ r. ⌜ r ≤ 26 ⌝ }
+{
+    match b {
+        b'a'..=b'z' => b - b'a' + 1,
+        _ => 0,
+    }
+}
+
+// A word of small letters as a number, its letters' places as digits to the base 32, so that no two words have one number; 0 for
+// an empty word, for any that has another byte, and for one that is too long. One number is compared where a word would be.
+fn code(text: &[u8]) -> u64 {
+    let mut value: u64 = 0;
+    let mut i = 0;
+    while i < text.len() {
+        let d = wide(letter(text[i]));
+        if d == 0 {
+            return 0;
+        }
+        if 0x7FFFFFFFFFFFFFE < value {
+            return 0;
+        }
+        value = value * 32 + d;
+        i += 1;
+    }
+    value
+}
+
+// The first word of a line, as such a number.
+pub(crate) fn mode(line: &[u8]) -> u64 {
+    code(word(line, 0))
+}
+
+// Whether all hold.
+pub(crate) fn all(a: bool, b: bool, c: bool, d: bool) -> bool {
+    if a {
+        if b {
+            if c {
+                return d;
+            }
+        }
+    }
+    false
+}
+
 // What a hex digit stands for; 16 if the byte is none.
 fn digit(b: u8) -> u8
     ensures { λ r. ⌜ r ≤ 16 ⌝ }
