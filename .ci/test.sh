@@ -53,6 +53,8 @@ crates=$(printf '%s ' $crates)
 bad=''
 for crate in $crates; do
     [ ! -f "crates/$crate/src/main.rt" ] || continue
+    # parts of the test program, which no daemon links with
+    case $crate in case_*) continue ;; esac
     log=target/log/$crate.out
     if ! grep -q '^library std:' "$log" || ! grep -q '^logic=proved ' "$log"; then
         fail "$log, the log of the library $crate, does not read as expected"

@@ -1,9 +1,9 @@
 // The modes for the bench's side: a request written, an answer read, and one element of an answer by its position.
 ghost use Prim.Native.Nat.{_≤_};
 ghost use lib.ListN.{length};
-use crate::say;
-use crate::stores::stands_at;
-use crate::words;
+use case_stores::stores::stands_at;
+use case_words::say;
+use case_words::words;
 use client::accessor::find_received;
 use client::accessor::received_bytes;
 use client::answer::ReadAnswer;

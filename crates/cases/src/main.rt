@@ -1,15 +1,15 @@
 // A filter for tests: each line of the input is one case, and gives one line of output (README.md says which). It shows the
 // calls of the libraries from outside, so that a run can be compared with what another program makes of the same cases.
-mod answers;
 mod benches;
-mod headers;
-mod items;
-mod knowledges;
-mod requests;
-mod say;
-mod stores;
-mod words;
 
+use case_answers::answers;
+use case_items::headers;
+use case_items::items;
+use case_requests::requests;
+use case_stores::knowledges;
+use case_stores::stores;
+use case_words::say;
+use case_words::words;
 use libc::STDIN_FILENO;
 use libc::STDOUT_FILENO;
 

@@ -1,0 +1,2 @@
+// The modes of the test program for a request.
+pub mod requests;

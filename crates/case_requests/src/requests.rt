@@ -1,0 +1,94 @@
+// The modes for a request: what it asks for, where its filters stand, and what it knows; and which elements of a store its
+// filters leave in.
+ghost use Prim.Native.Nat.{_≤_};
+ghost use lib.ListN.{length};
+use case_stores::knowledges;
+use case_stores::stores::UNTOUCHED;
+use case_words::say;
+use case_words::words;
+use objects::reading::Reading;
+use request::choice::choose;
+use request::message::Request;
+use request::message::read_request;
+use store::knowledge::MOST_RANGES;
+use store::package::MOST_ELEMENTS;
+use store::package::Stored;
+use store::package::read_store;
+
+// Id, limit, the place of the filters and how many they are, and the n rows of the knowledge; or that numbers behind all rows
+// were changed. More ranges than a knowledge may hold count as that.
+fn asked(id: u64, limit: u64, place: usize, count: u64, n: usize, t: &[u64])
+    requires { ⌜ 2048 ≤ length (now t) ⌝ }
+{
+    if MOST_RANGES < n {
+        return say::touched();
+    }
+    if !knowledges::kept(t) {
+        return say::touched();
+    }
+    say::ok();
+    say::number(id);
+    say::number(limit);
+    say::number(place as u64);
+    say::number(count);
+    knowledges::every_row(t, n)
+}
+
+// `request HEX`. The table is longer than a request needs.
+pub fn message(s: &[u8]) {
+    let mut t = [UNTOUCHED; 2112];
+    match read_request(s, &mut t) {
+        Request::Asked(id, limit, place, count, n) => asked(id, limit, place, count, n, &t),
+        Request::Refused(r) => knowledges::refused(r, &t),
+    }
+}
+
+// Filters from a place on, put to the n elements of both tables: a byte for each element, 1 where it is in. Or that bytes
+// behind these were changed; more elements than a store may hold count as that.
+fn left_in(s: &[u8], place: usize, count: u64, rows: &[u64], ids: &[u64], n: usize)
+    requires { ⌜ (1536 ≤ length (now rows)) × (768 ≤ length (now ids)) ⌝ }
+{
+    let mut flags = [say::UNTOUCHED; 320];
+    if MOST_ELEMENTS < n {
+        return say::touched();
+    }
+    choose(s, Reading::At(place, 0), count, rows, ids, n, &mut flags);
+    if !say::untouched(&flags[n..]) {
+        return say::touched();
+    }
+    say::ok();
+    say::bytes(&flags[0..n])
+}
+
+// The request, whose filters are then put to the elements of a store that was read.
+fn chosen_of(s: &[u8], rows: &[u64], ids: &[u64], n: usize)
+    requires { ⌜ (1536 ≤ length (now rows)) × (768 ≤ length (now ids)) ⌝ }
+{
+    let mut t = [UNTOUCHED; 2112];
+    match read_request(s, &mut t) {
+        Request::Asked(_, _, place, count, _) => left_in(s, place, count, rows, ids, n),
+        Request::Refused(r) => knowledges::refused(r, &t),
+    }
+}
+
+// The store comes first, as its faults do.
+fn both(store: &[u8], s: &[u8]) {
+    let mut rows = [UNTOUCHED; 1600];
+    let mut ids = [UNTOUCHED; 800];
+    match read_store(store, &mut rows, &mut ids) {
+        Stored::Holds(n) => chosen_of(s, &rows, &ids, n),
+        Stored::Refused(r) => say::refusal(r),
+    }
+}
+
+// `chosen STOREHEX REQUESTHEX`: the bytes of both stand in one space, the request's behind the store's.
+pub fn chosen(line: &[u8], space: &mut [u8]) {
+    let first = words::bytes(words::word(line, 1), space);
+    let n = first.count;
+    let second = words::bytes(words::word(line, 2), &mut space[n..]);
+    if !words::all(first.good, second.good, true, true) {
+        return say::bad();
+    }
+    let end = n + second.count;
+    both(&space[0..n], &space[n..end])
+}

@@ -1,0 +1,170 @@
+// The modes for a knowledge: its ranges, its bytes written again, and whether it has a number.
+ghost use Prim.Native.Nat.{_+_, _*_, _≤_};
+ghost use lib.ListN.{length};
+ghost use Rattle.talk.specs.Ranges.{Normal};
+ghost use Rattle.objects.specs.declared.reading.Reading.the-variants.{At};
+ghost use Rattle.store.specs.RangeTable.{rangesAt};
+ghost use Rattle.store.specs.Knowledge.{knowledgeAt, ReadsKnowledge};
+use crate::stores::UNTOUCHED;
+use crate::stores::untouched;
+use case_words::say;
+use case_words::words;
+use numbers::guid::Guid;
+use numbers::refusal::Refusal;
+use objects::reading::Reading;
+use store::knowledge::MOST_RANGES;
+use store::knowledge::ReadKnowledge;
+use store::knowledge::read_knowledge;
+use store::knowledge_write::write_knowledge;
+use store::ranges::is_known;
+
+// A knowledge stands in an open sub-request. Request, sub-request, knowledge and specialized knowledge are then four open
+// objects, and leave twelve of sixteen.
+const SUB_REQUEST: u64 = 0x42;
+
+const LEVELS: usize = 12;
+
+// The first n rows of the table. The working table has a GUID as two numbers with the first byte highest; document 01's
+// knowledge table has little-endian numbers, and these are told.
+pub fn every_row(t: &[u64], n: usize)
+    requires { ⌜ n * 4 ≤ length (now t) ⌝ }
+{
+    say::table(t, n * 4, 4, 2)
+}
+
+// Whether no number was changed behind the rows of 512 ranges. Before that a row may be left from before it was joined with
+// another.
+pub fn kept(t: &[u64]) -> bool
+    requires { ⌜ 2048 ≤ length (now t) ⌝ }
+{
+    untouched(&t[2048..])
+}
+
+// The place behind the knowledge, and its rows; or that numbers behind all rows were changed. More ranges than a knowledge may
+// hold count as that.
+fn held(place: usize, n: usize, t: &[u64])
+    requires { ⌜ 2048 ≤ length (now t) ⌝ }
+{
+    if MOST_RANGES < n {
+        return say::touched();
+    }
+    if !kept(t) {
+        return say::touched();
+    }
+    say::ok();
+    say::number(place as u64);
+    every_row(t, n)
+}
+
+// A refusal; or that numbers behind all rows were changed.
+pub fn refused(r: Refusal, t: &[u64])
+    requires { ⌜ 2048 ≤ length (now t) ⌝ }
+{
+    if !kept(t) {
+        return say::touched();
+    }
+    say::refusal(r)
+}
+
+// The knowledge at the front of s.
+fn read(s: &[u8], t: &mut [u64]) -> ReadKnowledge
+    requires { ⌜ 2048 ≤ length (now t) ⌝ }
+    ensures { λ r. ⌜ ReadsKnowledge (knowledgeAt 12 0x42 (now (s .entry)) (now (t .entry)) (At 0 0)) r (now (t .exit)) ⌝ }
+{
+    read_knowledge(s, Reading::At(0, 0), SUB_REQUEST, LEVELS, t)
+}
+
+// `knowledge HEX`. The table is longer than a knowledge needs.
+pub fn rows(s: &[u8]) {
+    let mut t = [UNTOUCHED; 2112];
+    match read(s, &mut t) {
+        ReadKnowledge::Holds(place, n) => held(place, n, &t),
+        ReadKnowledge::Refused(r) => refused(r, &t),
+    }
+}
+
+// Room for the longest knowledge that is written, and more: 512 ranges of 36 bytes, with 28 around them. It comes from a call
+// as the large arrays of main.rt do.
+fn output_space() -> [u8; 20000] {
+    [say::UNTOUCHED; 20000]
+}
+
+// The knowledge of n rows, written to the first bytes of out; or that numbers behind all rows were changed.
+fn written(t: &[u64], n: usize, out: &mut [u8], room: usize)
+    requires { ⌜ (2048 ≤ length (now t)) × (room ≤ length (now out)) ⌝ }
+{
+    if MOST_RANGES < n {
+        return say::touched();
+    }
+    if !kept(t) {
+        return say::touched();
+    }
+    let wrote = write_knowledge(&mut out[0..room], t, n);
+    say::written(wrote, out)
+}
+
+// The knowledge at the front of s, read and written again; if it is not read, nothing is written.
+fn read_and_written(s: &[u8], out: &mut [u8], room: usize)
+    requires { ⌜ room ≤ length (now out) ⌝ }
+{
+    let mut t = [UNTOUCHED; 2112];
+    match read(s, &mut t) {
+        ReadKnowledge::Holds(_, n) => written(&t, n, out, room),
+        ReadKnowledge::Refused(r) => refused(r, &t),
+    }
+}
+
+// `rewritten HEX OUTLEN`
+pub fn rewritten(line: &[u8], space: &mut [u8]) {
+    let mut out = output_space();
+    let given = words::bytes(words::word(line, 1), space);
+    let room = words::lent(words::word(line, 2), &out);
+    if !words::all(given.good, room.good, true, true) {
+        return say::bad();
+    }
+    let n = given.count;
+    read_and_written(&space[0..n], &mut out, room.count)
+}
+
+fn known_is(n: u64) {
+    say::ok();
+    say::number(n)
+}
+
+// Whether the number is known under the GUID; or that numbers behind all rows were changed.
+fn asked(t: &[u64], n: usize, g: Guid, number: u64)
+    requires { ⌜ (2048 ≤ length (now t)) × Normal (rangesAt (now t) 0 n) ⌝ }
+{
+    if MOST_RANGES < n {
+        return say::touched();
+    }
+    if !kept(t) {
+        return say::touched();
+    }
+    if is_known(t, n, g, number) {
+        return known_is(1);
+    }
+    known_is(0)
+}
+
+// The knowledge at the front of s, asked for one number.
+fn read_and_asked(s: &[u8], g: Guid, number: u64) {
+    let mut t = [UNTOUCHED; 2112];
+    match read(s, &mut t) {
+        ReadKnowledge::Holds(_, n) => asked(&t, n, g, number),
+        ReadKnowledge::Refused(r) => refused(r, &t),
+    }
+}
+
+// `known HEX GUIDHEX NUMBER`
+pub fn known(line: &[u8], space: &mut [u8]) {
+    let given = words::bytes(words::word(line, 1), space);
+    let id = words::guid(words::word(line, 2));
+    let number = words::number(words::word(line, 3));
+    if !words::all(given.good, id.good, number.good, true) {
+        return say::bad();
+    }
+    let n = given.count;
+    let guid = id.guid;
+    read_and_asked(&space[0..n], guid, number.value)
+}

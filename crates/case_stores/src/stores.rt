@@ -1,0 +1,119 @@
+// The modes for a store: its rows, and one element by its position.
+ghost use mathlib.Core.Bool.{true};
+ghost use mathlib.Core.Path.{_≡_};
+ghost use Prim.Native.Nat.{ℕ, _+_, _*_, _≤_, _<_};
+ghost use lib.ListN.{length, getD};
+use case_words::say;
+use case_words::words;
+use numbers::refusal::Refusal;
+use store::accessor::Found;
+use store::accessor::element_bytes;
+use store::accessor::find_element;
+use store::package::MOST_ELEMENTS;
+use store::package::Stored;
+use store::package::read_store;
+
+// What every number of a table holds before a case lends it.
+pub const UNTOUCHED: u64 = 0xA5A5A5A5A5A5A5A5;
+
+// Whether no number was changed.
+pub fn untouched(t: &[u64]) -> bool
+    ensures { λ r. ⌜ (r ≡ true → (k : ℕ) → k < length (now (t .entry)) → getD (now (t .entry)) k 0 ≡ 0xA5A5A5A5A5A5A5A5) ⌝ }
+{
+    let mut i = 0;
+    while i < t.len() {
+        if t[i] != UNTOUCHED {
+            return false;
+        }
+        i += 1;
+    }
+    true
+}
+
+// How many elements, and their rows; or that numbers behind the rows or the ids were changed. More elements than a store may
+// hold count as that.
+fn held(n: usize, rows: &[u64], ids: &[u64])
+    requires { ⌜ (1536 ≤ length (now rows)) × (768 ≤ length (now ids)) ⌝ }
+{
+    if MOST_ELEMENTS < n {
+        return say::touched();
+    }
+    let rows_end = n * 6;
+    let ids_end = n * 3;
+    if !untouched(&rows[rows_end..]) {
+        return say::touched();
+    }
+    if !untouched(&ids[ids_end..]) {
+        return say::touched();
+    }
+    say::ok();
+    say::number(n as u64);
+    say::table(rows, rows_end, 6, 0)
+}
+
+// A refusal; or that numbers were changed behind the rows and the ids of 256 elements. Before that the tables may hold those of
+// the elements before the fault.
+fn refused(r: Refusal, rows: &[u64], ids: &[u64])
+    requires { ⌜ (1536 ≤ length (now rows)) × (768 ≤ length (now ids)) ⌝ }
+{
+    if !untouched(&rows[1536..]) {
+        return say::touched();
+    }
+    if !untouched(&ids[768..]) {
+        return say::touched();
+    }
+    say::refusal(r)
+}
+
+// `store STOREHEX`. The tables are longer than a store needs.
+pub fn rows(s: &[u8]) {
+    let mut rows = [UNTOUCHED; 1600];
+    let mut ids = [UNTOUCHED; 800];
+    match read_store(s, &mut rows, &mut ids) {
+        Stored::Holds(n) => held(n, &rows, &ids),
+        Stored::Refused(r) => refused(r, &rows, &ids),
+    }
+}
+
+// Whether a part of s is the one of n bytes at this place.
+pub fn stands_at(s: &[u8], at: usize, n: usize, part: &[u8]) -> bool {
+    if s.len() < at {
+        return false;
+    }
+    if s.len() - at < n {
+        return false;
+    }
+    let end = at + n;
+    check::same(&s[at..end], part)
+}
+
+// The element at a position; or that its bytes are not those that stand where the call beside it says (on a refusal, none).
+fn at_position(s: &[u8], position: usize) {
+    let part = element_bytes(s, position);
+    match find_element(s, position) {
+        Found::At(at, n) => {
+            if !stands_at(s, at, n, part) {
+                return say::apart();
+            }
+            say::ok();
+            say::bytes(part)
+        }
+        Found::Refused(r) => {
+            if part.len() != 0 {
+                return say::apart();
+            }
+            say::refusal(r)
+        }
+    }
+}
+
+// `element STOREHEX POSITION`
+pub fn element(line: &[u8], space: &mut [u8]) {
+    let given = words::bytes(words::word(line, 1), space);
+    let position = words::number(words::word(line, 2));
+    if !words::all(given.good, position.good, true, true) {
+        return say::bad();
+    }
+    let n = given.count;
+    at_position(&space[0..n], position.value as usize)
+}
