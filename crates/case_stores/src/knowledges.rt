@@ -3,7 +3,7 @@ ghost use Prim.Native.Nat.{_+_, _*_, _≤_};
 ghost use lib.ListN.{length};
 ghost use Rattle.talk.specs.Ranges.{Normal};
 ghost use Rattle.objects.specs.declared.reading.Reading.the-variants.{At};
-ghost use Rattle.store.specs.RangeTable.{rangesAt};
+ghost use Rattle.ranges.specs.RangeTable.{rangesAt};
 ghost use Rattle.store.specs.Knowledge.{knowledgeAt, ReadsKnowledge};
 use crate::stores::UNTOUCHED;
 use crate::stores::untouched;
@@ -12,11 +12,11 @@ use case_words::words;
 use numbers::guid::Guid;
 use numbers::refusal::Refusal;
 use objects::reading::Reading;
+use ranges::is_known;
 use store::knowledge::MOST_RANGES;
 use store::knowledge::ReadKnowledge;
 use store::knowledge::read_knowledge;
 use store::knowledge_write::write_knowledge;
-use store::ranges::is_known;
 
 // A knowledge stands in an open sub-request. Request, sub-request, knowledge and specialized knowledge are then four open
 // objects, and leave twelve of sixteen.

@@ -32,7 +32,8 @@ use Rattle.talk.specs.Ranges.{within, holds, isBefore, joined, absorb, insert}
 use Rattle.talk.specs.Wanted.{keep, isWanted, wanted}
 use Rattle.talk.specs.declared.range.Range.{Range}
 use Rattle.store.specs.Element.{sameKey, namedKey, numberedKey, freshKey, keyHere, onKey, idField, serialField, fieldsOf, dataOf, elementOn, elementAt}
-use Rattle.store.specs.Knowledge.{rangeOf, guidIn, rangeFields, itemOf, rangeItem, itemNext, itemAt, onItem, united, knows, itemsFrom, isCell, specializedGuid, cellFrom, specializedFrom, knowledgeTurn, toGo, knowledgeFrom, knowledgeAt}
+use Rattle.store.specs.Knowledge.{guidIn, rangeFields, itemOf, rangeItem, itemNext, itemAt, onItem, united, itemsFrom, isCell, specializedGuid, cellFrom, specializedFrom, knowledgeTurn, toGo, knowledgeFrom, knowledgeAt}
+use Rattle.ranges.specs.Ranged.{rangeOf, knows}
 use Rattle.store.specs.KnowledgeWritten as knowledge
 use Rattle.store.specs.KnowledgeWritten.{rangeData, rangeBytes, rangesBytes, cellFront, cellBack, knowledgeBytes}
 use Rattle.store.specs.Store.{walked, packageStart, walkFrom, storeWalk}

@@ -18,7 +18,7 @@ use Rattle.talk.specs.declared.range.Range.{Range}
 use Rattle.talk.proofs.Counts.{holds-insert-one, known-with}
 use Rattle.talk.proofs.OneForm.{one-form-fits}
 use Rattle.store.specs.Element.{sameKey}
-use Rattle.store.specs.Knowledge.{rangeOf, knows}
+use Rattle.ranges.specs.Ranged.{rangeOf, knows}
 use Rattle.store.specs.declared.element.Element.{Element}
 use Rattle.store.specs.declared.element.Key.{Key}
 use Rattle.pages.specs.Choice.{knowsKey, serialRange, rangesWith}

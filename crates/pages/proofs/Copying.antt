@@ -8,8 +8,8 @@ use lib.ListN.{length, take, drop}
 use lib.Seq.{drop-drop}
 use Rattle.laws.proofs.Placing.{laid-behind}
 use Rattle.talk.specs.declared.range.Range.{Range}
-use Rattle.store.specs.RangeTable.{rangeAt, rangesAt}
-use Rattle.store.proofs.RangeRows.{rows-more, length-rows}
+use Rattle.ranges.specs.RangeTable.{rangeAt, rangesAt}
+use Rattle.ranges.proofs.RangeRows.{rows-more, length-rows}
 use Rattle.pages.specs.Answer.{rangeRow, rangeRows}
 
 rows-append : (a b : List Range) → rangeRows (a ++ b) ≡ rangeRows a ++ rangeRows b

@@ -12,10 +12,10 @@ use Rattle.numbers.specs.Refusals.{faultAt, tooShort}
 use Rattle.objects.specs.declared.reading.Reading.the-variants.{At}
 use Rattle.talk.specs.Wanted.{wanted}
 use Rattle.talk.proofs.Things.{each-first, each-kept, each-so}
-use Rattle.store.specs.RangeTable.{rangesAt}
+use Rattle.ranges.specs.RangeTable.{rangesAt}
 use Rattle.store.specs.Store.{storeWalk}
 use Rattle.store.specs.declared.element.Element.{Element}
-use Rattle.store.proofs.RangeRows.{length-rows}
+use Rattle.ranges.proofs.RangeRows.{length-rows}
 use Rattle.request.specs.Choice.{elementsIn, flagsOf, setFlags}
 use Rattle.request.specs.Meaning.{filtersRead, letsIn}
 use Rattle.request.specs.Message.{filtersOf}

@@ -15,13 +15,13 @@ use Rattle.talk.specs.Ranges.{absorb, insert, Normal, AllFit}
 use Rattle.talk.specs.declared.range.Range.{Range}
 use Rattle.talk.proofs.Bounds.{insert-fits}
 use Rattle.talk.proofs.Insertion.{normal-insert}
-use Rattle.store.specs.Knowledge.{rangeOf}
-use Rattle.store.specs.RangeTable.{FirstNotBefore, rangeAt, rangesAt, numbersOf, laidRanges, laidIn}
+use Rattle.ranges.specs.Ranged.{rangeOf}
+use Rattle.ranges.specs.RangeTable.{FirstNotBefore, rangeAt, rangesAt, numbersOf, laidRanges, laidIn}
 use Rattle.store.specs.KnowledgeWritten.{rangeBytes, rangesBytes}
 use Rattle.store.specs.Written.{guidOf}
 use Rattle.store.specs.declared.element.Element.{Element}
 use Rattle.store.proofs.KnowledgeFits.{range-fits}
-use Rattle.store.proofs.RangeRows.{insert-at, length-rows, add-done, laid-rows}
+use Rattle.ranges.proofs.RangeRows.{insert-at, length-rows, add-done, laid-rows}
 use Rattle.store.proofs.KnowledgeLengths.{data-most, range-is}
 use Rattle.pages.specs.Choice.{serialRange, rangesWith}
 use Rattle.pages.specs.Tables.{laidWith, laidAll, Priced}

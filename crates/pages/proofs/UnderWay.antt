@@ -13,10 +13,10 @@ use Rattle.talk.specs.Ranges.{insert}
 use Rattle.talk.specs.declared.range.Range.{Range}
 use Rattle.talk.proofs.Insertion.{length-insert}
 use Rattle.talk.proofs.PageRule.{every-none, every-more}
-use Rattle.store.specs.RangeTable.{rangesAt}
+use Rattle.ranges.specs.RangeTable.{rangesAt}
 use Rattle.store.specs.KnowledgeWritten.{rangesBytes}
 use Rattle.store.specs.declared.element.Element.{Element}
-use Rattle.store.proofs.RangeRows.{length-rows, laid-rows, length-laid}
+use Rattle.ranges.proofs.RangeRows.{length-rows, laid-rows, length-laid}
 use Rattle.pages.specs.Choice.{serialRange, rangesWith, storedLength}
 use Rattle.pages.specs.Decision.{isSendable, sendable, decision}
 use Rattle.pages.specs.Tables.{stopped, ended, takenIn, wholeOf, laidWith, laidAll, Priced, tableMeasure, Decides}

@@ -16,10 +16,10 @@ use Rattle.numbers.specs.declared.guid.Guid.{Guid}
 use Rattle.numbers.specs.declared.extended_guid.ExtendedGuid.the-variants.{Null, Named}
 use Rattle.talk.specs.Ranges.{range, within, holds, insert}
 use Rattle.talk.specs.declared.range.Range.{Range}
-use Rattle.store.specs.Knowledge.{rangeOf, knows}
+use Rattle.ranges.specs.Ranged.{rangeOf, knows}
 use Rattle.store.specs.KnowledgeWritten.{guidOf, rangeBytes, rangesBytes}
 use Rattle.store.proofs.KnowledgeLengths.{length-range}
-use Rattle.store.specs.RangeTable.{rangesAt}
+use Rattle.ranges.specs.RangeTable.{rangesAt}
 use Rattle.store.specs.declared.element.Key.{Key}
 use Rattle.store.specs.declared.element.Element.{Element}
 use Rattle.request.specs.Choice.{setFlags}

@@ -29,7 +29,7 @@ use Rattle.talk.specs.Page.{grow, pageCount}
 use Rattle.talk.specs.Ranges.{within, holds, isBefore, joined, absorb, insert}
 use Rattle.talk.specs.Wanted.{keep, wanted}
 use Rattle.talk.specs.declared.range.Range.{Range}
-use Rattle.store.specs.Knowledge.{rangeOf, knows}
+use Rattle.ranges.specs.Ranged.{rangeOf, knows}
 use Rattle.store.specs.KnowledgeWritten.{rangeBytes, rangesBytes, knowledgeBytes}
 use Rattle.store.specs.Store.{packageStart, walkFrom, storeWalk, Stands}
 use Rattle.store.specs.Written.{guidOf, packageFront}

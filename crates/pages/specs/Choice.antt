@@ -12,7 +12,7 @@ use Rattle.talk.specs.Ranges.{insert}
 use Rattle.talk.specs.Wanted.{wanted}
 use Rattle.talk.specs.declared.range.Range.{Range}
 use Rattle.store.specs.Written.{guidOf}
-use Rattle.store.specs.Knowledge.{rangeOf, knows}
+use Rattle.ranges.specs.Ranged.{rangeOf, knows}
 use Rattle.store.specs.declared.element.Key.{Key}
 use Rattle.store.specs.declared.element.Element.{Element}
 use Rattle.request.specs.Meaning.{Filter, leftIn}

@@ -7,7 +7,7 @@ use mathlib.Core.List.{List}
 use lib.ListN.{length, take}
 use Rattle.objects.specs.declared.reading.Reading.the-variants.{At}
 use Rattle.talk.specs.Ranges.{Normal}
-use Rattle.store.specs.RangeTable.{rangesAt}
+use Rattle.ranges.specs.RangeTable.{rangesAt}
 use Rattle.store.specs.Store.{storeWalk}
 use Rattle.request.specs.Meaning.{filtersRead}
 use Rattle.request.specs.Message.{filtersOf}

@@ -15,7 +15,7 @@ use Rattle.objects.specs.Header.{endBytes}
 use Rattle.talk.specs.Each.{Each}
 use Rattle.talk.specs.Ranges.{insert}
 use Rattle.talk.specs.declared.range.Range.{Range}
-use Rattle.store.specs.RangeTable.{FirstNotBefore, rangesAt, laidRanges}
+use Rattle.ranges.specs.RangeTable.{FirstNotBefore, rangesAt, laidRanges}
 use Rattle.store.specs.KnowledgeWritten.{rangesBytes}
 use Rattle.store.specs.Store.{storeWalk}
 use Rattle.store.specs.Tables.{rowsOf}

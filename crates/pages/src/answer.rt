@@ -6,7 +6,7 @@ ghost use mathlib.Core.List.{[], _++_};
 ghost use lib.ListN.{length, drop};
 ghost use Rattle.objects.specs.declared.reading.Reading.the-variants.{At};
 ghost use Rattle.talk.specs.Ranges.{Normal};
-ghost use Rattle.store.specs.RangeTable.{rangesAt};
+ghost use Rattle.ranges.specs.RangeTable.{rangesAt};
 ghost use Rattle.store.specs.Store.{storeWalk};
 ghost use Rattle.request.specs.Message.{requestIn};
 ghost use Rattle.request.specs.Meaning.{filtersRead, letsIn};

@@ -4,7 +4,7 @@ ghost use mathlib.Core.Path.{_≡_};
 ghost use Prim.Native.Nat.{ℕ, _+_, _*_, _^_, _≤_, _<_};
 ghost use lib.ListN.{length, getD};
 ghost use Rattle.talk.specs.Ranges.{Normal};
-ghost use Rattle.store.specs.RangeTable.{rangesAt};
+ghost use Rattle.ranges.specs.RangeTable.{rangesAt};
 ghost use Rattle.pages.specs.Choice.{serialRange};
 ghost use Rattle.pages.specs.Decision.{isSendable};
 ghost use Rattle.pages.specs.Tables.{stopped, ended, wholeOf, Priced, laidWith, chosenIn, Decides};
@@ -12,9 +12,9 @@ use crate::price::Price;
 use crate::price::price_of;
 use crate::price::serial_range;
 use crate::wanted::element_at;
+use ranges::shift;
 use store::element::Element;
 use store::knowledge_write::ranges_length;
-use store::ranges::shift;
 
 // The page of so many elements, so long an answer, so many ranges, and whether a wanted element remains; or 9; or 14 with the
 // needed length.

@@ -4,17 +4,17 @@ ghost use mathlib.Core.Path.{_≡_};
 ghost use Prim.Native.Nat.{_*_, _≤_};
 ghost use lib.ListN.{length};
 ghost use Rattle.talk.specs.Ranges.{Normal};
-ghost use Rattle.store.specs.RangeTable.{rangesAt};
+ghost use Rattle.ranges.specs.RangeTable.{rangesAt};
 ghost use Rattle.store.specs.KnowledgeWritten.{rangesBytes};
 ghost use Rattle.pages.specs.Choice.{serialRange};
 ghost use Rattle.pages.specs.Tables.{Priced};
 use crate::wanted::guid_of;
+use ranges::gather;
+use ranges::range_of;
+use ranges::rows_before;
 use store::element::Element;
 use store::knowledge_write::range_length;
 use store::knowledge_write::ranges_length;
-use store::ranges::gather;
-use store::ranges::range_of;
-use store::ranges::rows_before;
 use talk::range::Range;
 
 // `range` takes the place of the rows from `at` to `next`; how many rows there are then, and their bytes.

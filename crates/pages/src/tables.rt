@@ -3,10 +3,10 @@ ghost use mathlib.Core.Path.{_≡_};
 ghost use mathlib.Core.List.{_++_};
 ghost use Prim.Native.Nat.{_+_, _*_, _≤_};
 ghost use lib.ListN.{length, take, drop};
-ghost use Rattle.store.specs.RangeTable.{rangesAt};
+ghost use Rattle.ranges.specs.RangeTable.{rangesAt};
 ghost use Rattle.pages.specs.Answer.{rangeRow, rangeRows};
 use numbers::guid::swap;
-use store::ranges::range_at;
+use ranges::range_at;
 use talk::range::Range;
 
 // The first n numbers of a table, over the front of another. Ruled out (proofs/WrongAnswers): the later numbers put to 0; nothing

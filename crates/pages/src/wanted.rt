@@ -4,15 +4,15 @@ ghost use Prim.Native.Nat.{ℕ, _+_, _*_, _^_, _≤_, _<_};
 ghost use lib.ListN.{length, getD};
 ghost use Rattle.numbers.specs.declared.extended_guid.ExtendedGuid.the-variants.{Named};
 ghost use Rattle.talk.specs.Ranges.{Normal};
-ghost use Rattle.store.specs.RangeTable.{rangesAt};
+ghost use Rattle.ranges.specs.RangeTable.{rangesAt};
 ghost use Rattle.store.specs.Written.{guidOf};
 ghost use Rattle.request.specs.Choice.{elementOf, elementsIn, setFlags};
 ghost use Rattle.pages.specs.Choice.{isKnown, storageIndex};
 use numbers::extended_guid::ExtendedGuid;
 use numbers::guid::Guid;
+use ranges::is_known;
 use store::element::Element;
 use store::element::Key;
-use store::ranges::is_known;
 use store::table::key_at;
 
 // The type of a storage index.

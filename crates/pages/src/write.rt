@@ -4,7 +4,7 @@ ghost use mathlib.Core.Path.{_≡_};
 ghost use Prim.Native.Nat.{_+_, _*_, _≤_};
 ghost use lib.ListN.{length, take};
 ghost use Rattle.laws.specs.Placed.{Lays};
-ghost use Rattle.store.specs.RangeTable.{rangesAt};
+ghost use Rattle.ranges.specs.RangeTable.{rangesAt};
 ghost use Rattle.pages.specs.Written.{versionBytes, elementsBytes, subResponseBytes, changesBytes, endsBytes, answerBytes, partialByte};
 ghost use Rattle.pages.specs.Tables.{chosenIn, answerFront, answerMiddle, fixedLength};
 use crate::wanted::element_at;

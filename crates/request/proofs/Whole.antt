@@ -15,7 +15,7 @@ use Rattle.objects.specs.Steps.{placeOf, valueOf, valued, startHere, endHere, n
 use Rattle.objects.specs.declared.reading.Reading.{Reading}
 use Rattle.objects.specs.declared.reading.Reading.the-variants.{At, Refused}
 use Rattle.talk.specs.Ranges.{Normal}
-use Rattle.store.specs.RangeTable.{rangesAt}
+use Rattle.ranges.specs.RangeTable.{rangesAt}
 use Rattle.store.specs.Knowledge.{knowledgeAnswer, ReadsKnowledge}
 use Rattle.store.specs.declared.knowledge.ReadKnowledge.{ReadKnowledge}
 use Rattle.store.proofs.KnowledgeHeld.{Held, knowledge-held}

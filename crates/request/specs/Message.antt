@@ -14,7 +14,7 @@ use Rattle.objects.specs.Steps.{_▹_, nothingOpen, placeOf, valueOf, valued, n
 use Rattle.objects.specs.declared.reading.Reading.{Reading}
 use Rattle.objects.specs.declared.reading.Reading.the-variants.{At, Refused}
 use Rattle.talk.specs.Ranges.{Normal}
-use Rattle.store.specs.RangeTable.{rangesAt}
+use Rattle.ranges.specs.RangeTable.{rangesAt}
 use Rattle.store.specs.Knowledge.{Knowing, knowing, knowledgeAt}
 use Rattle.store.specs.declared.knowledge.ReadKnowledge.{ReadKnowledge}
 use Rattle.store.specs.declared.knowledge.ReadKnowledge.the-variants as read

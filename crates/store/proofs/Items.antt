@@ -20,7 +20,8 @@ use Rattle.objects.proofs.Forward.{behind-start, behind-closed}
 use Rattle.talk.specs.Ranges.{Normal}
 use Rattle.talk.specs.declared.range.Range.{Range}
 use Rattle.talk.proofs.Insertion.{length-insert, normal-insert}
-use Rattle.store.specs.Knowledge.{rangeOf, fromField, toField, rangeFields, itemOf, rangeStart, rangeItem, entryOf, entryStart, entrySerial, entryItem, itemAt, onItem, united}
+use Rattle.store.specs.Knowledge.{fromField, toField, rangeFields, itemOf, rangeStart, rangeItem, entryOf, entryStart, entrySerial, entryItem, itemAt, onItem, united}
+use Rattle.ranges.specs.Ranged.{rangeOf}
 use Rattle.store.specs.Store.{Stands}
 use Rattle.store.specs.declared.item.Item.{Item}
 use Rattle.store.specs.declared.item.Item.the-variants as item

@@ -20,7 +20,8 @@ use Rattle.objects.proofs.ObjectsWritten.{reads-start, reads-start-of-length, r
 use Rattle.talk.specs.Ranges.{Normal, RangeFits, AllFit}
 use Rattle.talk.specs.declared.range.Range.{Range}
 use Rattle.talk.proofs.Insertion.{insert-last}
-use Rattle.store.specs.Knowledge.{rangeOf, guidIn, guidField, fromField, toField, rangeFields, itemOf, rangeStart, rangeItem, itemNext, itemAt, onItem, united, Knowing, knowing, itemsFrom, cellGuid, isCell, specializedGuid, cellFrom, specializedFrom, knowledgeFrom, knowledgeAt}
+use Rattle.store.specs.Knowledge.{guidIn, guidField, fromField, toField, rangeFields, itemOf, rangeStart, rangeItem, itemNext, itemAt, onItem, united, Knowing, knowing, itemsFrom, cellGuid, isCell, specializedGuid, cellFrom, specializedFrom, knowledgeFrom, knowledgeAt}
+use Rattle.ranges.specs.Ranged.{rangeOf}
 use Rattle.store.specs.KnowledgeWritten.{guidOf, rangeData, rangeBytes, rangesBytes, cellFront, cellBack, knowledgeBytes}
 use Rattle.store.specs.declared.item.Item.the-variants as item
 use Rattle.store.proofs.KnowledgeForward.{knowledge-more, knowledge-end}

@@ -21,7 +21,7 @@ use Rattle.objects.specs.declared.reading.ReadingSerial.{ReadingSerial}
 use Rattle.objects.specs.declared.reading.ReadingSerial.the-variants as serial′
 use Rattle.objects.proofs.StepsCarry.{Same, same-less, same-on, same-of, Took, Carries, Gives, carries-to, carries-forward, carries-then, gives-first, gives-next, gives-all, gives-free, gives-by, gives-both, carries-same, gives-same, carries-by, gives-by-first, gives-by-next, carries-pick, gives-picked, gives-pick, carries-still, carries-guid, gives-guid, carries-start, gives-next-is, carries-start-of-length, gives-next-is-of-length, carries-end, gives-next-is-end, carries-inside, carries-run, gives-run, opened-from}
 use Rattle.talk.specs.declared.range.Range.{Range}
-use Rattle.store.specs.RangeTable.{laidRanges}
+use Rattle.ranges.specs.RangeTable.{laidRanges}
 use Rattle.store.specs.Knowledge.{rangeFields, itemOf, rangeStart, rangeItem, entryOf, entryStart, entrySerial, entryItem, itemNext, itemKind, itemAt, onItem, united, Knowing, knowing, standing, itemsFrom, isCell, specializedGuid, cellFrom, specializedFrom, knowledgeTurn, toGo, unreached, knowledgeFrom, knowledgeAt}
 use Rattle.store.proofs.Uniting.{items-end, items-over, items-more}
 use Rattle.store.proofs.KnowledgeForward.{knowledge-falls, knowledge-more, knowledge-end, turn-more}

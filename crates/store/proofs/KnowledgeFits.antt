@@ -26,7 +26,8 @@ use Rattle.objects.specs.declared.reading.Reading.the-variants.{At, Refused}
 use Rattle.talk.specs.Ranges.{RangeFits, AllFit}
 use Rattle.talk.specs.declared.range.Range.{Range}
 use Rattle.talk.proofs.Bounds.{insert-fits}
-use Rattle.store.specs.Knowledge.{rangeOf, guidIn, guidField, fromField, toField, rangeFields, itemOf, rangeStart, rangeItem, entryOf, entryStart, entrySerial, entryItem, itemAt, united, knowledgeAt}
+use Rattle.store.specs.Knowledge.{guidIn, guidField, fromField, toField, rangeFields, itemOf, rangeStart, rangeItem, entryOf, entryStart, entrySerial, entryItem, itemAt, united, knowledgeAt}
+use Rattle.ranges.specs.Ranged.{rangeOf}
 use Rattle.store.specs.declared.item.Item.{Item}
 use Rattle.store.specs.declared.item.Item.the-variants as item
 use Rattle.store.proofs.KnowledgeHeld.{kept}

@@ -16,7 +16,7 @@ use Rattle.objects.specs.declared.reading.Reading.the-variants.{At, Refused}
 use Rattle.objects.proofs.Keep.{good-start, good-start-of-length, good-guid, good-end, good-inside}
 use Rattle.objects.proofs.Forward.{behind-place, behind-start, behind-start-of-length, behind-guid, Past, past-behind, past-end, past-inside}
 use Rattle.talk.specs.declared.range.Range.{Range}
-use Rattle.store.specs.RangeTable.{laidRanges}
+use Rattle.ranges.specs.RangeTable.{laidRanges}
 use Rattle.store.specs.Knowledge.{itemNext, itemKind, itemAt, onItem, united, Knowing, standing, itemsFrom, isCell, specializedGuid, cellFrom, specializedFrom, knowledgeTurn, toGo, unreached, knowledgeFrom}
 use Rattle.store.proofs.Items.{good-item, behind-item}
 

@@ -19,12 +19,12 @@ use Rattle.objects.proofs.Forward.{behind-start-of-length, Past, past-behind, p
 use Rattle.talk.specs.Ranges.{within, holds, Normal}
 use Rattle.talk.specs.declared.range.Range.{Range}
 use Rattle.talk.proofs.Membership.{holds-insert}
-use Rattle.store.specs.RangeTable.{rangesAt, numbersOf, laidRanges}
+use Rattle.ranges.specs.RangeTable.{rangesAt, numbersOf, laidRanges}
 use Rattle.store.specs.Knowledge.{itemNext, itemAt, onItem, united, Knowing, knowing, itemsFrom, isCell, specializedGuid, cellFrom, specializedFrom, knowledgeTurn, toGo, unreached, knowledgeFrom, knowledgeAt, knowledgeAnswer}
 use Rattle.store.specs.declared.item.Item.{Item}
 use Rattle.store.specs.declared.item.Item.the-variants as item
 use Rattle.store.specs.declared.knowledge.ReadKnowledge.the-variants as read
-use Rattle.store.proofs.RangeRows.{length-numbers, laid-rows, length-laid}
+use Rattle.ranges.proofs.RangeRows.{length-numbers, laid-rows, length-laid}
 use Rattle.store.proofs.Items.{sound-item, united-normal, length-united}
 use Rattle.store.proofs.KnowledgeForward.{knowledge-falls, knowledge-more, knowledge-end, turn-more, past-specialized, good-specialized}
 

@@ -14,10 +14,10 @@ use Rattle.numbers.proofs.Guids.{length-guid}
 use Rattle.objects.specs.Header.{startBytes, longStart, endBytes}
 use Rattle.objects.proofs.HeaderForms.{length-short}
 use Rattle.talk.specs.declared.range.Range.{Range}
-use Rattle.store.specs.RangeTable.{rangeAt, rangesAt}
+use Rattle.ranges.specs.RangeTable.{rangeAt, rangesAt}
 use Rattle.store.specs.KnowledgeWritten.{guidOf, rangeData, rangeBytes, rangesBytes, cellFront, cellBack, knowledgeBytes}
 use Rattle.store.proofs.ElementWritten.{compact-most}
-use Rattle.store.proofs.RangeRows.{rows-step, rows-none}
+use Rattle.ranges.proofs.RangeRows.{rows-step, rows-none}
 
 -- ---- one range
 

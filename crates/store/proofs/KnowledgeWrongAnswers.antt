@@ -20,10 +20,11 @@ use Rattle.objects.specs.Header.{startBytes, longStart, startNumber, endBytes, 
 use Rattle.objects.specs.Steps.{placeOf, startHere, lengthIs, startOfLength, endHere, nextIs}
 use Rattle.objects.specs.declared.reading.Reading.the-variants.{At}
 use Rattle.talk.specs.Ranges.{range, within, holds, isBefore, joined, absorb, insert}
-use Rattle.store.specs.RangeTable.{rangesAt, numbersOf, addedTo, laidIn}
-use Rattle.store.specs.declared.ranges.Added.the-variants.{Rows}
+use Rattle.ranges.specs.RangeTable.{rangesAt, numbersOf, addedTo, laidIn}
+use Rattle.ranges.specs.declared.Added.the-variants.{Rows}
 use Rattle.store.specs.declared.knowledge.ReadKnowledge.the-variants.{Holds}
-use Rattle.store.specs.Knowledge.{knows, knowledgeTurn, toGo, knowledgeFrom, knowledgeAt, knowledgeAnswer, ReadsKnowledge}
+use Rattle.store.specs.Knowledge.{knowledgeTurn, toGo, knowledgeFrom, knowledgeAt, knowledgeAnswer, ReadsKnowledge}
+use Rattle.ranges.specs.Ranged.{knows}
 use Rattle.store.specs.KnowledgeWritten.{guidOf, rangeData, rangeBytes, rangesBytes, cellFront, cellBack, knowledgeBytes}
 
 -- one row: the GUID 1, 2, and the numbers from 3 to 4

@@ -8,11 +8,11 @@ use native.Mathlib.Omega.{arith}
 use Rattle.objects.specs.Steps.{endHere, nextIs}
 use Rattle.objects.specs.declared.reading.Reading.{Reading}
 use Rattle.talk.specs.Ranges.{Normal}
-use Rattle.store.specs.RangeTable.{rangesAt}
+use Rattle.ranges.specs.RangeTable.{rangesAt}
 use Rattle.store.specs.Knowledge.{Knowing, knowing, standing, specializedFrom, knowledgeFrom, knowledgeAnswer, KnownIs, ReadsKnowledge}
 use Rattle.store.specs.declared.knowledge.Known.{Known}
 use Rattle.store.specs.declared.knowledge.ReadKnowledge.{ReadKnowledge}
-use Rattle.store.proofs.RangeRows.{length-rows}
+use Rattle.ranges.proofs.RangeRows.{length-rows}
 use Rattle.store.proofs.KnowledgeForward.{knowledge-more, knowledge-end}
 
 -- ---- what is known, as the code has it

@@ -11,8 +11,6 @@ pub mod Chains
 pub mod Places
 pub mod OneAnswers
 pub mod WrongAnswers
-pub mod RangeRows
-pub mod RangeSearch
 pub mod ShortRanges
 pub mod Items
 pub mod Uniting

@@ -17,12 +17,12 @@ use Rattle.store.specs.declared.package.Packaged.{Packaged}
 use Rattle.store.specs.declared.package.Packaged.the-variants as packaged
 use Rattle.store.specs.declared.package.Stored.{Stored}
 use Rattle.store.specs.declared.package.Stored.the-variants as stored
-use Rattle.store.specs.RangeTable.{addedTo, laidIn, tellAdded}
+use Rattle.ranges.specs.RangeTable.{addedTo, laidIn, tellAdded}
 use Rattle.store.specs.Knowledge.{Knowing, ReadsKnowledge, tellItem, tellReadKnowledge}
 use Rattle.talk.specs.declared.range.Range.{Range}
 use Rattle.talk.proofs.Order.{same-range}
-use Rattle.store.specs.declared.ranges.Added.{Added}
-use Rattle.store.specs.declared.ranges.Added.the-variants as added
+use Rattle.ranges.specs.declared.Added.{Added}
+use Rattle.ranges.specs.declared.Added.the-variants as added
 use Rattle.store.specs.declared.item.Item.the-variants as item
 use Rattle.store.specs.declared.knowledge.ReadKnowledge.{ReadKnowledge}
 use Rattle.store.specs.declared.knowledge.ReadKnowledge.the-variants as read

@@ -9,7 +9,7 @@ use Rattle.numbers.specs.Guid.{guidBefore, swapped}
 use Rattle.numbers.specs.declared.guid.Guid.{Guid}
 use Rattle.numbers.proofs.Guids.{guid-order}
 use Rattle.talk.specs.Ranges.{isBefore}
-use Rattle.store.specs.Knowledge.{rangeOf}
+use Rattle.ranges.specs.Ranged.{rangeOf}
 
 choices : (p q r t x : Bool)
     → pick p true (pick q false (pick r true (pick t false x))) ≡ pick (pick p true (pick q false r)) true (pick (pick q true (pick p false t)) false x)

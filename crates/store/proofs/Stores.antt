@@ -14,14 +14,6 @@ put-three t i a b c p =
     let e2 : i + 2 ≡ suc (suc i) = omega arith in
     rw (e1, e2) (sets-eq (a ∷ b ∷ c ∷ []) t i p ∙ append-assoc (take i t) (a ∷ b ∷ c ∷ []) (drop (i + 3) t))
 
-pub put-four : (t : List ℕ) (i a b c d : ℕ) → i + 4 ≤ length t
-    → set (set (set (set t i a) (i + 1) b) (i + 2) c) (i + 3) d ≡ take i t ++ ((a ∷ b ∷ c ∷ d ∷ []) ++ drop (i + 4) t)
-put-four t i a b c d p =
-    let e1 : i + 1 ≡ suc i = omega arith in
-    let e2 : i + 2 ≡ suc (suc i) = omega arith in
-    let e3 : i + 3 ≡ suc (suc (suc i)) = omega arith in
-    rw (e1, e2, e3) (sets-eq (a ∷ b ∷ c ∷ d ∷ []) t i p ∙ append-assoc (take i t) (a ∷ b ∷ c ∷ d ∷ []) (drop (i + 4) t))
-
 pub put-six : (t : List ℕ) (i a b c d e f : ℕ) → i + 6 ≤ length t
     → set (set (set (set (set (set t i a) (i + 1) b) (i + 2) c) (i + 3) d) (i + 4) e) (i + 5) f
     ≡ take i t ++ ((a ∷ b ∷ c ∷ d ∷ e ∷ f ∷ []) ++ drop (i + 6) t)

@@ -10,7 +10,7 @@ use Rattle.laws.proofs.Loops.{iterate-ind}
 use Rattle.objects.specs.Steps.{onGuid, startOfLength, endHere, nextIs}
 use Rattle.objects.specs.declared.reading.Reading.{Reading}
 use Rattle.talk.specs.declared.range.Range.{Range}
-use Rattle.store.specs.RangeTable.{laidRanges}
+use Rattle.ranges.specs.RangeTable.{laidRanges}
 use Rattle.store.specs.Knowledge.{itemNext, itemAt, onItem, united, Knowing, knowing, itemsFrom, isCell, specializedGuid, cellFrom, specializedFrom, knowledgeTurn, toGo, unreached, knowledgeFrom, knowledgeAt}
 use Rattle.store.proofs.Uniting.{items-end, items-over, items-more}
 use Rattle.store.proofs.KnowledgeForward.{knowledge-falls, knowledge-more, knowledge-end, turn-more}

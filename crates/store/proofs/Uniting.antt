@@ -12,11 +12,11 @@ use Rattle.objects.specs.declared.reading.Reading.{Reading}
 use Rattle.talk.specs.Ranges.{insert, Normal}
 use Rattle.talk.specs.declared.range.Range.{Range}
 use Rattle.talk.proofs.Insertion.{length-insert}
-use Rattle.store.specs.RangeTable.{rangesAt, laidRanges, addedTo, laidIn}
+use Rattle.ranges.specs.RangeTable.{rangesAt, laidRanges, addedTo, laidIn}
 use Rattle.store.specs.Knowledge.{itemNext, itemKind, itemAt, onItem, united, Knowing, knowing, itemsFrom, KnownIs}
 use Rattle.store.specs.declared.knowledge.Known.{Known}
-use Rattle.store.specs.declared.ranges.Added.the-variants.{Rows}
-use Rattle.store.proofs.RangeRows.{length-rows, laid-rows, laid-same}
+use Rattle.ranges.specs.declared.Added.the-variants.{Rows}
+use Rattle.ranges.proofs.RangeRows.{length-rows, laid-rows, laid-same}
 use Rattle.store.proofs.Items.{sound-item, united-normal, length-united}
 
 -- ---- one item's range

@@ -25,7 +25,8 @@ use Rattle.objects.specs.declared.reading.ReadingSerial.{ReadingSerial}
 use Rattle.objects.specs.declared.reading.ReadingSerial.the-variants as serial′
 use Rattle.talk.specs.Ranges.{holds, insert, Normal}
 use Rattle.talk.specs.declared.range.Range.{Range}
-use Rattle.store.specs.RangeTable.{rangesAt, laidRanges}
+use Rattle.ranges.specs.Ranged.{rangeOf}
+use Rattle.ranges.specs.RangeTable.{rangesAt, laidRanges}
 use Rattle.store.specs.declared.item.Item.{Item}
 use Rattle.store.specs.declared.item.Item.the-variants as item
 use Rattle.store.specs.declared.item.RangeFields.{RangeFields}
@@ -34,10 +35,6 @@ use Rattle.store.specs.declared.knowledge.ReadKnowledge.{ReadKnowledge}
 use Rattle.store.specs.declared.knowledge.ReadKnowledge.the-variants as read
 
 -- ---- ranges and entries
-
--- the numbers from a to b under a GUID, which stands as two numbers in the order of its sixteen bytes
-unfoldable pub rangeOf : Guid → ℕ → ℕ → Range
-rangeOf g a b = record { upper = swapped (g .low); lower = swapped (g .high); from = a; to = b }
 
 -- the GUID that was read (zero after a fault)
 unfoldable pub guidIn : ReadingGuid → Guid
@@ -114,10 +111,6 @@ unfoldable pub united : Item → List Range → List Range
 united (item.Adds e x) l = insert x l
 united (item.Nothing e) l = l
 united (item.Refused r) l = l
-
--- whether a number under a GUID is among the ranges
-unfoldable pub knows : List Range → Guid → ℕ → Bool
-knows l g n = holds l (swapped (g .low)) (swapped (g .high)) n
 
 -- ---- what is known so far
 

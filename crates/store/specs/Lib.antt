@@ -4,6 +4,5 @@ pub mod Store
 pub mod Chain
 pub mod Accessor
 pub mod Written
-pub mod RangeTable
 pub mod Knowledge
 pub mod KnowledgeWritten

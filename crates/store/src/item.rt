@@ -1,7 +1,6 @@
 // Ranges and entries of a cell knowledge, read one at a time.
 ghost use mathlib.Core.Path.{_≡_};
 ghost use Rattle.store.specs.Knowledge.{guidIn, rangeFields, itemOf, rangeStart, rangeItem, entryOf, entryItem, itemNext, itemKind, itemAt, onItem};
-use crate::ranges::range_of;
 use numbers::guid::Guid;
 use numbers::refusal::Refusal;
 use numbers::serial::Serial;
@@ -9,6 +8,7 @@ use objects::header::short_number;
 use objects::reading::Reading;
 use objects::reading::ReadingGuid;
 use objects::reading::ReadingSerial;
+use ranges::range_of;
 use talk::range::Range;
 
 // The types of the objects.

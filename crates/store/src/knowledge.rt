@@ -3,18 +3,18 @@ ghost use mathlib.Core.Path.{_≡_};
 ghost use Prim.Native.Nat.{_+_, _*_, _≤_};
 ghost use lib.ListN.{length};
 ghost use Rattle.talk.specs.Ranges.{Normal};
-ghost use Rattle.store.specs.RangeTable.{rangesAt, laidRanges};
+ghost use Rattle.ranges.specs.RangeTable.{rangesAt, laidRanges};
 ghost use Rattle.store.specs.Knowledge.{knowing, united, itemsFrom, isCell, cellFrom, specializedFrom, knowledgeAt, knowledgeAnswer, KnownIs, ReadsKnowledge};
 use crate::item::CELL;
 use crate::item::Item;
 use crate::item::item_kind;
 use crate::item::item_next;
 use crate::item::read_item;
-use crate::ranges::Added;
-use crate::ranges::add_range;
 use numbers::refusal::Refusal;
 use objects::reading::Reading;
 use objects::reading::ReadingGuid;
+use ranges::Added;
+use ranges::add_range;
 
 // The types of the objects.
 pub const KNOWLEDGE: u64 = 0x10;

@@ -8,7 +8,7 @@ ghost use lib.ListN.{length, drop};
 ghost use Rattle.laws.specs.Placed.{Lays};
 ghost use Rattle.numbers.specs.Calls.{Writes};
 ghost use Rattle.objects.specs.Header.{startBytes};
-ghost use Rattle.store.specs.RangeTable.{rangesAt};
+ghost use Rattle.ranges.specs.RangeTable.{rangesAt};
 ghost use Rattle.store.specs.KnowledgeWritten.{guidOf, rangeData, rangeBytes, rangesBytes, cellFront, cellBack, knowledgeBytes};
 use crate::item::CELL;
 use crate::item::SHORT_RANGE;
@@ -21,12 +21,12 @@ use crate::lay::lay_end;
 use crate::lay::lay_guid;
 use crate::lay::lay_number;
 use crate::lay::lay_start;
-use crate::ranges::range_at;
 use numbers::compact::compact_length;
 use numbers::guid::Guid;
 use numbers::guid::swap;
 use numbers::refusal::Wrote;
 use numbers::refusal::too_short;
+use ranges::range_at;
 use talk::range::Range;
 
 // How many bytes a range takes: its header two, its GUID sixteen. Ruled out (proofs/KnowledgeWrongAnswers): 18 for a range

@@ -7,5 +7,4 @@ pub mod knowledge;
 pub mod knowledge_write;
 pub mod lay;
 pub mod package;
-pub mod ranges;
 pub mod table;

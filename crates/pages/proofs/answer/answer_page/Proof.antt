@@ -7,7 +7,7 @@ use native.Mathlib.Omega.{arith}
 use lib.ListN.{length}
 use Rattle.numbers.specs.declared.extended_guid.ExtendedGuid.{ExtendedGuid}
 use Rattle.talk.specs.Ranges.{Normal}
-use Rattle.store.specs.RangeTable.{rangesAt}
+use Rattle.ranges.specs.RangeTable.{rangesAt}
 use Rattle.store.specs.Store.{storeWalk}
 use Rattle.pages.specs.Choice.{storageIndex}
 use Rattle.pages.specs.Tables.{fixedLength}

@@ -7,7 +7,7 @@ use native.Mathlib.Omega.{arith}
 use lib.ListN.{length, take}
 use borrow.Author.Tests.{not-true, not-false}
 use Rattle.talk.specs.declared.range.Range.{Range}
-use Rattle.store.specs.RangeTable.{rangesAt}
+use Rattle.ranges.specs.RangeTable.{rangesAt}
 use Rattle.store.specs.KnowledgeWritten.{rangesBytes}
 use Rattle.request.specs.Choice.{elementOf}
 use Rattle.pages.specs.Tables.{chosenIn}

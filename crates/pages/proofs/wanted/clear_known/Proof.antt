@@ -6,7 +6,7 @@ use Prim.Native.Nat.{_-_}
 use native.Mathlib.Omega.{arith}
 use lib.ListN.{length, length-set}
 use borrow.Author.Needs.{needs}
-use Rattle.store.specs.RangeTable.{rangesAt}
+use Rattle.ranges.specs.RangeTable.{rangesAt}
 use Rattle.request.specs.Choice.{elementsIn, setFlags}
 use Rattle.request.proofs.Setting.{Setting, setting-start, setting-matched, setting-passed, setting-end}
 use Rattle.pages.specs.Choice.{isKnown}

@@ -3,7 +3,7 @@
 use mathlib.Core.List.{_++_}
 use native.Mathlib.Omega.{arith}
 use lib.ListN.{take, length-append}
-use Rattle.store.specs.RangeTable.{rangesAt}
+use Rattle.ranges.specs.RangeTable.{rangesAt}
 use Rattle.store.specs.KnowledgeWritten.{knowledgeBytes}
 use Rattle.laws.proofs.Placing.{lays-then}
 use Rattle.pages.specs.Written.{elementsBytes, endsBytes}

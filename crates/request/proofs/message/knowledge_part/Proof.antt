@@ -2,7 +2,7 @@
 -- Assumes nothing.
 use mathlib.Core.Path.{refl, sym, _∙_}
 use Rattle.talk.specs.Ranges.{Normal}
-use Rattle.store.specs.RangeTable.{rangesAt}
+use Rattle.ranges.specs.RangeTable.{rangesAt}
 use Rattle.request.specs.Message.{knowledgePart}
 use borrow.Author.Needs.{needs}
 use Rattle.request.proofs.message.knowledge_part.Statement.{statement}

@@ -4,7 +4,7 @@ use mathlib.Core.Path.{_≡_, refl, sym, _∙_}
 use native.Mathlib.Omega.{arith}
 use lib.ListN.{length}
 use borrow.Author.Needs.{needs}
-use Rattle.store.specs.RangeTable.{rangesAt}
+use Rattle.ranges.specs.RangeTable.{rangesAt}
 use Rattle.store.specs.Knowledge.{itemsFrom}
 use Rattle.store.proofs.Uniting.{Uniting, uniting-end, uniting-over, uniting-more}
 use Rattle.store.proofs.knowledge.read_items.Statement.{statement}

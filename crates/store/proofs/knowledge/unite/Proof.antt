@@ -4,7 +4,7 @@ use mathlib.Core.Path.{_≡_, sym, _∙_}
 use native.Mathlib.Omega.{arith}
 use Rattle.laws.proofs.Cases.{impossible}
 use Rattle.store.specs.Knowledge.{united}
-use Rattle.store.specs.declared.ranges.Added.the-variants.{Rows}
+use Rattle.ranges.specs.declared.Added.the-variants.{Rows}
 use Rattle.store.proofs.Uniting.{added-fits, none-added}
 use borrow.Author.Needs.{needs}
 use Rattle.store.proofs.knowledge.unite.Statement.{statement}

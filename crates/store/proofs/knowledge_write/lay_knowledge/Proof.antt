@@ -6,7 +6,7 @@ use Prim.Native.Nat.{_+_, _≤_}
 use native.Mathlib.Omega.{arith}
 use lib.ListN.{length, length-append}
 use Rattle.objects.specs.Header.{startBytes, endBytes}
-use Rattle.store.specs.RangeTable.{rangesAt}
+use Rattle.ranges.specs.RangeTable.{rangesAt}
 use Rattle.store.specs.KnowledgeWritten.{rangesBytes, cellFront, cellBack}
 use Rattle.laws.proofs.Placing.{lays-then}
 use Rattle.store.proofs.KnowledgeLengths.{length-front, length-back, knowledge-none, knowledge-some, length-none, length-some}

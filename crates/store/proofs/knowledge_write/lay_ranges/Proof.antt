@@ -6,7 +6,7 @@ use Prim.Native.Nat.{ℕ, _+_, _-_, _≤_, _<_}
 use native.Mathlib.Omega.{arith}
 use lib.ListN.{length}
 use Rattle.talk.specs.declared.range.Range.{Range}
-use Rattle.store.specs.RangeTable.{rangeAt, rangesAt}
+use Rattle.ranges.specs.RangeTable.{rangeAt, rangesAt}
 use Rattle.store.specs.KnowledgeWritten.{rangeBytes, rangesBytes}
 use Rattle.laws.specs.Placed.{laid, Lays}
 use Rattle.laws.proofs.Placing.{laid-nothing, lays-first}

@@ -1,7 +1,7 @@
 -- `knowledge_write::put_knowledge` meets its contract.
 -- Assumes nothing.
 use mathlib.Core.Path.{_∙_}
-use Rattle.store.specs.RangeTable.{rangesAt}
+use Rattle.ranges.specs.RangeTable.{rangesAt}
 use Rattle.store.specs.KnowledgeWritten.{knowledgeBytes}
 use Rattle.laws.proofs.Placing.{laid-front}
 use borrow.Author.Needs.{needs}

@@ -5,7 +5,7 @@ use Prim.Native.Nat.{_+_, _-_, _*_, _≤_, _<_}
 use native.Mathlib.Omega.{arith}
 use lib.ListN.{length}
 use Rattle.talk.specs.declared.range.Range.{Range}
-use Rattle.store.specs.RangeTable.{rangeAt, rangesAt}
+use Rattle.ranges.specs.RangeTable.{rangeAt, rangesAt}
 use Rattle.store.specs.KnowledgeWritten.{rangeBytes, rangesBytes}
 use Rattle.store.proofs.KnowledgeLengths.{length-turn, length-end}
 use borrow.Author.Needs.{needs}

@@ -5,7 +5,7 @@ use mathlib.Core.List.{_++_}
 use Prim.Native.Nat.{ℕ}
 use lib.ListN.{drop}
 use Rattle.numbers.proofs.Calls.{wrote-short, wrote-done}
-use Rattle.store.specs.RangeTable.{rangesAt}
+use Rattle.ranges.specs.RangeTable.{rangesAt}
 use Rattle.store.specs.KnowledgeWritten.{knowledgeBytes}
 use borrow.Author.Needs.{needs}
 use Rattle.store.proofs.knowledge_write.write_knowledge.Statement.{statement}

@@ -1,0 +1,70 @@
+-- `ranges::put_range` meets its contract.
+-- Assumes nothing.
+use Prim.Native.Nat.{_*_}
+use native.Mathlib.Omega.{arith}
+use lib.ListN.{length-set}
+use Rattle.ranges.proofs.Four.{put-four}
+use borrow.Author.Needs.{needs}
+use Rattle.ranges.proofs.put_range.Statement.{statement}
+use Rattle.ranges.proofs.put_range.Tie as tie
+
+mul-at : tie.Need-mul-at
+mul-at c = search needs
+
+mul-t : tie.Need-mul-t
+mul-t c = search needs
+
+slice-write-t : tie.Need-slice-write-t
+slice-write-t c = search needs
+
+add-t : tie.Need-add-t
+add-t c = search needs
+
+mul-t-2 : tie.Need-mul-t-2
+mul-t-2 c = search needs
+
+slice-write-t-2 : tie.Need-slice-write-t-2
+slice-write-t-2 c = simp length-set (omega arith)
+
+add-t-2 : tie.Need-add-t-2
+add-t-2 c = search needs
+
+mul-t-3 : tie.Need-mul-t-3
+mul-t-3 c = search needs
+
+slice-write-t-3 : tie.Need-slice-write-t-3
+slice-write-t-3 c = simp length-set (omega arith)
+
+add-t-3 : tie.Need-add-t-3
+add-t-3 c = search needs
+
+mul-t-4 : tie.Need-mul-t-4
+mul-t-4 c = search needs
+
+slice-write-t-4 : tie.Need-slice-write-t-4
+slice-write-t-4 c = simp length-set (omega arith)
+
+same-length : tie.Need-same-length
+same-length c = search needs
+
+returns : tie.Need-returns
+returns c = put-four (c .args .t .now) (c .args .k * 4) (c .args .x .upper) (c .args .x .lower) (c .args .x .from) (c .args .x .to) (omega arith)
+
+pub put-range-spec : {M : Type 1} → statement M
+put-range-spec =
+    tie.close
+    (tie.spec
+    mul-at
+    mul-t
+    slice-write-t
+    add-t
+    mul-t-2
+    slice-write-t-2
+    add-t-2
+    mul-t-3
+    slice-write-t-3
+    add-t-3
+    mul-t-4
+    slice-write-t-4
+    same-length
+    returns)

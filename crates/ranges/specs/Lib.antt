@@ -1,0 +1,2 @@
+pub mod RangeTable
+pub mod Ranged

@@ -1,0 +1,59 @@
+-- The working table of ranges: what a row is as numbers, the ranges that stand in a table, and what adding one answers.
+-- Assumes nothing.
+use mathlib.Core.Path.{_≡_}
+use mathlib.Core.Bool.{true, false}
+use Prim.Native.Nat.{ℕ, zero, suc, _+_, _*_, _≤_, _<_}
+use mathlib.Core.List.{List, [], _∷_, _++_}
+use lib.ListN.{length, drop, getD}
+use lib.Dec.{leb}
+use Rattle.laws.specs.Pick.{pick}
+use Rattle.numbers.specs.Refusals.{Told, gives}
+use Rattle.talk.specs.Ranges.{isBefore}
+use Rattle.talk.specs.declared.range.Range.{Range}
+use Rattle.ranges.specs.declared.Added.{Added}
+use Rattle.ranges.specs.declared.Added.the-variants.{Rows, Full}
+
+-- row k
+abbrev pub rangeAt : List ℕ → ℕ → Range
+rangeAt t k =
+    record {
+      upper = getD t (k * 4) 0;
+      lower = getD t (k * 4 + 1) 0;
+      from = getD t (k * 4 + 2) 0;
+      to = getD t (k * 4 + 3) 0;
+    }
+
+-- n rows from row k on
+unfoldable pub rangesAt : List ℕ → ℕ → ℕ → List Range
+rangesAt t k zero = []
+rangesAt t k (suc n) = rangeAt t k ∷ rangesAt t (suc k) n
+
+abbrev pub rangeNumbers : Range → List ℕ
+rangeNumbers x = x .upper ∷ x .lower ∷ x .from ∷ x .to ∷ []
+
+-- the numbers of each range, one behind the other
+unfoldable pub numbersOf : List Range → List ℕ
+numbersOf [] = []
+numbersOf (x ∷ xs) = rangeNumbers x ++ numbersOf xs
+
+-- row i is the first of `count` that does not lie wholly before x
+pub record FirstNotBefore (t : List ℕ) (count : ℕ) (x : Range) (i : ℕ) : Type 0 where
+  pub most : i ≤ count
+  pub before : (j : ℕ) → j < i → isBefore (rangeAt t j) x ≡ true
+  pub stop : i < count → isBefore (rangeAt t i) x ≡ false
+
+-- the rows of a list, and behind them the table's own numbers
+abbrev pub laidRanges : List Range → List ℕ → List ℕ
+laidRanges l t = numbersOf l ++ drop (length l * 4) t
+
+-- what is answered where the rows are to be these, and what the table then holds: without room it is as it was
+abbrev pub addedTo : List ℕ → List Range → Added
+addedTo t l = pick (leb (length l * 4) (length t)) (Rows (length l)) Full
+
+abbrev pub laidIn : List ℕ → List Range → List ℕ
+laidIn t l = pick (leb (length l * 4) (length t)) (laidRanges l t) t
+
+-- the number of rows then; nothing where there is no room
+abbrev pub tellAdded : Added → Told
+tellAdded (Rows n) = gives (n ∷ [])
+tellAdded Full = gives []
