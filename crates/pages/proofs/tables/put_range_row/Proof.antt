@@ -4,7 +4,7 @@ use Prim.Native.Nat.{_*_}
 use native.Mathlib.Omega.{arith}
 use lib.ListN.{length-set}
 use Rattle.store.specs.KnowledgeWritten.{guidOf}
-use Rattle.store.proofs.Stores.{put-four}
+use Rattle.ranges.proofs.Four.{put-four}
 use borrow.Author.Needs.{needs}
 use Rattle.pages.proofs.tables.put_range_row.Statement.{statement}
 use Rattle.pages.proofs.tables.put_range_row.Tie as tie
