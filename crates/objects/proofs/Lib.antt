@@ -3,8 +3,6 @@ pub mod HeaderForms
 pub mod Ahead
 pub mod Short
 pub mod Next
-pub mod Nested
-pub mod Gone
 pub mod Shift
 pub mod Rules
 pub mod Local

@@ -1,27 +1,29 @@
 -- What stands at a place of a run: by its two bytes where its header is short; that it lies ahead; and an object and a run by it. Only the
 -- proofs of `nesting` need this.
 -- Assumes nothing.
-use mathlib.Core.Path.{_≡_, refl, ap, subst, _∙_}
+use mathlib.Core.Path.{_≡_, refl, sym, ap, subst, _∙_}
 use mathlib.Core.Bool.{Bool, true, false}
 use mathlib.Core.List.{List}
 use Prim.Native.Nat.{ℕ, _+_, _-_, _/_, _%_, _≤_, _<_}
 use native.Mathlib.Omega.{arith}
 use lib.ListN.{length, getD}
-use lib.Dec.{eqb}
-use borrow.Author.Tests.{eqb-false, eq-eqb, ne-eqb}
+use lib.Dec.{ltb, eqb}
+use borrow.Author.Tests.{lt-ltb, le-ltb, ltb-false, eqb-true, eqb-false, eq-eqb, ne-eqb}
 use Rattle.laws.specs.Pick.{pick}
 use Rattle.laws.specs.Loop.{after}
 use Rattle.laws.proofs.Cases.{by-bool, impossible, pick-all}
 use Rattle.numbers.specs.Refusals.{faultAt}
 use Rattle.objects.specs.Header.{startOf, headerAt}
 use Rattle.objects.specs.Nesting.{dataPast, andOn, onward, objectAt, runAt}
-use Rattle.objects.specs.Next.{shortNumber, objectOn, MayOpen, passing, opening, nextOn, nextAt, endedAt}
+use Rattle.objects.specs.Next.{shortNumber, objectOn, passing, opening, nextOn, nextAt, metBy, plainOn, metAt, endedAt}
 use Rattle.objects.specs.declared.header.Header.{Header}
 use Rattle.objects.specs.declared.header.Header.the-variants as header
 use Rattle.objects.specs.declared.nesting.Passed.{Passed}
 use Rattle.objects.specs.declared.nesting.Passed.the-variants.{To, Refused}
 use Rattle.objects.specs.declared.nesting.Next.{Next}
 use Rattle.objects.specs.declared.nesting.Next.the-variants as next
+use Rattle.objects.specs.declared.nesting.Met.{Met}
+use Rattle.objects.specs.declared.nesting.Met.the-variants as met
 use Rattle.objects.proofs.HeaderLaws.{Fits, header-fits}
 use Rattle.objects.proofs.Ahead.{data-ahead, AtLeast, object-at, run-at, run-start}
 use Rattle.objects.proofs.Short.{short-start, short-end, short-data}
@@ -89,22 +91,7 @@ pub next-ahead : (s : List ℕ) (at d : ℕ) (n : Next) → nextAt s at d ≡ n 
 unfolding nextAt
 next-ahead s at d n e = subst (NextAhead s at d) e (next-on-ahead s at d (headerAt s at) (header-fits s at))
 
-may-open : (s : List ℕ) (at d : ℕ) (n : Next) → NextAhead s at d n → MayOpen d n
-may-open s at d (next.Past e) h = tt
-may-open s at d (next.Ends k e) h = tt
-may-open s at d (next.Opens k e) h = h .2
-may-open s at d (next.Refused r) h = tt
-
-pub next-may-open : (s : List ℕ) (at d : ℕ) → MayOpen d (nextAt s at d)
-next-may-open s at d = may-open s at d (nextAt s at d) (next-ahead s at d (nextAt s at d) refl)
-
 -- ---- an object, and a run, by what stands there
-
-abbrev pub runOn : List ℕ → ℕ → ℕ → ℕ → Next → Passed
-runOn s at d kind (next.Refused r) = Refused r
-runOn s at d kind (next.Ends k e) = endedAt at kind k e
-runOn s at d kind (next.Past e) = runAt s e d kind
-runOn s at d kind (next.Opens k e) = andOn (runAt s e (d - 1) k) (λ i. runAt s i d kind)
 
 object-passing : (s : List ℕ) (at d : ℕ) (p : Passed) → p ≡ objectOn s at d (passing p)
 object-passing s at d (To e) = refl
@@ -127,39 +114,85 @@ pub object-next-on : (s : List ℕ) (at d : ℕ) (n : Next) → nextAt s at d �
 unfolding nextAt
 object-next-on s at d n e = object-by-header s at d (headerAt s at) refl ∙ ap (objectOn s at d) e
 
+-- ---- what a run meets, by the two bytes that stand there
+
+module _ (s : List ℕ) (at w : ℕ) (is : shortNumber s at ≡ w) where
+  pub met-by-header : (w % 4 ≡ 0 → ⊥) → metAt s at ≡ metBy at (headerAt s at)
+  unfolding metAt
+  met-by-header low = rw (is, ne-eqb (w % 4) 0 low)
+
+  pub met-end : w % 4 ≡ 1 → metAt s at ≡ met.End (getD s at 0 / 4) (at + 1)
+  met-end low = met-by-header (λ z. omega arith) ∙ ap (metBy at) (short-end s at (ap (λ (x : ℕ). x % 4) is ∙ low))
+
+  module _ (low : w % 4 ≡ 0) where
+    pub met-compound : (w / 4 % 2 ≡ 0 → ⊥) → metAt s at ≡ met.Object
+    unfolding metAt
+    met-compound bit = rw (is, eq-eqb (w % 4) 0 low, ne-eqb (w / 4 % 2) 0 bit)
+
+    module _ (bit : w / 4 % 2 ≡ 0) where
+      pub met-cut : length s - at - 2 < w / 8 / 64 → metAt s at ≡ met.Object
+      unfolding metAt
+      met-cut cut = rw (is, eq-eqb (w % 4) 0 low, eq-eqb (w / 4 % 2) 0 bit, lt-ltb (length s - at - 2) (w / 8 / 64) cut)
+
+      pub met-wide : w / 8 / 64 ≤ length s - at - 2 → 127 < w / 8 / 64 → metAt s at ≡ met.Object
+      unfolding metAt
+      met-wide fits wide =
+          rw (is, eq-eqb (w % 4) 0 low, eq-eqb (w / 4 % 2) 0 bit, le-ltb (length s - at - 2) (w / 8 / 64) fits, lt-ltb 127 (w / 8 / 64) wide)
+
+      pub met-plain : (e : ℕ) → w / 8 / 64 ≤ length s - at - 2 → w / 8 / 64 ≤ 127 → at + 2 + w / 8 / 64 ≡ e → metAt s at ≡ met.Plain e
+      unfolding metAt
+      met-plain e fits few end =
+          rw (is, eq-eqb (w % 4) 0 low, eq-eqb (w / 4 % 2) 0 bit, le-ltb (length s - at - 2) (w / 8 / 64) fits, le-ltb 127 (w / 8 / 64) few, end)
+
+-- ---- a run, by what it meets
+
+-- a plain object, and the run goes on behind it; an end, its own or another; an object, and the run goes on behind it
+abbrev pub Meets : List ℕ → ℕ → Met → Type 0
+Meets s at (met.Plain e) = (d kind : ℕ) → (runAt s at d kind ≡ runAt s e d kind) × (at < e) × (e ≤ length s)
+Meets s at (met.End k e) = (d kind : ℕ) → runAt s at d kind ≡ endedAt at kind k e
+Meets s at met.Object = (d kind : ℕ) (p : Passed) → objectAt s at d ≡ p → runAt s at d kind ≡ andOn p (λ i. runAt s i d kind)
+
 and-onward : (p : Passed) (go : ℕ → Passed) → after go (onward p) ≡ andOn p go
 and-onward (To e) go = refl
 and-onward (Refused r) go = refl
 
--- a start: its object, and then the run
-run-object-on : (s : List ℕ) (at d kind : ℕ) (n : Next) → ((k e : ℕ) → n ≡ next.Ends k e → ⊥)
-    → after (λ i. runAt s i d kind) (onward (objectOn s at d n)) ≡ runOn s at d kind n
-run-object-on s at d kind (next.Refused r) h = refl
-run-object-on s at d kind (next.Ends k e) h = absurd (h k e refl)
-run-object-on s at d kind (next.Past e) h = refl
-run-object-on s at d kind (next.Opens k e) h = and-onward (runAt s e (d - 1) k) (λ i. runAt s i d kind)
+by-header-met : (s : List ℕ) (at : ℕ) (h : Header) → headerAt s at ≡ h → Meets s at (metBy at h)
+by-header-met s at (header.Refused r) q = λ d kind p o.
+    run-at s at d kind (header.Refused r) q ∙ ap (λ (x : Passed). andOn x (λ i. runAt s i d kind)) (sym (object-at s at d (header.Refused r) q) ∙ o)
+by-header-met s at (header.End k u) q = λ d kind. run-at s at d kind (header.End k u) q
+by-header-met s at (header.Start k c n u) q = λ d kind p o. run-start s at d kind k c n u q p o ∙ and-onward p (λ i. runAt s i d kind)
 
-passing-no-end : (p : Passed) (k e : ℕ) → passing p ≡ next.Ends k e → ⊥
-passing-no-end (To i) k e q = impossible (cc)
-passing-no-end (Refused r) k e q = impossible (cc)
+module _ (s : List ℕ) (at w : ℕ) (is : shortNumber s at ≡ w) (low : w % 4 ≡ 0) where
+  start-here : headerAt s at ≡ header.Start (w / 8 % 64) (eqb (w / 4 % 2) 1) (w / 8 / 64) 2
+  unfolding startOf
+  start-here = short-start s at (ap (λ (x : ℕ). x % 4) is ∙ low) ∙ rw is
 
-opening-no-end : (o : ℕ) (p : Passed) (k e : ℕ) → opening o p ≡ next.Ends k e → ⊥
-opening-no-end o (To i) k e q = impossible (cc)
-opening-no-end o (Refused r) k e q = impossible (cc)
+  object-met : Meets s at met.Object
+  object-met = by-header-met s at (header.Start (w / 8 % 64) (eqb (w / 4 % 2) 1) (w / 8 / 64) 2) start-here
 
-start-no-end : (s : List ℕ) (at d j : ℕ) (c : Bool) (n u k e : ℕ) → nextOn s at d (header.Start j c n u) ≡ next.Ends k e → ⊥
-start-no-end s at d j true n u k e q =
-    by-bool (eqb d 0) (λ z. impossible (let y = rw z at q in cc)) (λ z. opening-no-end j (dataPast s (at + u) n) k e (rw z at q))
-start-no-end s at d j false n u k e q = passing-no-end (dataPast s (at + u) n) k e q
+  plain-met : w / 4 % 2 ≡ 0 → w / 8 / 64 ≤ length s - at - 2 → w / 8 / 64 ≤ 127 → Meets s at (met.Plain (at + 2 + w / 8 / 64))
+  plain-met bit fits few = λ d kind.
+      let e = at + 2 + w / 8 / 64 in
+      let x = next-plain s at d w is low few fits bit in
+      let a = next-ahead s at d (next.Past e) x in
+      (run-start s at d kind (w / 8 % 64) (eqb (w / 4 % 2) 1) (w / 8 / 64) 2 start-here (To e) (object-next-on s at d (next.Past e) x), a .0, a .1)
 
-run-by-header : (s : List ℕ) (at d kind : ℕ) (h : Header) → headerAt s at ≡ h → runAt s at d kind ≡ runOn s at d kind (nextOn s at d h)
-run-by-header s at d kind (header.Refused r) e = run-at s at d kind (header.Refused r) e
-run-by-header s at d kind (header.End k u) e = run-at s at d kind (header.End k u) e
-run-by-header s at d kind (header.Start k c n u) e =
-    let h = header.Start k c n u in
-    run-start s at d kind k c n u e (objectOn s at d (nextOn s at d h)) (object-by-header s at d h e)
-    ∙ run-object-on s at d kind (nextOn s at d h) (λ j i q. start-no-end s at d k c n u j i q)
+  pub start-met : Meets s at (plainOn s at w (w / 8 / 64))
+  start-met =
+      pick-all (Meets s at) (eqb (w / 4 % 2) 0) _ _
+      (λ b.
+      pick-all (Meets s at) (ltb (length s - at - 2) (w / 8 / 64)) _ _ (λ t. object-met)
+      (λ t.
+      pick-all (Meets s at) (ltb 127 (w / 8 / 64)) _ _ (λ u. object-met)
+      (λ u. plain-met (eqb-true (w / 4 % 2) 0 b) (ltb-false (length s - at - 2) (w / 8 / 64) t) (ltb-false 127 (w / 8 / 64) u))))
+      (λ b. object-met)
 
-pub run-next-on : (s : List ℕ) (at d kind : ℕ) (n : Next) → nextAt s at d ≡ n → runAt s at d kind ≡ runOn s at d kind n
-unfolding nextAt
-run-next-on s at d kind n e = run-by-header s at d kind (headerAt s at) refl ∙ ap (runOn s at d kind) e
+met-here : (s : List ℕ) (at : ℕ) → Meets s at (metAt s at)
+unfolding metAt
+met-here s at =
+    pick-all (Meets s at) (eqb (shortNumber s at % 4) 0) _ _
+    (λ t. start-met s at (shortNumber s at) refl (eqb-true (shortNumber s at % 4) 0 t))
+    (λ t. by-header-met s at (headerAt s at) refl)
+
+pub met-is : (s : List ℕ) (at : ℕ) (m : Met) → metAt s at ≡ m → Meets s at m
+met-is s at m e = subst (Meets s at) e (met-here s at)

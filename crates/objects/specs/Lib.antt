@@ -2,7 +2,6 @@ pub mod Header
 pub mod Nesting
 pub mod Steps
 pub mod Next
-pub mod Nest
 pub mod Tellings
 pub mod Calls
 pub mod Cases

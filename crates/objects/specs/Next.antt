@@ -1,7 +1,7 @@
--- What stands at a place of a run, and an object from there. Only the code of `nesting` needs this: that a run is what document 01 says
+-- What stands at a place of a run, an object from there, and what a run meets. Only the code of `nesting` needs this: that a run is what document 01 says
 -- stands in Nesting.antt, and nothing here adds to it, so a reader of the promises can skip it.
 -- Assumes nothing.
-use Prim.Native.Nat.{ℕ, _+_, _-_, _/_, _%_, _<_}
+use Prim.Native.Nat.{ℕ, _+_, _-_, _/_, _%_}
 use mathlib.Core.Bool.{Bool, false}
 use mathlib.Core.List.{List}
 use lib.ListN.{length, take, drop}
@@ -18,6 +18,8 @@ use Rattle.objects.specs.declared.nesting.Passed.{Passed}
 use Rattle.objects.specs.declared.nesting.Passed.the-variants.{To, Refused}
 use Rattle.objects.specs.declared.nesting.Next.{Next}
 use Rattle.objects.specs.declared.nesting.Next.the-variants as next
+use Rattle.objects.specs.declared.nesting.Met.{Met}
+use Rattle.objects.specs.declared.nesting.Met.the-variants as met
 
 -- the two bytes at a place as a number; 3 where they are not there, which is neither a start of two bytes nor an end of one
 unfoldable pub shortNumber : List ℕ → ℕ → ℕ
@@ -54,12 +56,23 @@ objectOn s at d (next.Ends k e) = Refused (faultAt 4 at)
 objectOn s at d (next.Past e) = To e
 objectOn s at d (next.Opens k e) = runAt s e (d - 1) k
 
--- a compound object may be opened only where a level is left
-abbrev pub MayOpen : ℕ → Next → Type 0
-MayOpen d (next.Opens k e) = 0 < d
-MayOpen d (next.Refused r) = Unit {0}
-MayOpen d (next.Ends k e) = Unit {0}
-MayOpen d (next.Past e) = Unit {0}
+-- ---- what a run meets: a plain object whose header has two bytes, and whose data is there; an end; or what is for `read_object`
+
+abbrev pub metBy : ℕ → Header → Met
+metBy at (header.Refused r) = met.Object
+metBy at (header.End k u) = met.End k (at + u)
+metBy at (header.Start k c n u) = met.Object
+
+-- a start of two bytes, w as a number, of a plain object with n bytes of data, if they are there
+abbrev pub plainOn : List ℕ → ℕ → ℕ → ℕ → Met
+plainOn s at w n =
+    pick (eqb (w / 4 % 2) 0) (pick (ltb (length s - at - 2) n) met.Object (pick (ltb 127 n) met.Object (met.Plain (at + 2 + n)))) met.Object
+
+abbrev pub metOn : List ℕ → ℕ → ℕ → Met
+metOn s at w = pick (eqb (w % 4) 0) (plainOn s at w (w / 8 / 64)) (metBy at (headerAt s at))
+
+unfoldable pub metAt : List ℕ → ℕ → Met
+metAt s at = metOn s at (shortNumber s at)
 
 abbrev pub endedAt : ℕ → ℕ → ℕ → ℕ → Passed
 endedAt at kind k e = pick (eqb k kind) (To e) (Refused (faultAt 4 at))

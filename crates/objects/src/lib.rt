@@ -3,6 +3,5 @@
 pub mod header;
 pub mod header_write;
 pub mod layout;
-pub mod nest;
 pub mod nesting;
 pub mod reading;

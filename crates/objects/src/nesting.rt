@@ -1,10 +1,11 @@
-// One object and a run of objects, which call each other: the depth falls with each compound object that is opened, the bytes left from
-// turn to turn. A run is one loop, so that the stack grows with the depth alone. Most headers are short, a start of two bytes or an end
-// of one, and these are told by their bytes, without a `Header`. Before each turn a run goes by as many of them as it can at one go
-// (nest.rt).
+// One object and a run of objects, which call each other: `read_object` calls `read_run` for the inside of a compound object, and a turn of
+// `read_run` calls `read_object`. The depth falls with each compound object that is opened, the bytes left from turn to turn. A run is one
+// loop, so that the stack grows with the depth alone; without a call it goes by plain objects with short headers and by its own end only.
+// Most headers are short, a start of two bytes or an end of one, and these are told by their bytes, without a `Header`.
 ghost use mathlib.Core.Path.{_≡_};
 ghost use Rattle.objects.specs.Nesting.{dataPast, objectAt, runAt};
-ghost use Rattle.objects.specs.Next.{nextAt, MayOpen, objectOn, endedAt};
+ghost use Rattle.objects.specs.Next.{nextAt, metBy, metAt, endedAt};
+ghost use Rattle.objects.specs.Header.{headerAt};
 use crate::header::Header;
 use crate::header::Length;
 use crate::header::SHORT_TYPES;
@@ -12,10 +13,6 @@ use crate::header::header_at;
 use crate::header::left_of;
 use crate::header::length_at;
 use crate::header::short_number;
-use crate::nest::Going;
-use crate::nest::Nest;
-use crate::nest::gone_short;
-use crate::nest::room_in;
 use numbers::refusal::Refusal;
 use numbers::refusal::at_place;
 
@@ -107,12 +104,12 @@ fn next_at(s: &[u8], at: usize, depth: usize) -> Next
     next_by_header(s, at, depth)
 }
 
-// The object that stands at a place, by what was found there: the run inside it has one level fewer.
-fn object_on(s: &[u8], at: usize, depth: usize, next: Next) -> Passed
-    requires { ⌜ MayOpen depth next ⌝ }
-    ensures { λ r. ⌜ r ≡ objectOn (now (s .entry)) at depth next ⌝ }
+// The object at a place of the input, with so many compound objects still to be opened: the run inside it has one level fewer. Ruled out
+// (proofs/WrongAnswers): `0C 00 05` ended at 2, behind its own data; the same taken with no level left.
+pub fn read_object(s: &[u8], at: usize, depth: usize) -> Passed
+    ensures { λ r. ⌜ r ≡ objectAt (now (s .entry)) at depth ⌝ }
 {
-    match next {
+    match next_at(s, at, depth) {
         Next::Refused(r) => Passed::Refused(r),
         Next::Past(e) => Passed::To(e),
         Next::Ends(_, _) => Passed::Refused(at_place(4, at)),
@@ -120,12 +117,53 @@ fn object_on(s: &[u8], at: usize, depth: usize, next: Next) -> Passed
     }
 }
 
-// The object at a place of the input, with so many compound objects still to be opened. Ruled out (proofs/WrongAnswers): `0C
-// 00 05` ended at 2, behind its own data; the same taken with no level left.
-pub fn read_object(s: &[u8], at: usize, depth: usize) -> Passed
-    ensures { λ r. ⌜ r ≡ objectAt (now (s .entry)) at depth ⌝ }
+// What a run meets at a place: a plain object with a short header, which ends there; an end, with its type and the place behind it; or
+// what is for `read_object`.
+pub enum Met {
+    Plain(usize),
+    End(u64, usize),
+    Object,
+}
+
+// The same as `met_at`, where no short header stands.
+fn met_by_header(s: &[u8], at: usize) -> Met
+    ensures { λ r. ⌜ r ≡ metBy at (headerAt (now (s .entry)) at) ⌝ }
 {
-    object_on(s, at, depth, next_at(s, at, depth))
+    match header_at(s, at) {
+        Header::Refused(_) => Met::Object,
+        Header::Start(_, _, _, _) => Met::Object,
+        Header::End(kind, used) => Met::End(kind, at + used),
+    }
+}
+
+// What a run meets at a place. That a start has no data is a case of its own because the place behind it then does not wait for the
+// length, if the processor guesses right; what is told is the same.
+fn met_at(s: &[u8], at: usize) -> Met
+    ensures { λ r. ⌜ r ≡ metAt (now (s .entry)) at ⌝ }
+{
+    let w = short_number(s, at);
+    let low = w % 4;
+    if low == 0 {
+        if w / 4 % 2 != 0 {
+            return Met::Object;
+        }
+        let n = w / 8 / SHORT_TYPES;
+        if n == 0 {
+            return Met::Plain(at + 2);
+        }
+        let left = (s.len() - at - 2) as u64;
+        if left < n {
+            return Met::Object;
+        }
+        if 127 < n {
+            return Met::Object;
+        }
+        return Met::Plain(at + 2 + n as usize);
+    }
+    if low == 1 {
+        return Met::End(s[at] as u64 / 4, at + 1);
+    }
+    met_by_header(s, at)
 }
 
 // The run's own end, if it is of its type.
@@ -143,32 +181,17 @@ fn ended_at(at: usize, kind: u64, k: u64, e: usize) -> Passed
 pub fn read_run(s: &[u8], at: usize, depth: usize, kind: u64) -> Passed
     ensures { λ r. ⌜ r ≡ runAt (now (s .entry)) at depth kind ⌝ }
 {
-    let room = room_in(depth);
-    let mut nest = Nest::new(at);
+    let mut i = at;
     loop {
-        nest = gone_short(s, nest, room);
-        let i = nest.place;
-        let inner = nest.inner;
-        match next_at(s, i, depth - inner) {
-            Next::Refused(r) => return Passed::Refused(r),
-            Next::Past(e) => {
-                nest = nest.on(e);
+        match met_at(s, i) {
+            Met::Plain(e) => {
+                i = e;
             }
-            Next::Ends(k, e) => {
-                if inner == 0 {
-                    return ended_at(i, kind, k, e);
-                }
-                match nest.past_end(k, e) {
-                    Going::Stops => return Passed::Refused(at_place(4, i)),
-                    Going::On(next) => {
-                        nest = next;
-                    }
-                }
-            }
-            Next::Opens(k, e) => match object_on(s, i, depth - inner, Next::Opens(k, e)) {
+            Met::End(k, e) => return ended_at(i, kind, k, e),
+            Met::Object => match read_object(s, i, depth) {
                 Passed::Refused(r) => return Passed::Refused(r),
-                Passed::To(next) => {
-                    nest = nest.on(next);
+                Passed::To(e) => {
+                    i = e;
                 }
             },
         }
