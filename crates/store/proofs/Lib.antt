@@ -13,6 +13,7 @@ pub mod OneAnswers
 pub mod WrongAnswers
 pub mod ShortRanges
 pub mod Items
+pub mod SpecializedRun
 pub mod Uniting
 pub mod KnowledgeForward
 pub mod Learning

@@ -129,15 +129,16 @@ fn read_specialized(
     requires { ⌜ (rows + left ≤ 512) × (2048 ≤ length (now table)) × Normal (rangesAt (now table) 0 rows) ⌝ }
     ensures { λ r. ⌜ KnownIs (specializedFrom depth (now (s .entry)) (knowing (rangesAt (now (table .entry)) 0 rows) (now (table .entry)) left c)) r (now (table .exit)) ⌝ }
 {
-    let g = c.start_of_length(s, KNOWLEDGE, SPECIALIZED, true, true, 16)
-        .guid(s);
+    let o = c.start_of_length(s, KNOWLEDGE, SPECIALIZED, true, true, 16);
+    let g = Reading::At(0, 0).guid(o.run(s));
+    let behind = o.closed(s, g.on());
     if is_cell(g) {
-        return read_cell(s, g.on(), table, rows, left);
+        return read_cell(s, behind, table, rows, left);
     }
     Known {
         rows,
         left,
-        last: g.on().inside(s, depth, SPECIALIZED),
+        last: behind.inside(s, depth, SPECIALIZED),
     }
 }
 
