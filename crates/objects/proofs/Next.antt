@@ -13,9 +13,10 @@ use Rattle.laws.specs.Pick.{pick}
 use Rattle.laws.specs.Loop.{after}
 use Rattle.laws.proofs.Cases.{by-bool, impossible, pick-all}
 use Rattle.numbers.specs.Refusals.{faultAt}
+use Rattle.numbers.specs.declared.refusal.Refusal.{Refusal}
 use Rattle.objects.specs.Header.{startOf, headerAt}
 use Rattle.objects.specs.Nesting.{dataPast, andOn, onward, objectAt, runAt}
-use Rattle.objects.specs.Next.{shortNumber, objectOn, passing, opening, nextOn, nextAt, metBy, plainOn, metAt, endedAt}
+use Rattle.objects.specs.Next.{shortNumber, objectOn, passing, opening, nextOn, nextAt, metBy, plainOn, metAt}
 use Rattle.objects.specs.declared.header.Header.{Header}
 use Rattle.objects.specs.declared.header.Header.the-variants as header
 use Rattle.objects.specs.declared.nesting.Passed.{Passed}
@@ -116,83 +117,128 @@ object-next-on s at d n e = object-by-header s at d (headerAt s at) refl ∙ ap 
 
 -- ---- what a run meets, by the two bytes that stand there
 
-module _ (s : List ℕ) (at w : ℕ) (is : shortNumber s at ≡ w) where
-  pub met-by-header : (w % 4 ≡ 0 → ⊥) → metAt s at ≡ metBy at (headerAt s at)
+module _ (s : List ℕ) (kind at w : ℕ) (is : shortNumber s at ≡ w) where
+  low-of : (x : ℕ) → w % 4 ≡ x → shortNumber s at % 4 ≡ x
+  low-of x low = ap (λ (y : ℕ). y % 4) is ∙ low
+
+  pub met-by-header : (w % 8 ≡ 0 → ⊥) → metAt s kind at ≡ metBy kind at (headerAt s at)
   unfolding metAt
-  met-by-header low = rw (is, ne-eqb (w % 4) 0 low)
+  met-by-header low = rw (is, ne-eqb (w % 8) 0 low)
 
-  pub met-end : w % 4 ≡ 1 → metAt s at ≡ met.End (getD s at 0 / 4) (at + 1)
-  met-end low = met-by-header (λ z. omega arith) ∙ ap (metBy at) (short-end s at (ap (λ (x : ℕ). x % 4) is ∙ low))
+  pub met-ended : w % 4 ≡ 1 → getD s at 0 / 4 ≡ kind → metAt s kind at ≡ met.Ended (at + 1)
+  met-ended low own =
+      met-by-header (λ z. omega arith) ∙ ap (metBy kind at) (short-end s at (low-of 1 low)) ∙ rw (eq-eqb (getD s at 0 / 4) kind own)
 
-  module _ (low : w % 4 ≡ 0) where
-    pub met-compound : (w / 4 % 2 ≡ 0 → ⊥) → metAt s at ≡ met.Object
+  pub met-other-end : w % 4 ≡ 1 → (getD s at 0 / 4 ≡ kind → ⊥) → metAt s kind at ≡ met.Object
+  met-other-end low other =
+      met-by-header (λ z. omega arith) ∙ ap (metBy kind at) (short-end s at (low-of 1 low)) ∙ rw (ne-eqb (getD s at 0 / 4) kind other)
+
+  pub met-compound : w % 8 ≡ 4 → metAt s kind at ≡ met.Object
+  unfolding startOf
+  met-compound low = met-by-header (λ z. omega arith) ∙ ap (metBy kind at) (short-start s at (low-of 0 (omega arith)))
+
+  module _ (low : w % 8 ≡ 0) where
+    pub met-cut : length s - at - 2 < w / 8 / 64 → metAt s kind at ≡ met.Object
     unfolding metAt
-    met-compound bit = rw (is, eq-eqb (w % 4) 0 low, ne-eqb (w / 4 % 2) 0 bit)
+    met-cut cut = rw (is, eq-eqb (w % 8) 0 low, lt-ltb (length s - at - 2) (w / 8 / 64) cut)
 
-    module _ (bit : w / 4 % 2 ≡ 0) where
-      pub met-cut : length s - at - 2 < w / 8 / 64 → metAt s at ≡ met.Object
-      unfolding metAt
-      met-cut cut = rw (is, eq-eqb (w % 4) 0 low, eq-eqb (w / 4 % 2) 0 bit, lt-ltb (length s - at - 2) (w / 8 / 64) cut)
+    pub met-wide : w / 8 / 64 ≤ length s - at - 2 → 127 < w / 8 / 64 → metAt s kind at ≡ met.Object
+    unfolding metAt
+    met-wide fits wide = rw (is, eq-eqb (w % 8) 0 low, le-ltb (length s - at - 2) (w / 8 / 64) fits, lt-ltb 127 (w / 8 / 64) wide)
 
-      pub met-wide : w / 8 / 64 ≤ length s - at - 2 → 127 < w / 8 / 64 → metAt s at ≡ met.Object
-      unfolding metAt
-      met-wide fits wide =
-          rw (is, eq-eqb (w % 4) 0 low, eq-eqb (w / 4 % 2) 0 bit, le-ltb (length s - at - 2) (w / 8 / 64) fits, lt-ltb 127 (w / 8 / 64) wide)
+    pub met-plain : (e : ℕ) → w / 8 / 64 ≤ length s - at - 2 → w / 8 / 64 ≤ 127 → at + 2 + w / 8 / 64 ≡ e → metAt s kind at ≡ met.Plain e
+    unfolding metAt
+    met-plain e fits few end =
+        rw (is, eq-eqb (w % 8) 0 low, le-ltb (length s - at - 2) (w / 8 / 64) fits, le-ltb 127 (w / 8 / 64) few, end)
 
-      pub met-plain : (e : ℕ) → w / 8 / 64 ≤ length s - at - 2 → w / 8 / 64 ≤ 127 → at + 2 + w / 8 / 64 ≡ e → metAt s at ≡ met.Plain e
-      unfolding metAt
-      met-plain e fits few end =
-          rw (is, eq-eqb (w % 4) 0 low, eq-eqb (w / 4 % 2) 0 bit, le-ltb (length s - at - 2) (w / 8 / 64) fits, le-ltb 127 (w / 8 / 64) few, end)
+-- the same by what stands there: an end of its own type, or nothing that a run goes by without a call
+abbrev pub metNext : ℕ → Next → Met
+metNext kind (next.Refused r) = met.Object
+metNext kind (next.Past e) = met.Object
+metNext kind (next.Opens k e) = met.Object
+metNext kind (next.Ends k e) = pick (eqb k kind) (met.Ended e) met.Object
+
+passing-object : (kind : ℕ) (p : Passed) → metNext kind (passing p) ≡ met.Object
+passing-object kind (To e) = refl
+passing-object kind (Refused r) = refl
+
+opening-object : (kind k : ℕ) (p : Passed) → metNext kind (opening k p) ≡ met.Object
+opening-object kind k (To e) = refl
+opening-object kind k (Refused r) = refl
+
+next-met-on : (s : List ℕ) (kind at d : ℕ) (h : Header) → metNext kind (nextOn s at d h) ≡ metBy kind at h
+next-met-on s kind at d (header.Refused r) = refl
+next-met-on s kind at d (header.End k u) = refl
+next-met-on s kind at d (header.Start k c n u) =
+    by-bool c
+    (λ t. rw t (by-bool (eqb d 0) (λ z. rw z) (λ z. rw z (opening-object kind k (dataPast s (at + u) n)))))
+    (λ t. rw t (passing-object kind (dataPast s (at + u) n)))
+
+pub next-met : (s : List ℕ) (kind at d : ℕ) (n : Next) → nextAt s at d ≡ n → metNext kind n ≡ metBy kind at (headerAt s at)
+unfolding nextAt
+next-met s kind at d n e = ap (metNext kind) (sym e) ∙ next-met-on s kind at d (headerAt s at)
+
+module _ (s : List ℕ) (kind at d k e : ℕ) (n : nextAt s at d ≡ next.Ends k e) where
+  pub next-own-end : k ≡ kind → met.Ended e ≡ metBy kind at (headerAt s at)
+  next-own-end own = rw (eq-eqb k kind own) at (next-met s kind at d (next.Ends k e) n)
+
+  pub next-other-end : (k ≡ kind → ⊥) → met.Object ≡ metBy kind at (headerAt s at)
+  next-other-end other = rw (ne-eqb k kind other) at (next-met s kind at d (next.Ends k e) n)
 
 -- ---- a run, by what it meets
 
--- a plain object, and the run goes on behind it; an end, its own or another; an object, and the run goes on behind it
-abbrev pub Meets : List ℕ → ℕ → Met → Type 0
-Meets s at (met.Plain e) = (d kind : ℕ) → (runAt s at d kind ≡ runAt s e d kind) × (at < e) × (e ≤ length s)
-Meets s at (met.End k e) = (d kind : ℕ) → runAt s at d kind ≡ endedAt at kind k e
-Meets s at met.Object = (d kind : ℕ) (p : Passed) → objectAt s at d ≡ p → runAt s at d kind ≡ andOn p (λ i. runAt s i d kind)
+-- a plain object, and the run goes on behind it; its own end; an object, and the run goes on behind it
+abbrev pub Meets : List ℕ → ℕ → ℕ → Met → Type 0
+Meets s kind at (met.Plain e) = (d : ℕ) → (runAt s at d kind ≡ runAt s e d kind) × (at < e) × (e ≤ length s)
+Meets s kind at (met.Ended e) = (d : ℕ) → runAt s at d kind ≡ To e
+Meets s kind at met.Object = (d : ℕ) (p : Passed) → objectAt s at d ≡ p → runAt s at d kind ≡ andOn p (λ i. runAt s i d kind)
 
 and-onward : (p : Passed) (go : ℕ → Passed) → after go (onward p) ≡ andOn p go
 and-onward (To e) go = refl
 and-onward (Refused r) go = refl
 
-by-header-met : (s : List ℕ) (at : ℕ) (h : Header) → headerAt s at ≡ h → Meets s at (metBy at h)
-by-header-met s at (header.Refused r) q = λ d kind p o.
-    run-at s at d kind (header.Refused r) q ∙ ap (λ (x : Passed). andOn x (λ i. runAt s i d kind)) (sym (object-at s at d (header.Refused r) q) ∙ o)
-by-header-met s at (header.End k u) q = λ d kind. run-at s at d kind (header.End k u) q
-by-header-met s at (header.Start k c n u) q = λ d kind p o. run-start s at d kind k c n u q p o ∙ and-onward p (λ i. runAt s i d kind)
+-- what both refuse alike
+both-refuse : (s : List ℕ) (kind at d : ℕ) (r : Refusal) (p : Passed) → runAt s at d kind ≡ Refused r → objectAt s at d ≡ Refused r → objectAt s at d ≡ p
+    → runAt s at d kind ≡ andOn p (λ i. runAt s i d kind)
+both-refuse s kind at d r p run object o = run ∙ ap (λ (x : Passed). andOn x (λ i. runAt s i d kind)) (sym object ∙ o)
 
-module _ (s : List ℕ) (at w : ℕ) (is : shortNumber s at ≡ w) (low : w % 4 ≡ 0) where
+by-header-met : (s : List ℕ) (kind at : ℕ) (h : Header) → headerAt s at ≡ h → Meets s kind at (metBy kind at h)
+by-header-met s kind at (header.Refused r) q = λ d p o.
+    both-refuse s kind at d r p (run-at s at d kind (header.Refused r) q) (object-at s at d (header.Refused r) q) o
+by-header-met s kind at (header.End k u) q =
+    pick-all (Meets s kind at) (eqb k kind) _ _
+    (λ t d. run-at s at d kind (header.End k u) q ∙ rw t)
+    (λ t d p o. both-refuse s kind at d (faultAt 4 at) p (run-at s at d kind (header.End k u) q ∙ rw t) (object-at s at d (header.End k u) q) o)
+by-header-met s kind at (header.Start k c n u) q = λ d p o. run-start s at d kind k c n u q p o ∙ and-onward p (λ i. runAt s i d kind)
+
+module _ (s : List ℕ) (kind at w : ℕ) (is : shortNumber s at ≡ w) (low : w % 8 ≡ 0) where
   start-here : headerAt s at ≡ header.Start (w / 8 % 64) (eqb (w / 4 % 2) 1) (w / 8 / 64) 2
   unfolding startOf
-  start-here = short-start s at (ap (λ (x : ℕ). x % 4) is ∙ low) ∙ rw is
+  start-here = short-start s at (ap (λ (x : ℕ). x % 4) is ∙ omega arith) ∙ rw is
 
-  object-met : Meets s at met.Object
-  object-met = by-header-met s at (header.Start (w / 8 % 64) (eqb (w / 4 % 2) 1) (w / 8 / 64) 2) start-here
+  object-met : Meets s kind at met.Object
+  object-met = by-header-met s kind at (header.Start (w / 8 % 64) (eqb (w / 4 % 2) 1) (w / 8 / 64) 2) start-here
 
-  plain-met : w / 4 % 2 ≡ 0 → w / 8 / 64 ≤ length s - at - 2 → w / 8 / 64 ≤ 127 → Meets s at (met.Plain (at + 2 + w / 8 / 64))
-  plain-met bit fits few = λ d kind.
+  plain-met : w / 8 / 64 ≤ length s - at - 2 → w / 8 / 64 ≤ 127 → Meets s kind at (met.Plain (at + 2 + w / 8 / 64))
+  plain-met fits few = λ d.
       let e = at + 2 + w / 8 / 64 in
-      let x = next-plain s at d w is low few fits bit in
+      let x = next-plain s at d w is (omega arith) few fits (omega arith) in
       let a = next-ahead s at d (next.Past e) x in
       (run-start s at d kind (w / 8 % 64) (eqb (w / 4 % 2) 1) (w / 8 / 64) 2 start-here (To e) (object-next-on s at d (next.Past e) x), a .0, a .1)
 
-  pub start-met : Meets s at (plainOn s at w (w / 8 / 64))
+  start-met : Meets s kind at (plainOn s at (w / 8 / 64))
   start-met =
-      pick-all (Meets s at) (eqb (w / 4 % 2) 0) _ _
-      (λ b.
-      pick-all (Meets s at) (ltb (length s - at - 2) (w / 8 / 64)) _ _ (λ t. object-met)
+      pick-all (Meets s kind at) (ltb (length s - at - 2) (w / 8 / 64)) _ _ (λ t. object-met)
       (λ t.
-      pick-all (Meets s at) (ltb 127 (w / 8 / 64)) _ _ (λ u. object-met)
-      (λ u. plain-met (eqb-true (w / 4 % 2) 0 b) (ltb-false (length s - at - 2) (w / 8 / 64) t) (ltb-false 127 (w / 8 / 64) u))))
-      (λ b. object-met)
+      pick-all (Meets s kind at) (ltb 127 (w / 8 / 64)) _ _ (λ u. object-met)
+      (λ u. plain-met (ltb-false (length s - at - 2) (w / 8 / 64) t) (ltb-false 127 (w / 8 / 64) u)))
 
-met-here : (s : List ℕ) (at : ℕ) → Meets s at (metAt s at)
+met-here : (s : List ℕ) (kind at : ℕ) → Meets s kind at (metAt s kind at)
 unfolding metAt
-met-here s at =
-    pick-all (Meets s at) (eqb (shortNumber s at % 4) 0) _ _
-    (λ t. start-met s at (shortNumber s at) refl (eqb-true (shortNumber s at % 4) 0 t))
-    (λ t. by-header-met s at (headerAt s at) refl)
+met-here s kind at =
+    pick-all (Meets s kind at) (eqb (shortNumber s at % 8) 0) _ _
+    (λ t. start-met s kind at (shortNumber s at) refl (eqb-true (shortNumber s at % 8) 0 t))
+    (λ t. by-header-met s kind at (headerAt s at) refl)
 
-pub met-is : (s : List ℕ) (at : ℕ) (m : Met) → metAt s at ≡ m → Meets s at m
-met-is s at m e = subst (Meets s at) e (met-here s at)
+pub met-is : (s : List ℕ) (kind at : ℕ) (m : Met) → metAt s kind at ≡ m → Meets s kind at m
+met-is s kind at m e = subst (Meets s kind at) e (met-here s kind at)

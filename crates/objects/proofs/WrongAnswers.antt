@@ -1,4 +1,4 @@
--- For each call for a single header, and for the reading of an object and of a run, two wrong answers that its promise rules
+-- For each call for a single header, for the reading of an object and of a run, and for the way back from a data run, two wrong answers that its promise rules
 -- out, each tried on a named input.
 -- Assumes nothing.
 use Rattle.laws.specs.Loop.{turns, iterate}
@@ -17,6 +17,10 @@ use Rattle.numbers.specs.Compact.{formAt, readCompact, formFrom, formOf, marked
 use Rattle.numbers.specs.Calls.{single, written}
 use Rattle.numbers.specs.declared.refusal.Wrote.the-variants as wrote
 use Rattle.objects.specs.Header.{startOf, endOf, sized, headerOf, headerAt, lengthAt, wholeHeader, startNumber, longStart, startBytes, endBytes}
+use Rattle.objects.specs.Steps.{no, runHere, closedAt, closed}
+use Rattle.objects.specs.declared.reading.Reading.{Reading}
+use Rattle.objects.specs.declared.reading.Reading.the-variants.{At}
+use Rattle.objects.specs.declared.reading.Reading.the-variants as reading
 use Rattle.objects.specs.Calls.{ReadsHeader, WritesStart, WritesEnd}
 use Rattle.objects.specs.declared.header.Header.the-variants.{Start, Refused}
 
@@ -82,3 +86,19 @@ other-end h = impossible (cc)
 no-end : runAt (0x08 ∷ 0x00 ∷ []) 0 16 1 ≡ passed.To 2 → ⊥
 unfolding runAt objectAt objectD dataPast lengthAt headerAt headerOf sized startOf endOf le iterate turns
 no-end h = impossible (cc)
+
+-- ---- Reading::closed
+
+abbrev faultPlace : Reading → ℕ
+faultPlace (At p v) = 0
+faultPlace (reading.Refused r) = r .place
+
+-- of two bytes at 1 one was read: the other is left over at 2, its own place, and not at 3, behind the run
+left-over-behind : closed (0 ∷ 0 ∷ 0 ∷ []) (At 1 2) (At 1 0) ≡ no 5 3 → ⊥
+unfolding runHere closedAt
+left-over-behind h = let z : _≡_ {A = ℕ} 2 3 = ap faultPlace h in omega arith
+
+-- and the run is not taken with a byte left over
+left-over-taken : closed (0 ∷ 0 ∷ 0 ∷ []) (At 1 2) (At 1 0) ≡ At 3 0 → ⊥
+unfolding runHere closedAt
+left-over-taken h = impossible (cc)

@@ -56,23 +56,20 @@ objectOn s at d (next.Ends k e) = Refused (faultAt 4 at)
 objectOn s at d (next.Past e) = To e
 objectOn s at d (next.Opens k e) = runAt s e (d - 1) k
 
--- ---- what a run meets: a plain object whose header has two bytes, and whose data is there; an end; or what is for `read_object`
+-- ---- what a run of the open object of type `kind` meets: a plain object whose header has two bytes, and whose data is there; its own end;
+-- or what is for `read_object`
 
-abbrev pub metBy : ℕ → Header → Met
-metBy at (header.Refused r) = met.Object
-metBy at (header.End k u) = met.End k (at + u)
-metBy at (header.Start k c n u) = met.Object
+abbrev pub metBy : ℕ → ℕ → Header → Met
+metBy kind at (header.Refused r) = met.Object
+metBy kind at (header.End k u) = pick (eqb k kind) (met.Ended (at + u)) met.Object
+metBy kind at (header.Start k c n u) = met.Object
 
--- a start of two bytes, w as a number, of a plain object with n bytes of data, if they are there
-abbrev pub plainOn : List ℕ → ℕ → ℕ → ℕ → Met
-plainOn s at w n =
-    pick (eqb (w / 4 % 2) 0) (pick (ltb (length s - at - 2) n) met.Object (pick (ltb 127 n) met.Object (met.Plain (at + 2 + n)))) met.Object
+-- a start of two bytes of a plain object with n bytes of data, if they are there
+abbrev pub plainOn : List ℕ → ℕ → ℕ → Met
+plainOn s at n = pick (ltb (length s - at - 2) n) met.Object (pick (ltb 127 n) met.Object (met.Plain (at + 2 + n)))
 
-abbrev pub metOn : List ℕ → ℕ → ℕ → Met
-metOn s at w = pick (eqb (w % 4) 0) (plainOn s at w (w / 8 / 64)) (metBy at (headerAt s at))
+abbrev pub metOn : List ℕ → ℕ → ℕ → ℕ → Met
+metOn s kind at w = pick (eqb (w % 8) 0) (plainOn s at (w / 8 / 64)) (metBy kind at (headerAt s at))
 
-unfoldable pub metAt : List ℕ → ℕ → Met
-metAt s at = metOn s at (shortNumber s at)
-
-abbrev pub endedAt : ℕ → ℕ → ℕ → ℕ → Passed
-endedAt at kind k e = pick (eqb k kind) (To e) (Refused (faultAt 4 at))
+unfoldable pub metAt : List ℕ → ℕ → ℕ → Met
+metAt s kind at = metOn s kind at (shortNumber s at)

@@ -131,7 +131,8 @@ impl Reading {
         }
     }
 
-    // Back from the run that begins here, read by its fields to f.
+    // Back from the run that begins here, read by its fields to f. Ruled out (proofs/WrongAnswers): a byte left over that is told behind
+    // the run; one that is taken.
     pub fn closed(self, s: &[u8], f: Reading) -> Reading
         requires { ⌜ Good (runHere (now s) self) f ⌝ }
         ensures { λ r. ⌜ r ≡ closed (now (s .entry)) self f ⌝ }

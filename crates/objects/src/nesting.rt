@@ -4,7 +4,7 @@
 // Most headers are short, a start of two bytes or an end of one, and these are told by their bytes, without a `Header`.
 ghost use mathlib.Core.Path.{_≡_};
 ghost use Rattle.objects.specs.Nesting.{dataPast, objectAt, runAt};
-ghost use Rattle.objects.specs.Next.{nextAt, metBy, metAt, endedAt};
+ghost use Rattle.objects.specs.Next.{nextAt, metBy, metAt};
 ghost use Rattle.objects.specs.Header.{headerAt};
 use crate::header::Header;
 use crate::header::Length;
@@ -23,7 +23,7 @@ pub enum Passed {
 }
 
 // The place behind the data of a header with the length n that ends at `at`.
-pub fn data_past(s: &[u8], at: usize, n: u64) -> Passed
+fn data_past(s: &[u8], at: usize, n: u64) -> Passed
     ensures { λ r. ⌜ r ≡ dataPast (now (s .entry)) at n ⌝ }
 {
     match length_at(s, at, n) {
@@ -40,7 +40,7 @@ pub fn data_past(s: &[u8], at: usize, n: u64) -> Passed
 
 // What stands at a place of a run: an object that was passed over whole; the start of a compound object, with its type and the place
 // behind its own data; an end, with its type and the place behind it; or a fault.
-pub enum Next {
+enum Next {
     Past(usize),
     Opens(u64, usize),
     Ends(u64, usize),
@@ -117,36 +117,38 @@ pub fn read_object(s: &[u8], at: usize, depth: usize) -> Passed
     }
 }
 
-// What a run meets at a place: a plain object with a short header, which ends there; an end, with its type and the place behind it; or
-// what is for `read_object`.
-pub enum Met {
+// What a run meets at a place: a plain object with a short header, and the place behind it; the run's own end, and the place behind it; or
+// what is for `read_object`, a fault too.
+enum Met {
     Plain(usize),
-    End(u64, usize),
+    Ended(usize),
     Object,
 }
 
-// The same as `met_at`, where no short header stands.
-fn met_by_header(s: &[u8], at: usize) -> Met
-    ensures { λ r. ⌜ r ≡ metBy at (headerAt (now (s .entry)) at) ⌝ }
+// The same as `met_at`, by a header of any form that is no short start of a plain object.
+fn met_by_header(s: &[u8], at: usize, kind: u64) -> Met
+    ensures { λ r. ⌜ r ≡ metBy kind at (headerAt (now (s .entry)) at) ⌝ }
 {
-    match header_at(s, at) {
-        Header::Refused(_) => Met::Object,
-        Header::Start(_, _, _, _) => Met::Object,
-        Header::End(kind, used) => Met::End(kind, at + used),
+    match next_by_header(s, at, 0) {
+        Next::Refused(_) => Met::Object,
+        Next::Past(_) => Met::Object,
+        Next::Opens(_, _) => Met::Object,
+        Next::Ends(k, e) => {
+            if k == kind {
+                return Met::Ended(e);
+            }
+            Met::Object
+        }
     }
 }
 
-// What a run meets at a place. That a start has no data is a case of its own because the place behind it then does not wait for the
-// length, if the processor guesses right; what is told is the same.
-fn met_at(s: &[u8], at: usize) -> Met
-    ensures { λ r. ⌜ r ≡ metAt (now (s .entry)) at ⌝ }
+// What a run of the open object of type `kind` meets at a place. That a start has no data is a case of its own because the place behind
+// it then does not wait for the length, if the processor guesses right; what is told is the same.
+fn met_at(s: &[u8], at: usize, kind: u64) -> Met
+    ensures { λ r. ⌜ r ≡ metAt (now (s .entry)) kind at ⌝ }
 {
     let w = short_number(s, at);
-    let low = w % 4;
-    if low == 0 {
-        if w / 4 % 2 != 0 {
-            return Met::Object;
-        }
+    if w % 8 == 0 {
         let n = w / 8 / SHORT_TYPES;
         if n == 0 {
             return Met::Plain(at + 2);
@@ -160,34 +162,30 @@ fn met_at(s: &[u8], at: usize) -> Met
         }
         return Met::Plain(at + 2 + n as usize);
     }
-    if low == 1 {
-        return Met::End(s[at] as u64 / 4, at + 1);
+    if w % 4 == 1 {
+        if s[at] as u64 / 4 == kind {
+            return Met::Ended(at + 1);
+        }
+        return Met::Object;
     }
-    met_by_header(s, at)
-}
-
-// The run's own end, if it is of its type.
-fn ended_at(at: usize, kind: u64, k: u64, e: usize) -> Passed
-    ensures { λ r. ⌜ r ≡ endedAt at kind k e ⌝ }
-{
-    if k == kind {
-        return Passed::To(e);
+    if w % 8 == 4 {
+        return Met::Object;
     }
-    Passed::Refused(at_place(4, at))
+    met_by_header(s, at, kind)
 }
 
 // Objects up to the end of the open object of type `kind`. Ruled out (proofs/WrongAnswers): `09`, an end of type 2, taken
 // for one of type 1; a run without an end.
-pub fn read_run(s: &[u8], at: usize, depth: usize, kind: u64) -> Passed
+pub(crate) fn read_run(s: &[u8], at: usize, depth: usize, kind: u64) -> Passed
     ensures { λ r. ⌜ r ≡ runAt (now (s .entry)) at depth kind ⌝ }
 {
     let mut i = at;
     loop {
-        match met_at(s, i) {
+        match met_at(s, i, kind) {
             Met::Plain(e) => {
                 i = e;
             }
-            Met::End(k, e) => return ended_at(i, kind, k, e),
+            Met::Ended(e) => return Passed::To(e),
             Met::Object => match read_object(s, i, depth) {
                 Passed::Refused(r) => return Passed::Refused(r),
                 Passed::To(e) => {

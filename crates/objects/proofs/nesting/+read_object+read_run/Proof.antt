@@ -18,7 +18,6 @@ use Rattle.objects.proofs.nesting.read_run.Reads as read-run
 use Rattle.objects.proofs.nesting.read_run.Kinds as read-run-kinds
 use Rattle.objects.proofs.nesting.+read_object+read_run.Lts-read_run as read-run-lts
 use Rattle.numbers.proofs.refusal.at_place.Reads as at-place-reads
-use Rattle.objects.proofs.nesting.ended_at.Reads as ended-at-reads
 use Rattle.objects.proofs.nesting.met_at.Reads as met-at-reads
 use Rattle.objects.proofs.nesting.next_at.Reads as next-at-reads
 use Rattle.objects.proofs.nesting.+read_object+read_run.{statement}
@@ -60,8 +59,6 @@ abbrev in-run : ℕ → read-run-lts.Claims
 in-run t = (
   met-at-reads.Asked,
   met-at-reads.Learnt,
-  ended-at-reads.Asked,
-  ended-at-reads.Learnt,
   read-object-below t,
   read-object.Post,
 )
@@ -124,7 +121,7 @@ read-run-enum-known-e t c = search needs
 read-run-loop-less : (t : ℕ) → read-run-lts.Need-loop-less (in-run t) (read-run-at t) read-run.Post read-run-Inv-loop read-run-μ-loop
 read-run-loop-less t c =
     let k = c .before .before .before in
-    let w = met-is _ _ _ (sym (k .met-at .ensures) ∙ c .before .e .given .1) 0 0 in
+    let w = met-is _ _ _ _ (sym (k .met-at .ensures) ∙ c .before .e .given .1) 0 in
     let a = w .1 in
     let b = w .2 in
     omega arith
@@ -132,18 +129,15 @@ read-run-loop-less t c =
 read-run-loop-again : (t : ℕ) → read-run-lts.Need-loop-again (in-run t) (read-run-at t) read-run.Post read-run-Inv-loop read-run-μ-loop
 read-run-loop-again t c =
     let k = c .before .before .before in
-    k .before .loop .inv ∙ met-is _ _ _ (sym (k .met-at .ensures) ∙ c .before .e .given .1) _ _ .0
+    k .before .loop .inv ∙ met-is _ _ _ _ (sym (k .met-at .ensures) ∙ c .before .e .given .1) _ .0
 
-read-run-enum-known-k : (t : ℕ) → read-run-lts.Need-enum-known-k (in-run t) (read-run-at t) read-run.Post read-run-Inv-loop read-run-μ-loop
-read-run-enum-known-k t c = search needs
-
-read-run-ended-at-requires : (t : ℕ) → read-run-lts.Need-ended-at-requires (in-run t) (read-run-at t) read-run.Post read-run-Inv-loop read-run-μ-loop
-read-run-ended-at-requires t c κs = search needs
+read-run-enum-known-e-2 : (t : ℕ) → read-run-lts.Need-enum-known-e-2 (in-run t) (read-run-at t) read-run.Post read-run-Inv-loop read-run-μ-loop
+read-run-enum-known-e-2 t c = search needs
 
 read-run-returns : (t : ℕ) → read-run-lts.Need-returns (in-run t) (read-run-at t) read-run.Post read-run-Inv-loop read-run-μ-loop
 read-run-returns t c =
-    let k = c .before .before .before .before in
-    c .ended-at .ensures ∙ sym (k .before .loop .inv ∙ met-is _ _ _ (sym (k .met-at .ensures) ∙ c .before .before .k .given .1) _ _)
+    let k = c .before .before .before in
+    sym (k .before .loop .inv ∙ met-is _ _ _ _ (sym (k .met-at .ensures) ∙ c .before .e2 .given .1) _)
 
 read-run-enum-told : (t : ℕ) → read-run-lts.Need-enum-told (in-run t) (read-run-at t) read-run.Post read-run-Inv-loop read-run-μ-loop
 read-run-enum-told t c = search needs
@@ -159,14 +153,14 @@ read-run-enum-known-r t c = search needs
 read-run-returns-2 : (t : ℕ) → read-run-lts.Need-returns-2 (in-run t) (read-run-at t) read-run.Post read-run-Inv-loop read-run-μ-loop
 read-run-returns-2 t c =
     let k = c .before .before .before .before .before .before in
-    sym (k .before .loop .inv ∙ met-is _ _ _ (sym (k .met-at .ensures) ∙ c .before .before .before .before .enum-told .given .1) _ _ _ (sym (c .before .before .before .read-object .ensures) ∙ c .before .r .given .1))
+    sym (k .before .loop .inv ∙ met-is _ _ _ _ (sym (k .met-at .ensures) ∙ c .before .before .before .before .enum-told .given .1) _ _ (sym (c .before .before .before .read-object .ensures) ∙ c .before .r .given .1))
 
-read-run-enum-known-e-2 : (t : ℕ) → read-run-lts.Need-enum-known-e-2 (in-run t) (read-run-at t) read-run.Post read-run-Inv-loop read-run-μ-loop
-read-run-enum-known-e-2 t c = search needs
+read-run-enum-known-e-3 : (t : ℕ) → read-run-lts.Need-enum-known-e-3 (in-run t) (read-run-at t) read-run.Post read-run-Inv-loop read-run-μ-loop
+read-run-enum-known-e-3 t c = search needs
 
 read-run-loop-less-2 : (t : ℕ) → read-run-lts.Need-loop-less-2 (in-run t) (read-run-at t) read-run.Post read-run-Inv-loop read-run-μ-loop
 read-run-loop-less-2 t c =
-    let w = object-next _ _ _ _ (sym (c .before .before .before .read-object .ensures) ∙ c .before .e2 .given .1) in
+    let w = object-next _ _ _ _ (sym (c .before .before .before .read-object .ensures) ∙ c .before .e3 .given .1) in
     let a = w .0 in
     let b = w .1 in
     omega arith
@@ -174,7 +168,7 @@ read-run-loop-less-2 t c =
 read-run-loop-again-2 : (t : ℕ) → read-run-lts.Need-loop-again-2 (in-run t) (read-run-at t) read-run.Post read-run-Inv-loop read-run-μ-loop
 read-run-loop-again-2 t c =
     let k = c .before .before .before .before .before .before in
-    k .before .loop .inv ∙ met-is _ _ _ (sym (k .met-at .ensures) ∙ c .before .before .before .before .enum-told .given .1) _ _ _ (sym (c .before .before .before .read-object .ensures) ∙ c .before .e2 .given .1)
+    k .before .loop .inv ∙ met-is _ _ _ _ (sym (k .met-at .ensures) ∙ c .before .before .before .before .enum-told .given .1) _ _ (sym (c .before .before .before .read-object .ensures) ∙ c .before .e3 .given .1)
 
 pub +read-object+read-run-spec : {M : Type 1} → statement M
 +read-object+read-run-spec = close μ-read-object μ-read-run (λ t. read-object-lts.spec (in-object t)
@@ -192,7 +186,8 @@ pub +read-object+read-run-spec : {M : Type 1} → statement M
     (read-object-returns-2 t)
     (read-object-returns-3 t)
     (read-object-returns-4 t))
-    λ t. read-run-lts.spec (in-run t)
+    λ t. read-run-lts.spec
+    (in-run t)
     (read-run-at t)
     read-run.Post
     read-run-Inv-loop
@@ -202,13 +197,12 @@ pub +read-object+read-run-spec : {M : Type 1} → statement M
     (read-run-enum-known-e t)
     (read-run-loop-less t)
     (read-run-loop-again t)
-    (read-run-enum-known-k t)
-    (read-run-ended-at-requires t)
+    (read-run-enum-known-e-2 t)
     (read-run-returns t)
     (read-run-enum-told t)
     (read-run-read-object-requires t)
     (read-run-enum-known-r t)
     (read-run-returns-2 t)
-    (read-run-enum-known-e-2 t)
+    (read-run-enum-known-e-3 t)
     (read-run-loop-less-2 t)
     (read-run-loop-again-2 t)
