@@ -4,6 +4,7 @@
 #include "page.h"
 #include "peer.h"
 #include "report.h"
+#include "rows.h"
 
 #include <string.h>
 
@@ -103,43 +104,7 @@ uint64_t peer_answer(const uint8_t *store, size_t store_len, const uint8_t *requ
     return answer_by(&w, store, store_len, request, request_len, out, out_len, report, report_len);
 }
 
-/* ---- the tables */
-
-#define ROW_NUMBERS 6u
-#define RANGE_NUMBERS 4u
-#define ROWS_NEEDED (ROW_NUMBERS * MOST_ELEMENTS)
-#define RANGES_NEEDED (RANGE_NUMBERS * MOST_RANGES)
-
-/* The rows have a GUID's two halves as little-endian numbers, unlike struct guid. */
-static void put_halves(uint64_t *to, struct guid guid) {
-    uint8_t bytes[16];
-    unsigned i;
-    put_guid(bytes, guid);
-    for (i = 0; i < 2; i++) {
-        to[i] = little8(bytes + 8 * i);
-    }
-}
-
-static void put_rows(uint64_t *to, const struct store *store) {
-    unsigned i;
-    for (i = 0; i < store->count; i++, to += ROW_NUMBERS) {
-        const struct element *e = &store->elements[i];
-        to[0] = e->place;
-        to[1] = e->length;
-        to[2] = e->type;
-        put_halves(to + 3, e->serial.guid);
-        to[5] = e->serial.number;
-    }
-}
-
-static void put_range_rows(uint64_t *to, const struct ranges *set) {
-    unsigned i;
-    for (i = 0; i < set->count; i++, to += RANGE_NUMBERS) {
-        put_halves(to, set->rows[i].guid);
-        to[2] = set->rows[i].from;
-        to[3] = set->rows[i].to;
-    }
-}
+/* ---- with tables */
 
 uint64_t peer_answer_tables(const uint8_t *store, size_t store_len, const uint8_t *request, size_t request_len, uint64_t *rows,
                             size_t rows_len, uint64_t *ranges, size_t ranges_len, uint8_t *out, size_t out_len, uint8_t *report,

@@ -62,15 +62,8 @@ static int read_changes(struct input *in, struct received *r) {
 }
 
 static int read_known(struct input *in, struct received *r) {
-    struct header h;
     r->knowledge = in->at;
-    if (!next_header(in, &h, SUB_RESPONSE)) {
-        return 0;
-    }
-    if (!is_start(&h, KNOWLEDGE, COMPOUND)) {
-        return refuse(in, WRONG_LAYOUT, h.place);
-    }
-    if (!read_knowledge(in, &h, DEPTH_READ, NULL)) {
+    if (!need_knowledge(in, SUB_RESPONSE, DEPTH_READ, NULL)) {
         return 0;
     }
     r->knowledge_length = in->at - r->knowledge;

@@ -26,17 +26,7 @@ static int judge_filters(struct input *in) {
 
 /* One knowledge, or nothing. */
 static int judge_knowledge(struct input *in) {
-    struct header h;
-    if (in->length == 0) {
-        return 1;
-    }
-    if (!next_header(in, &h, SUB_REQUEST)) {
-        return 0;
-    }
-    if (!is_start(&h, KNOWLEDGE, COMPOUND)) {
-        return refuse(in, WRONG_LAYOUT, h.place);
-    }
-    return read_knowledge(in, &h, DEPTH, NULL) && nothing_follows(in);
+    return in->length == 0 || (need_knowledge(in, SUB_REQUEST, DEPTH, NULL) && nothing_follows(in));
 }
 
 static uint8_t *put_front(uint8_t *p, uint64_t id, uint64_t limit) {

@@ -48,27 +48,23 @@ static void say(const char *who, uint64_t number, const uint8_t *report, size_t 
     printf("\n");
 }
 
-static int same(const uint8_t *a, const uint8_t *b, size_t n) {
-    return n == 0 || memcmp(a, b, n) == 0;
-}
-
 /* The first words of what is not as it should be, or NULL. */
 static const char *differs(const struct one_case *c, const uint64_t *numbers, const struct handed *h) {
     size_t from = 0;
     if (numbers[0] != numbers[1]) {
         return "the numbers differ";
     }
-    if (!same(h[0].report, h[1].report, c->report)) {
+    if (!same_bytes(h[0].report, h[1].report, c->report)) {
         return "the reports differ";
     }
-    if (!same(h[0].out, h[1].out, c->room)) {
+    if (!same_bytes(h[0].out, h[1].out, c->room)) {
         return "the outputs differ";
     }
     if (!kept_before(out_blocks[0], c->room) || !kept_before(out_blocks[1], c->room) ||
         !kept_before(report_blocks[0], c->report) || !kept_before(report_blocks[1], c->report)) {
         return "bytes before the output or the report are changed";
     }
-    if (!same(h[0].first, c->first.at, c->first.length) || !same(h[0].second, c->second.at, c->second.length)) {
+    if (!same_bytes(h[0].first, c->first.at, c->first.length) || !same_bytes(h[0].second, c->second.at, c->second.length)) {
         return "an input is changed";
     }
     if (numbers[0] == 0 && c->call <= ASK) {

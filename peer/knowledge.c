@@ -113,6 +113,14 @@ int read_knowledge(struct input *in, struct header *h, unsigned most, struct ran
     }
 }
 
+int need_knowledge(struct input *in, unsigned open, unsigned most, struct ranges *set) {
+    struct header h;
+    if (!next_header(in, &h, open)) {
+        return 0;
+    }
+    return is_start(&h, KNOWLEDGE, COMPOUND) ? read_knowledge(in, &h, most, set) : refuse(in, WRONG_LAYOUT, h.place);
+}
+
 unsigned range_length(uint64_t from, uint64_t to) {
     return 18 + compact_length(from) + compact_length(to);
 }

@@ -14,6 +14,9 @@ struct header;
    at most. The ranges are put into the set, if there is one. */
 int read_knowledge(struct input *in, struct header *h, unsigned most, struct ranges *set);
 
+/* The same with the header, which is needed here; open is the type that it stands in. */
+int need_knowledge(struct input *in, unsigned open, unsigned most, struct ranges *set);
+
 /* How many bytes a range takes. */
 unsigned range_length(uint64_t from, uint64_t to);
 

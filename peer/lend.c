@@ -87,3 +87,7 @@ int kept_before(struct block b, size_t n) {
 int kept_from(struct block b, size_t n, size_t from) {
     return kept(b, 0, n - from);
 }
+
+int kept_beside(struct block b, size_t n, uint64_t written) {
+    return written <= n && kept_before(b, n) && kept_from(b, n, (size_t)written);
+}

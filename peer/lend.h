@@ -5,6 +5,7 @@
 
 #include <stddef.h>
 #include <stdint.h>
+#include <string.h>
 
 struct block {
     uint8_t *end; /* the protected page */
@@ -18,6 +19,11 @@ static inline uint8_t *lent(struct block b, size_t n) {
     return n == 0 ? NULL : b.end - n;
 }
 
+/* Whether two blocks hold the same; either may be a null pointer if they have no bytes. */
+static inline int same_bytes(const uint8_t *a, const uint8_t *b, size_t n) {
+    return n == 0 || memcmp(a, b, n) == 0;
+}
+
 /* Copies bytes to the end of a block. */
 const uint8_t *lend_copy(struct block b, const uint8_t *bytes, size_t n);
 
@@ -29,5 +35,8 @@ int kept_before(struct block b, size_t n);
 
 /* Whether all of the last n bytes are as they were from this one on. */
 int kept_from(struct block b, size_t n, size_t from);
+
+/* Both, of n bytes of which a call wrote the first `written`, as it says. */
+int kept_beside(struct block b, size_t n, uint64_t written);
 
 #endif

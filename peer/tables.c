@@ -7,25 +7,17 @@
    status 1, and its case is saved, if it is a generated one. */
 #include "../bench/status.h"
 #include "generate.h"
-#include "hub.h"
-#include "lend.h"
-#include "peer.h"
+#include "lent_answer.h"
+#include "spell.h"
 #include "stored_case.h"
+#include "taken.h"
 
 #include <signal.h>
 #include <stdlib.h>
 #include <string.h>
 
-/* What the program `cases` takes: an output of so many bytes, and inputs of so many together, as they stand in one space there. An
-   input of 4 MiB would be too long for it by one byte. */
-#define LONGEST_BYTES 1048576u
-#define LONGEST_TABLE 5120u
-#define LONGEST_FILE 4194303u
-
 #define ROWS_NEEDED 1536u
 #define RANGES_NEEDED 2048u
-#define ROW_BYTES 48u
-#define RANGE_BYTES 32u
 
 struct run {
     uint64_t seed, cases, done, answered, refused[16];
@@ -41,82 +33,20 @@ struct lent_case {
     char name[64]; /* as it is told: `case N of seed N`, or `line N` */
     struct one_case c;
     size_t rows_len, ranges_len;
-    const uint8_t *first, *second;
-    uint64_t *rows, *ranges;
-    uint8_t *out, report[PEER_TABLES_REPORT_BYTES];
-    uint64_t number, length, row_count, range_count;
     struct text line, told;
 };
 
-static struct block first_block, second_block, out_block, rows_block, ranges_block;
-
-static void begin_blocks(void) {
-    first_block = new_block(LONGEST_BYTES);
-    second_block = new_block(LONGEST_BYTES);
-    out_block = new_block(LONGEST_BYTES);
-    rows_block = new_block(LONGEST_TABLE * 8);
-    ranges_block = new_block(LONGEST_TABLE * 8);
-}
-
 /* ---- lines */
-
-static void add_words(struct text *t, const char *words) {
-    text_add(t, words, strlen(words));
-}
-
-/* A number behind a mark. */
-static void add_number_to(struct text *t, const char *mark, uint64_t x) {
-    char digits[24];
-    add_words(t, mark);
-    text_add(t, digits, (size_t)snprintf(digits, sizeof digits, "%llu", (unsigned long long)x));
-}
-
-static void add_hex(struct text *t, const uint8_t *p, size_t n) {
-    static const char digits[] = "0123456789abcdef";
-    size_t i;
-    add_words(t, n == 0 ? " -" : " ");
-    for (i = 0; i < n; i++) {
-        text_byte(t, (unsigned char)digits[p[i] >> 4]);
-        text_byte(t, (unsigned char)digits[p[i] & 15]);
-    }
-}
-
-/* The rows of a table, each of so many numbers. */
-static void add_rows(struct text *t, const uint64_t *table, uint64_t count, unsigned numbers) {
-    uint64_t i;
-    if (count == 0) {
-        add_words(t, " -");
-    }
-    for (i = 0; i < count * numbers; i++) {
-        add_number_to(t, i == 0 ? " " : i % numbers == 0 ? ";" : ",", table[i]);
-    }
-}
 
 static void spell_case(struct lent_case *k) {
     text_clear(&k->line);
-    add_words(&k->line, "answer");
-    add_hex(&k->line, k->c.first.at, k->c.first.length);
-    add_hex(&k->line, k->c.second.at, k->c.second.length);
-    add_number_to(&k->line, " ", k->c.room);
-    add_number_to(&k->line, " ", k->rows_len);
-    add_number_to(&k->line, " ", k->ranges_len);
-    add_words(&k->line, "\n");
-}
-
-static void spell_told(struct lent_case *k) {
-    text_clear(&k->told);
-    if (k->number == 0) {
-        add_words(&k->told, "ok");
-        add_hex(&k->told, k->out, (size_t)k->length);
-        add_rows(&k->told, k->rows, k->row_count, ROW_BYTES / 8);
-        add_rows(&k->told, k->ranges, k->range_count, RANGE_BYTES / 8);
-    } else {
-        add_number_to(&k->told, "no ", k->number);
-        add_number_to(&k->told, " ", hub_report_number(k->report, HUB_AT_INPUT));
-        add_number_to(&k->told, " ", hub_report_number(k->report, HUB_AT_PLACE));
-        add_number_to(&k->told, " ", k->length);
-    }
-    add_words(&k->told, "\n");
+    spell_words(&k->line, "answer");
+    spell_hex(&k->line, k->c.first.at, k->c.first.length);
+    spell_hex(&k->line, k->c.second.at, k->c.second.length);
+    spell_number(&k->line, " ", k->c.room);
+    spell_number(&k->line, " ", k->rows_len);
+    spell_number(&k->line, " ", k->ranges_len);
+    spell_words(&k->line, "\n");
 }
 
 /* ---- a peer that touches more than it may */
@@ -142,28 +72,6 @@ static void give_up(const char *what) {
 static void stopped(int signal_number) {
     (void)signal_number;
     give_up("the peer reads or writes memory that was not lent to it");
-}
-
-static int same(const uint8_t *a, const uint8_t *b, size_t n) {
-    return n == 0 || memcmp(a, b, n) == 0;
-}
-
-/* Whether a block of this length is as it was from some byte on, and before it. */
-static int rest_kept(struct block b, size_t n, uint64_t from) {
-    return from <= n && kept_before(b, n) && kept_from(b, n, (size_t)from);
-}
-
-static void look_at(const struct lent_case *k) {
-    if (!rest_kept(out_block, k->c.room, k->number == 0 ? k->length : 0)) {
-        give_up("the peer touches output past the answer");
-    }
-    if (!rest_kept(rows_block, k->rows_len * 8, k->row_count * ROW_BYTES) ||
-        !rest_kept(ranges_block, k->ranges_len * 8, k->range_count * RANGE_BYTES)) {
-        give_up("the peer touches a table past its rows");
-    }
-    if (!same(k->first, k->c.first.at, k->c.first.length) || !same(k->second, k->c.second.at, k->c.second.length)) {
-        give_up("the peer touches an input");
-    }
 }
 
 /* ---- one case */
@@ -196,26 +104,6 @@ static void make_lent(struct luck *l, struct lent_case *k) {
     }
     k->rows_len = some_table(l, ROWS_NEEDED);
     k->ranges_len = some_table(l, RANGES_NEEDED);
-}
-
-/* A block ends at a page, so that numbers that end there stand as they have to. */
-static uint64_t *lend_table(struct block b, size_t numbers) {
-    return (uint64_t *)(void *)lend_filled(b, numbers * 8);
-}
-
-static void run_lent(struct lent_case *k) {
-    struct one_case *c = &k->c;
-    k->first = lend_copy(first_block, c->first.at, c->first.length);
-    k->second = lend_copy(second_block, c->second.at, c->second.length);
-    k->rows = lend_table(rows_block, k->rows_len);
-    k->ranges = lend_table(ranges_block, k->ranges_len);
-    k->out = lend_filled(out_block, c->room);
-    memset(k->report, 0, sizeof k->report);
-    k->number = peer_answer_tables(k->first, c->first.length, k->second, c->second.length, k->rows, k->rows_len, k->ranges,
-                                   k->ranges_len, k->out, c->room, k->report, sizeof k->report);
-    k->length = hub_report_number(k->report, HUB_AT_LENGTH);
-    k->row_count = k->number == 0 ? hub_report_number(k->report, HUB_REPORT_BYTES) : 0;
-    k->range_count = k->number == 0 ? hub_report_number(k->report, HUB_REPORT_BYTES + 8) : 0;
 }
 
 /* ---- files */
@@ -269,14 +157,23 @@ static int is_taken(const struct lent_case *k) {
 
 /* A case that is taken, by the peer and into the files. */
 static void take_case(struct run *r, struct lent_case *k) {
+    const struct lent_answer a = {k->c.first.at, k->c.second.at, k->c.first.length, k->c.second.length,
+                                  k->c.room,     k->rows_len,    k->ranges_len};
+    struct lent_result result;
+    const char *touched;
     spell_case(k);
-    run_lent(k);
-    look_at(k);
-    spell_told(k);
+    run_lent_answer(&a, &result);
+    touched = touched_by(&a, &result);
+    if (touched != NULL) {
+        give_up(touched);
+    }
+    text_clear(&k->told);
+    spell_answer(&k->told, &result);
+    spell_words(&k->told, "\n");
     write_lent(r, k);
     r->done++;
-    r->answered += k->number == 0;
-    r->refused[k->number < 16 ? k->number : 15]++;
+    r->answered += result.number == 0;
+    r->refused[result.number < 16 ? result.number : 15]++;
 }
 
 static void run_cases(struct run *r, struct lent_case *k) {
@@ -355,7 +252,7 @@ int main(int count, char **words) {
     read_words(r, count, words);
     signal(SIGSEGV, stopped);
     signal(SIGBUS, stopped);
-    begin_blocks();
+    begin_lent_answers();
     if (r->replay != NULL) {
         status = stored_each(r->replay, run_stored, r);
     } else {

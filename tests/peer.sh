@@ -248,8 +248,8 @@ ends 'peer/replay.sh: the tables are not compared: only a file can be read a sec
 rm "$room/tree/peer"
 mkdir "$room/tree/peer" || fail 'there is no room for a copy of the peer'
 cp peer/* "$room/tree/peer/"
-sed 's/to\[1\] = e->length/to[1] = e->place + e->length/' peer/answer.c >"$room/tree/peer/answer.c"
-! cmp -s peer/answer.c "$room/tree/peer/answer.c" || fail 'no line of the peer is spoiled'
+sed 's/to\[1\] = e->length/to[1] = e->place + e->length/' peer/rows.c >"$room/tree/peer/rows.c"
+! cmp -s peer/rows.c "$room/tree/peer/rows.c" || fail 'no line of the peer is spoiled'
 printf '\nanswer %s 132 1537 2049\n' "$one" >>"$room/folder/lent"
 replays_tables 1 7 lent
 [ "$(grep '^library and peer differ' "$room/log" | tr '\n' ';')" = \
