@@ -11,4 +11,5 @@ peer_series="$peer_makers peer/lend.c peer/cases.c peer/model.c peer/series.c"
 # What spells a line of the program `cases`, and has the answering call made with lent tables for it.
 peer_spell='peer/lend.c peer/spell.c peer/lent_answer.c'
 peer_tables="$peer_makers peer/generate.c $peer_spell $peer_reader peer/tables.c"
+peer_lines="peer/text.c $peer_spell peer/words.c peer/line_items.c peer/line_wholes.c peer/line_calls.c peer/lines.c"
 peer_speed="$peer_makers peer/speed.c"

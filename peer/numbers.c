@@ -226,3 +226,10 @@ uint8_t *put_extended_guid(uint8_t *p, const struct name *id) {
         return put_little(put_guid(put_little(p, 128, 1), id->guid), id->number, 4);
     }
 }
+
+uint8_t *put_serial(uint8_t *p, const struct name *serial) {
+    if (serial->null) {
+        return put_little(p, 0, 1);
+    }
+    return put_little(put_guid(put_little(p, 128, 1), serial->guid), serial->number, 8);
+}

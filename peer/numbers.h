@@ -63,5 +63,6 @@ uint8_t *put_little(uint8_t *p, uint64_t value, unsigned n);
 uint8_t *put_compact(uint8_t *p, uint64_t value);
 uint8_t *put_guid(uint8_t *p, struct guid guid);
 uint8_t *put_extended_guid(uint8_t *p, const struct name *id);
+uint8_t *put_serial(uint8_t *p, const struct name *serial);
 
 #endif

@@ -1,4 +1,4 @@
-/* Objects within objects, read. Headers stand outside of runs, so that only the input's end bounds them. */
+/* Objects within objects, read, and headers written. Headers stand outside of runs, so that only the input's end bounds them. */
 #include "objects.h"
 #include "numbers.h"
 
@@ -170,6 +170,21 @@ int pass_inside(struct input *in, unsigned type, unsigned open, unsigned most) {
         gone = pass_one(in, &nest);
     } while (gone == 1);
     return gone == 2;
+}
+
+uint8_t *put_start(uint8_t *p, unsigned type, int compound, uint64_t length) {
+    uint64_t low = (uint64_t)type << 3 | (compound ? 4u : 0u);
+    if (type < 64 && length < 128) {
+        return put_little(p, length << 9 | low, 2);
+    }
+    if (length < 0x7FFF) {
+        return put_little(p, length << 17 | low | 2, 4);
+    }
+    return put_compact(put_little(p, (uint64_t)0x7FFF << 17 | low | 2, 4), length);
+}
+
+uint8_t *put_end(uint8_t *p, unsigned type) {
+    return type < 64 ? put_little(p, type << 2 | 1, 1) : put_little(p, type << 2 | 3, 2);
 }
 
 int read_front(struct input *in, uint64_t signature) {

@@ -70,6 +70,10 @@ int end_run(struct input *in);
 /* Passes over all up to the end of the innermost open object, whose type this is; so many are open with it, of so many at most. */
 int pass_inside(struct input *in, unsigned type, unsigned open, unsigned most);
 
+/* Each writes a header in its shortest form, and answers the place behind; the type has 14 bits. */
+uint8_t *put_start(uint8_t *p, unsigned type, int compound, uint64_t length);
+uint8_t *put_end(uint8_t *p, unsigned type);
+
 /* Version, minimum version and signature. */
 int read_front(struct input *in, uint64_t signature);
 

@@ -69,16 +69,17 @@ static int read_constraint(struct input *in, struct header *h, struct asked *ask
 /* Constraint, filters and knowledge, as far as they are there, and the end of the sub-request. */
 static int read_rest(struct input *in, struct asked *asked) {
     struct header h;
-    unsigned filters = 0;
     asked->limit = UINT64_MAX;
+    asked->filters = 0;
     if (!next_header(in, &h, SUB_REQUEST)) {
         return 0;
     }
     if (is_start(&h, CONSTRAINT, PLAIN) && (!read_constraint(in, &h, asked) || !next_header(in, &h, SUB_REQUEST))) {
         return 0;
     }
+    asked->filters_at = h.place;
     while (is_start(&h, FILTER, COMPOUND)) {
-        if (!read_filter(in, &h, filters++, &asked->choice) || !next_header(in, &h, SUB_REQUEST)) {
+        if (!read_filter(in, &h, asked->filters++, &asked->choice) || !next_header(in, &h, SUB_REQUEST)) {
             return 0;
         }
     }

@@ -7,6 +7,8 @@
 
 struct asked {
     uint64_t id, limit;
+    size_t filters_at; /* where the first filter stands or would stand */
+    unsigned filters;  /* how many there are */
     struct choice choice;
     struct ranges known;
 };
