@@ -2,7 +2,7 @@
 # make install puts the header, the archive and hub.pc under DESTDIR and PREFIX, and make uninstall takes them away again.
 # What a rule that fails has written is taken away.
 .DELETE_ON_ERROR:
-.PHONY: test archive shared install uninstall run replay speed
+.PHONY: test archive shared install uninstall run replay speed expected
 
 PREFIX = /usr/local
 INCLUDEDIR = $(PREFIX)/include
@@ -59,3 +59,7 @@ target/bench: $(wildcard bench/*.c bench/*.h) include/hub.h tools/cc $(archive_f
 # Library against peer and memcpy, as ratios.
 speed: $(archive_file)
 	@sh peer/speed.sh
+
+# Writes the stored lines of the tests by the peer, and shows what moved: crates/cases/stdout, tests/answers.out, tests/benches.out.
+expected:
+	@sh peer/expected.sh

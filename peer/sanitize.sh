@@ -138,6 +138,7 @@ for compiler in $compilers; do
     {
         build answer -Dhub_answer=peer_answer tests/answer.c $peer_core
         build bench -Dhub_ask=peer_ask -Dhub_read=peer_read -Dhub_element=peer_element tests/bench.c $peer_core
+        build lines $peer_core $peer_lines
         build compare $calls $peer_core $peer_compare $archive
         build series $peer_core $peer_series $archive
         build tables $peer_core $peer_tables
@@ -149,6 +150,7 @@ for compiler in $compilers; do
         fi
     }
     talks_well
+    stored lines crates/cases/stdin crates/cases/stdout
     stored answer tests/answers.in tests/answers.out
     stored bench tests/benches.in tests/benches.out
     run compare --cases "$cases" --save "$saved"

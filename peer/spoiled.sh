@@ -2,7 +2,7 @@
 # Holds the driver to what it is for: peers with one line spoiled are compared with the library, and each has to be told from it.
 # Each line says which case or talk told one, and the last line how many were. A case that told one is replayed, and so is the
 # sample of cases from the field, where one of them tells it. Those spoiled in the tables are compared with the program `cases`, and
-# so is what tells one, replayed.
+# so is what tells one, replayed. Those spoiled in what no call of hub.h shows are told by the stored lines of that program.
 set -u
 cd "$(dirname "$0")/.." || exit 1
 . peer/files.sh
@@ -33,6 +33,7 @@ build() { # PROGRAM FILE RIGHT WRONG
     case $1 in
     compare) others=$peer_compare ;;
     series) others=$peer_series ;;
+    lines) others=$peer_lines ;;
     *) others=$peer_tables ;;
     esac
     # The files of the copy are named from its folder, so that their names have no blanks.
@@ -102,6 +103,23 @@ spoil_tables() { # FILE RIGHT WRONG
     found=$((found + 1))
 }
 
+# By the stored lines of the program `cases`: the first that differs is of the kind that the spoiled line is for. Answers, which take
+# most of the time, are left out.
+grep -v '^answer ' crates/cases/stdin >"$room/stored.in"
+paste -d '|' crates/cases/stdin crates/cases/stdout | sed -e '/^answer /d' -e 's/.*|//' >"$room/stored.out"
+spoil_line() { # KIND FILE RIGHT WRONG
+    kind=$1
+    shift
+    build lines "$@"
+    sh tools/run "$room/lines" <"$room/stored.in" >"$room/got" || fail "with '$3' for '$2' the lines end with another status than 0"
+    line=$(awk -v got="$room/got" '(getline other <got) <= 0 || other != $0 { print NR; exit }' "$room/stored.out")
+    [ -n "$line" ] || fail "no stored line tells a peer with '$3' for '$2'"
+    told=$(sed -n "${line}s/ .*//p" "$room/stored.in")
+    [ "$told" = "$kind" ] || fail "a case of the kind '$told' tells '$3', not one of the kind '$kind'"
+    printf 'told by a stored case of %s: %s: %s for %s\n' "$kind" "$1" "$3" "$2"
+    found=$((found + 1))
+}
+
 spoil page 'bytes > asked->limit' 'bytes >= asked->limit'
 spoil page 'price.count > MOST_RANGES' 'price.count >= MOST_RANGES'
 spoil page 'page->length > room' 'page->length >= room'
@@ -151,4 +169,9 @@ spoil_tables answer 'ranges_len < RANGES_NEEDED' 'ranges_len + 1 < RANGES_NEEDED
 short='(rows_len < ROWS_NEEDED || ranges_len < RANGES_NEEDED)'
 spoil_tables answer "$short" "(peer_element(0, store, store_len, 0, NULL, 0) % 9 == 0 && $short)"
 spoil_tables answer 'if (number == 0)' 'if (number % OUTPUT_TOO_SHORT == 0)'
+spoil_line wserial numbers 'if (serial->null)' 'if (serial->number == 0)'
+spoil_line wstart objects 'type < 64 && length < 128' 'type < 64 && length < 127'
+spoil_line wstart objects 'length < 0x7FFF' 'length <= 0x7FFF'
+spoil_line wend objects 'type < 64 ?' 'type <= 64 ?'
+spoil_line request request 'filters_at = h.place' 'filters_at = in->at'
 printf '%s spoiled peers were told from the library\n' "$found"

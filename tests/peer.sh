@@ -30,42 +30,42 @@ compile() { # NAME WORDS..
     sh tools/cc "$room/$name" -Iinclude "$@" >"$room/log" 2>&1 || { cat "$room/log"; fail "$name is not compiled and linked"; }
 }
 
-# ---- stored cases, by the peer in the library's place
-# shellcheck disable=SC2086
-compile answer -Dhub_answer=peer_answer tests/answer.c $peer_core
-# shellcheck disable=SC2086
-compile bench -Dhub_ask=peer_ask -Dhub_read=peer_read -Dhub_element=peer_element tests/bench.c $peer_core
-
+# ---- stored cases: make expected writes what the peer makes of them. It is run in a tree of links in which some of the stored lines
+# are others, and has to write those that are stored here, and to show what moved. The library is held to the same lines: rt check
+# compares crates/cases/stdout with what the program `cases` prints, and tests/c.sh the others with the calls for C.
+mkdir -p "$room/stored/crates/cases" "$room/stored/tests" || fail 'there is no room for a tree'
+cp Makefile "$room/stored/"
+cp tests/*.c tests/*.h tests/*.in "$room/stored/tests/"
+ln -s "$PWD/crates/cases/stdin" "$room/stored/crates/cases/stdin" || fail 'there is no room for a link'
+for name in include peer tools; do
+    ln -s "$PWD/$name" "$room/stored/$name" || fail 'there is no room for a link'
+done
+# Line 1 is missing there and the next but one are others; behind those of the bench there is one too many.
+awk 'NR >= 3 && NR <= 7 { $0 = "no 15 0 0 0" } NR > 1 { print }' crates/cases/stdout >"$room/stored/crates/cases/stdout"
+cp tests/answers.out "$room/stored/tests/"
+{ cat tests/benches.out && echo touched; } >"$room/stored/tests/benches.out"
+(cd "$room/stored" && unset MAKELEVEL MAKEFLAGS MFLAGS && make expected) >"$room/log" 2>&1 ||
+    { cat "$room/log"; fail 'make expected fails'; }
 stored=0
-compare() { # PROGRAM CASES EXPECTED
-    [ -s "$2" ] || fail "there is no case in $2"
-    sh tools/run "$room/$1" <"$2" >"$room/got" || fail "the peer ends with another status than 0 on $2"
-    cmp "$room/got" "$3" || fail "of $2 the peer makes other lines than $3 has"
-    stored=$((stored + $(wc -l <"$2")))
+for name in crates/cases/stdin:crates/cases/stdout tests/answers.in:tests/answers.out tests/benches.in:tests/benches.out; do
+    [ -s "${name%:*}" ] || fail "there is no case in ${name%:*}"
+    cmp "$room/stored/${name#*:}" "${name#*:}" || fail "of ${name%:*} the peer makes other lines than ${name#*:} has"
+    stored=$((stored + $(wc -l <"${name%:*}")))
+done
+moved_line() { # NUMBER: with what it was before
+    printf '  line %s: %s\n    before: no 15 0 0 0\n    now: %s\n' "$1" \
+        "$(sed -n "$1p" crates/cases/stdin)" "$(sed -n "$1p" crates/cases/stdout)"
 }
-
-# The lines of the program cases in the form of the exported calls. A request is asked of an empty store, and only its refusals are
-# compared.
-paste -d '|' crates/cases/stdin crates/cases/stdout | awk -F '|' -v room="$room" '
-    $2 == "bad" { next }
-    { split($1, w, " "); split($2, r, " ") }
-    w[1] == "answer" && w[5] >= 1536 && w[6] >= 2048 {
-        print $1 >(room "/answer.in")
-        print r[1] == "ok" ? r[1] " " r[2] : $2 >(room "/answer.out")
-    }
-    w[1] ~ /^(ask|read|received|element)$/ {
-        print $1 >(room "/bench.in")
-        print $2 >(room "/bench.out")
-    }
-    w[1] == "request" && r[1] == "no" {
-        print "answer ac020055", w[2], "65536 1536 2048" >(room "/request.in")
-        print $2 >(room "/request.out")
-    }'
-compare answer tests/answers.in tests/answers.out
-compare bench tests/benches.in tests/benches.out
-compare answer "$room/answer.in" "$room/answer.out"
-compare answer "$room/request.in" "$room/request.out"
-compare bench "$room/bench.in" "$room/bench.out"
+{
+    printf 'crates/cases/stdout: moved lines: 6\n'
+    moved_line 1 | sed 2d
+    for line in 3 4 5 6; do
+        moved_line "$line"
+    done
+    printf '  and 1 more\ntests/answers.out: nothing moved\ntests/benches.out: moved lines: 1\n'
+    printf '  behind line %s\n    before: touched\nmoved lines: 7\n' "$(wc -l <tests/benches.in | tr -d ' ')"
+} >"$room/moves"
+cmp "$room/moves" "$room/log" || { cat "$room/log"; fail 'make expected tells something else than what moved'; }
 printf 'tests/peer.sh: %s stored cases by the peer\n' "$stored"
 passed=$((passed + 1))
 
