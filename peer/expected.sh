@@ -49,6 +49,7 @@ moves() { # CASES EXPECTED LINES
 
 moved=0
 put() { # NAME CASES EXPECTED
+    [ -e "$3" ] || : >"$3" || fail "$3 cannot be written"
     if cmp -s "$3" "$room/$1.lines"; then
         printf '%s: nothing moved\n' "$3"
         return
