@@ -21,7 +21,7 @@ archive: $(archive_file)
 # Whoever installs need not be who proved: nothing is made again while no source is newer.
 $(archive_file): $(sources)
 	@sh tools/toolchain
-	@rt staticlib hub
+	@sh tools/proving target/log/archive staticlib hub
 	@touch $@
 
 # On x86-64 it is one line of cc, which README.md has.

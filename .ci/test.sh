@@ -1,9 +1,11 @@
 #!/bin/sh
 # What make test does, in this order: the toolchain is the one that the file toolchain names; every source file is in
-# the layout; rt ci passes; the tests in C pass; no library rests on an axiom. Only if all of it holds is the last line
-# 'N passed, 0 failed', where N counts what rt ci has passed and the tests in C, and the exit status 0.
+# the layout; the docs name what there is; rt ci passes; the tests in C pass; no library rests on an axiom. Only if all
+# of it holds is the last line 'N passed, 0 failed', where N counts what rt ci and the other tests have passed, and the
+# exit status 0. What each part took stands before it, and in target/log/gate, which tools/gate-figures reads.
 set -u
 cd "$(dirname "$0")/.." || exit 1
+began=$(date +%s)
 
 # To standard output, so that no run that fails here ends on rt ci's line.
 fail() {
@@ -17,14 +19,12 @@ missing=$(sh tools/toolchain) || fail "$missing"
 # ---- the layout
 rt fmt --check || fail 'rt fmt --check finds files that are not in the layout (rt fmt sets them right)'
 
-# ---- the proofs, the must-fail edits and the programs
 room=$(mktemp -d) || fail 'there is no room for a temporary file'
 trap 'rm -rf "$room"' EXIT
 trap 'exit 1' HUP INT TERM
-# rt ci removes target/, so its output is kept elsewhere; a pipe's status is that of its last command.
-{ rt ci; echo $? >"$room/status"; } | tee "$room/log"
-status=$(cat "$room/status")
-[ "$status" = 0 ] || exit "${status:-1}"
+took() { # WHAT SINCE: for tools/gate-figures
+    printf 'gate: %s %s s\n' "$1" "$(($(date +%s) - $2))" >>"$room/times"
+}
 passed=0
 count() { # WHAT: adds what the last line of the log says has passed
     last=$(tail -n 1 "$room/log")
@@ -32,29 +32,44 @@ count() { # WHAT: adds what the last line of the log says has passed
         fail "$1 ended with status 0, and its last line is not 'N passed, 0 failed'"
     passed=$((passed + ${last%% *}))
 }
+run_test() { # SCRIPT
+    since=$(date +%s)
+    sh "$1" >"$room/log" 2>&1 || { cat "$room/log"; fail "$1"; }
+    # All but the last line, so that the last line of the whole run is the only one of its kind.
+    sed '$d' "$room/log"
+    count "$1"
+    took "$1" "$since"
+}
+
+# ---- the names in the docs, which need no proof
+run_test tests/names.sh
+
+# ---- the proofs, the must-fail edits and the programs
+# rt ci removes target/, so its output is kept elsewhere, and put there afterwards.
+since=$(date +%s)
+sh tools/proving "$room/log" ci
+status=$?
+[ "$status" = 0 ] || { echo 'test: FAILED: rt ci'; exit "$status"; }
 count 'rt ci'
+took 'rt ci' "$since"
+cp "$room/log" target/log/gate || fail 'there is no room for the log of rt ci'
 
 # ---- the tests in C; the first makes the archive, with which the others go on
 for script in tests/c.sh tests/header.sh tests/install.sh tests/bench.sh tests/peer.sh; do
-    sh "$script" >"$room/log" 2>&1 || { cat "$room/log"; fail "$script"; }
-    # All but the last line, so that the last line of the whole run is the only one of its kind.
-    sed '$d' "$room/log"
-    count "$script"
+    run_test "$script"
 done
 
 # ---- no axiom
 # The only axioms that rt admits are the contracts of C functions. It counts them (axioms=) for a program, which may
 # have some, and never for a library. A library's log names instead each library that its check was handed, directly or
 # through another: none may be but a crate of this repository or a library of the toolchain that declares no C function
-# and stands on none that does.
+# and stands on none that does. The crates case_* are parts of the test program, which no daemon links with: they may
+# rest on axioms, and no other library on them.
 without_axioms='std bytes check'
-crates=$(sed -n -e 's/#.*//' -e 's/^[[:space:]]*\([A-Za-z_][A-Za-z0-9_]*\)[[:space:]]*:.*/\1/p' crates.txt)
-crates=$(printf '%s ' $crates)
+crates=$(sed -n -e 's/#.*//' -e 's/^[[:space:]]*\([A-Za-z_][A-Za-z0-9_]*\)[[:space:]]*:.*/\1/p' crates.txt | grep -v '^case_' | tr '\n' ' ')
 bad=''
 for crate in $crates; do
     [ ! -f "crates/$crate/src/main.rt" ] || continue
-    # parts of the test program, which no daemon links with
-    case $crate in case_*) continue ;; esac
     log=target/log/$crate.out
     if ! grep -q '^library std:' "$log" || ! grep -q '^logic=proved ' "$log"; then
         fail "$log, the log of the library $crate, does not read as expected"
@@ -76,4 +91,8 @@ for crate in $crates; do
 done
 [ -z "$bad" ] || fail 'only a program may rest on axioms'
 
+# ---- what it took
+took whole "$began"
+cat "$room/times" >>target/log/gate
+sh tools/gate-figures --short
 printf '%s passed, 0 failed\n' "$passed"
