@@ -1,7 +1,7 @@
 #!/bin/sh
 # tests/names.sh: what the docs name in backquotes exists: functions `m::f`, laws `X.y`, definitions, edits and files; and what a
 # row of docs/PROMISES.md names behind a crate ('objects: ..') stands in that crate. A name of the C side need only occur there,
-# as these words of the language do here: u32 u64 self requires ensures. The notes of landings, docs/requests/, may name anything.
+# as these words of the language do here: u32 u64 self requires ensures omega. Notes of landings, docs/requests/, may name anything.
 cd "$(dirname "$0")/.." || exit 1
 list() { find . \( -path ./target -o -path ./.git \) -prune -o -print | sed 's|^\./||' | grep -E "$1"; }
 # shellcheck disable=SC2046
