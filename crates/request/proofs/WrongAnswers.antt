@@ -40,3 +40,8 @@ shortest =
 no-limit : ReadsRequest shortest (7 ∷ []) (Asked 1 0 41 0 0) (7 ∷ []) → ⊥
 unfolding requestKnowing knowledgePart versions userAgent subRequestFields subRequest queryChanges argumentFields arguments constraint packagePart identified constrainedFrom filtersFrom ended requestAnswer requestIn number numberIs nullId need valueOf fixedIn valued skip startHere lengthIs startOfLength runHere closedAt inside endHere nextIs finish placeOf headerAt headerOf sized startOf endOf lengthAt runAt iterate turns readCompact formAt readForm compact.valueOf sizeOf readExtendedGuid formOfId trailingZeros le
 no-limit h = let z : _≡_ {A = ℕ} 0 0xFFFFFFFFFFFFFFFF = ap (λ (r : Request). getD (tellRequest r .values) 1 0) (h .0) in omega arith
+
+-- a constraint may be absent: the end that stands in its place is not at fault
+constraint-missed : ReadsRequest shortest (7 ∷ []) (Refused (inRequest (faultAt 5 41))) (7 ∷ []) → ⊥
+unfolding requestKnowing knowledgePart versions userAgent subRequestFields subRequest queryChanges argumentFields arguments constraint packagePart identified constrainedFrom filtersFrom ended requestAnswer requestIn number numberIs nullId need valueOf fixedIn valued skip startHere lengthIs startOfLength runHere closedAt inside endHere nextIs finish placeOf headerAt headerOf sized startOf endOf lengthAt runAt iterate turns readCompact formAt readForm compact.valueOf sizeOf readExtendedGuid formOfId trailingZeros le
+constraint-missed h = let z : _≡_ {A = ℕ} 5 0 = ap (λ (r : Request). tellRequest r .number) (h .0) in omega arith

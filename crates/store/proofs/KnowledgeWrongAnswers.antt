@@ -7,24 +7,27 @@ use mathlib.Core.List.{List, [], _∷_}
 use Prim.Native.Nat.{ℕ, _^_, _≤_}
 use native.Mathlib.Omega.{arith}
 use lib.ListN.{length, getD}
+use lib.Count.{trailingZeros}
 use Rattle.laws.specs.Bytes.{le, bytes, be}
 use Rattle.laws.specs.Loop.{turns, iterate}
 use Rattle.laws.proofs.Cases.{impossible}
 use Rattle.laws.proofs.Placing.{placed-fits}
 use Rattle.numbers.specs.Refusals.{Told, tooShort}
 use Rattle.numbers.specs.Calls.{written, Writes}
-use Rattle.numbers.specs.Compact.{compactBytes, formOf, formFrom, sizeOf, marked}
-use Rattle.numbers.specs.Guid.{guidBytes, swapped}
+use Rattle.numbers.specs.Compact.{compactBytes, formOf, formFrom, sizeOf, marked, readForm, formAt, readCompact}
+use Rattle.numbers.specs.Compact as compact
+use Rattle.numbers.specs.Guid.{guidAt, guidBytes, swapped}
 use Rattle.numbers.specs.declared.refusal.Wrote.the-variants.{Done, Refused}
 use Rattle.objects.specs.Header.{startBytes, longStart, startNumber, endBytes, startOf, endOf, sized, headerOf, headerAt, lengthAt}
-use Rattle.objects.specs.Steps.{placeOf, startHere, lengthIs, startOfLength, endHere, nextIs}
+use Rattle.objects.specs.Steps.{placeOf, valueOf, number, guidHere, onGuid, startHere, lengthIs, startOfLength, endHere, nextIs}
 use Rattle.objects.specs.declared.reading.Reading.the-variants.{At}
 use Rattle.talk.specs.Ranges.{range, within, holds, isBefore, joined, absorb, insert}
+use Rattle.talk.specs.declared.range.Range.{Range}
 use Rattle.ranges.specs.RangeTable.{rangesAt, numbersOf, addedTo, laidIn}
 use Rattle.ranges.specs.declared.Added.the-variants.{Rows}
 use Rattle.store.specs.declared.knowledge.ReadKnowledge.the-variants.{Holds}
-use Rattle.store.specs.Knowledge.{knowledgeTurn, toGo, knowledgeFrom, knowledgeAt, knowledgeAnswer, ReadsKnowledge}
-use Rattle.ranges.specs.Ranged.{knows}
+use Rattle.store.specs.Knowledge.{guidIn, rangeFields, knowledgeTurn, toGo, knowledgeFrom, knowledgeAt, knowledgeAnswer, ReadsKnowledge}
+use Rattle.ranges.specs.Ranged.{rangeOf, knows}
 use Rattle.store.specs.KnowledgeWritten.{guidOf, rangeData, rangeBytes, rangesBytes, cellFront, cellBack, knowledgeBytes}
 
 -- one row: the GUID 1, 2, and the numbers from 3 to 4
@@ -80,6 +83,13 @@ one-row-held h = impossible (cc)
 table-cleared : ReadsKnowledge (knowledgeAt 12 0x42 (0x84 ∷ 0x00 ∷ 0x41 ∷ []) (7 ∷ []) (At 0 0)) (Holds 3 0) (0 ∷ []) → ⊥
 unfolding knowledgeAt knowledgeFrom knowledgeTurn toGo knowledgeAnswer iterate turns startOfLength lengthIs placeOf startHere nextIs endHere headerAt headerOf sized startOf endOf lengthAt le
 table-cleared h = impossible (cc)
+
+-- ---- a range's data run, the GUID of sixteen zero bytes and the numbers 1 and 2: it goes from 1 to 2, and not from 2 to 1
+
+from-and-to-turned :
+    rangeFields (0 ∷ 0 ∷ 0 ∷ 0 ∷ 0 ∷ 0 ∷ 0 ∷ 0 ∷ 0 ∷ 0 ∷ 0 ∷ 0 ∷ 0 ∷ 0 ∷ 0 ∷ 0 ∷ 0x03 ∷ 0x05 ∷ []) .range ≡ range 0 0 2 1 → ⊥
+unfolding rangeFields guidIn guidHere onGuid guidAt number valueOf readCompact formAt readForm compact.valueOf trailingZeros rangeOf sizeOf swapped be bytes le
+from-and-to-turned h = let z : _≡_ {A = ℕ} 1 2 = ap (λ (r : Range). r .from) h in omega arith
 
 -- ---- add_range: 5 to 6 put to 1 to 4, in a table with room for two rows
 

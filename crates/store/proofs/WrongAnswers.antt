@@ -4,7 +4,7 @@
 use mathlib.Core.Path.{_≡_, refl, ap}
 use Prim.Native.Nat.{ℕ, _≤_}
 use mathlib.Core.List.{List, [], _∷_}
-use lib.ListN.{length}
+use lib.ListN.{length, getD}
 use native.Mathlib.Omega.{arith}
 use Rattle.laws.specs.Bytes.{le, bytes}
 use Rattle.laws.specs.Loop.{turns, iterate}
@@ -121,6 +121,14 @@ one-read = package-written (one ∷ []) (omega arith) one-fits refl refl short
 refused-there : FindsElement (packageBytes (one ∷ [])) 0 (found.Refused (faultAt 9 0)) → ⊥
 unfolding foundIn elementIn elementsFrom
 refused-there h = let e = rw (one-read .0, one-read .1) at h in let z : _≡_ {A = ℕ} 9 0 = ap (λ (t : Told). t .number) e in omega arith
+
+-- nor has it a length that is counted from the store's front: it is 46 bytes from place 3 on
+length-from-the-front : FindsElement (packageBytes (one ∷ [])) 0 (found.At 3 49) → ⊥
+unfolding foundIn elementIn elementsFrom writtenElement fieldBytes startBytes endBytes extendedGuidBytes namedBytes shortBytes serialBytes taggedBytes guidBytes compactBytes formOf formFrom sizeOf bytes
+length-from-the-front h =
+    let e = rw (one-read .0, one-read .1) at h in
+    let z : _≡_ {A = ℕ} 49 46 = ap (λ (t : Told). getD (t .values) 1 0) e in
+    omega arith
 
 -- read_store: none held, and one held with its row not written
 none-held : (rows ids : List ℕ) → WalkedTo (storeWalk (packageBytes (one ∷ []))) (stored.Holds 0) rows rows ids ids → ⊥
