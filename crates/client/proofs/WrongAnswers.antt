@@ -98,6 +98,15 @@ marked-partial : ReadsAnswer smallest (answer.Is marked) → ⊥
 unfolding versions fixedIn le responseStart startHere runHere closedAt packageStart startOfLength lengthIs placeOf skip walkFrom nextIs endHere subResponse changes knowledgeIn knowledgeAt knowledgeFrom knowledgeTurn toGo iterate turns valued endsOf finish restOf answerEnd headerAt headerOf sized startOf endOf lengthAt statusByte responseFields subResponseFields changesFields need valueOf number numberIs idHere onId readCompact formAt readForm compact.valueOf sizeOf readExtendedGuid formOfId trailingZeros answerOn answerIn receivedFrom idIn idNumbers receivedNumbers
 marked-partial h = let z : _≡_ {A = ℕ} 1 0 = ap (λ (t : Told). getD (t .values) 3 0) h in omega arith
 
+-- and with a status byte that announces an error it is refused with 5, and not read
+abbrev failed : List ℕ
+failed =
+    0x0C ∷ 0x00 ∷ 0x0B ∷ 0x00 ∷ 0x9D ∷ 0xCF ∷ 0x29 ∷ 0xF3 ∷ 0x39 ∷ 0x94 ∷ 0x06 ∷ 0x9B ∷ 0x16 ∷ 0x03 ∷ 0x02 ∷ 0x00 ∷ 0x01 ∷ 0xAC ∷ 0x02 ∷ 0x00 ∷ 0x55 ∷ 0x0E ∷ 0x02 ∷ 0x06 ∷ 0x00 ∷ 0x03 ∷ 0x05 ∷ 0x00 ∷ 0xFA ∷ 0x02 ∷ 0x04 ∷ 0x00 ∷ 0x00 ∷ 0x00 ∷ 0x84 ∷ 0x00 ∷ 0x41 ∷ 0x07 ∷ 0x01 ∷ 0x8B ∷ 0x01 ∷ []
+
+error-taken : ReadsAnswer failed (answer.Is marked) → ⊥
+unfolding versions fixedIn le responseStart startHere runHere closedAt packageStart startOfLength lengthIs placeOf skip walkFrom nextIs endHere subResponse changes knowledgeIn knowledgeAt knowledgeFrom knowledgeTurn toGo iterate turns valued endsOf finish restOf answerEnd headerAt headerOf sized startOf endOf lengthAt statusByte responseFields subResponseFields changesFields need valueOf number numberIs idHere onId readCompact formAt readForm compact.valueOf sizeOf readExtendedGuid formOfId trailingZeros answerOn answerIn receivedFrom idIn idNumbers receivedNumbers
+error-taken h = let z : _≡_ {A = ℕ} 0 5 = ap (λ (t : Told). t .number) h in omega arith
+
 -- ---- an answer that holds one element, of 46 bytes from place 20 on
 
 abbrev of-one : List ℕ

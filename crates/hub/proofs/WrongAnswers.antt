@@ -11,7 +11,7 @@ use Rattle.numbers.specs.Compact.{sizeOf, formFrom, formOf, compactBytes}
 use Rattle.numbers.specs.ExtendedGuid.{extendedGuidBytes}
 use Rattle.objects.specs.Header.{startBytes, longStart, endBytes, startOf, endOf, sized, headerOf, headerAt, lengthAt}
 use Rattle.objects.specs.Steps.{placeOf, valued, fixedIn, startHere, lengthIs, startOfLength, runHere, closedAt, skip, endHere, nextIs, finish}
-use Rattle.store.specs.Accessor.{foundIn}
+use Rattle.store.specs.Accessor.{elementIn, foundIn}
 use Rattle.store.specs.Knowledge.{knowledgeTurn, toGo, knowledgeFrom, knowledgeAt}
 use Rattle.store.specs.Store.{packageStart, walkFrom, storeWalk}
 use Rattle.request.specs.Filter.{filtersFrom}
@@ -71,3 +71,8 @@ short-report-read h = impossible (cc (h .1))
 nothing-found : HubFinds 0 [] 0 0 [] [] → ⊥
 unfolding elementFound foundIn storeWalk packageStart startOfLength lengthIs placeOf startHere skip walkFrom nextIs endHere finish headerAt headerOf
 nothing-found h = let z = h .0 in omega arith
+
+-- kind 0 is a store: of one without elements 9 is told, and not 7, as of an answer without its version
+store-as-answer : HubFinds 0 (0xAC ∷ 0x02 ∷ 0x00 ∷ 0x55 ∷ []) 0 7 [] [] → ⊥
+unfolding elementFound elementIn foundIn storeWalk packageStart startOfLength lengthIs placeOf startHere skip walkFrom nextIs endHere finish headerAt headerOf sized startOf endOf lengthAt le
+store-as-answer h = let z = h .0 in omega arith
