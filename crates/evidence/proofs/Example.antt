@@ -199,6 +199,14 @@ pub one-refused : outcome one (asking 0 []) 131 ≡ refused (tooShort 132)
 unfolding answering
 one-refused = refl
 
+-- "Empty store, empty knowledge, id 1: 41 bytes; a buffer of 40 is refused, needed 41"
+pub none-answered :
+    (outcome (0xAC ∷ 0x02 ∷ 0x00 ∷ 0x55 ∷ []) (asking 0 []) 41 ≡ answered (answerTelling [] 0 (0x84 ∷ 0x00 ∷ 0x41 ∷ [])) [] [])
+    × (length (answerTelling [] 0 (0x84 ∷ 0x00 ∷ 0x41 ∷ [])) ≡ 41)
+    × (outcome (0xAC ∷ 0x02 ∷ 0x00 ∷ 0x55 ∷ []) (asking 0 []) 40 ≡ refused (tooShort 41))
+unfolding answering
+none-answered = (refl, refl, refl)
+
 -- ---- three elements: whole talks
 
 -- the answer's bytes (none where the call refuses)

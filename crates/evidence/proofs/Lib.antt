@@ -20,3 +20,4 @@ pub mod OneAnswers
 pub mod Example
 pub mod FilteredExample
 pub mod NotAboutNothing
+pub mod WrongHubs

@@ -9,6 +9,5 @@ pub mod Stored
 pub mod Paged
 pub mod OneAnswers
 pub mod PageCases
-pub mod WrongHubs
 pub mod WrongAnswers
 pub mod Refusing

@@ -2,10 +2,10 @@
 -- Assumes nothing.
 use mathlib.Core.Path.{_≡_, ap}
 use mathlib.Core.Bool.{true, false}
-use mathlib.Core.List.{List, [], _∷_, _++_}
+use mathlib.Core.List.{List, [], _∷_}
 use Prim.Native.Nat.{ℕ}
 use native.Mathlib.Omega.{arith}
-use lib.ListN.{length, getD, take, drop, length-append}
+use lib.ListN.{length, getD, length-append}
 use Rattle.laws.specs.Bytes.{bytes, be}
 use Rattle.laws.proofs.Cases.{impossible}
 use Rattle.numbers.specs.Compact.{compactBytes, sizeOf, formOf, formFrom, marked}
@@ -142,14 +142,6 @@ null-forgotten h = omega arith
 ends-twice : 45 ≡ fixedLength 1 Null → ⊥
 unfolding fixedLength compactBytes sizeOf formOf formFrom bytes extendedGuidBytes
 ends-twice h = omega arith
-
--- ---- copy_numbers, of one number: the later number put to 0; nothing copied
-
-later-cleared : _≡_ {A = List ℕ} (5 ∷ 0 ∷ []) (take 1 (5 ∷ 6 ∷ []) ++ drop 1 (7 ∷ 8 ∷ [])) → ⊥
-later-cleared h = impossible (cc)
-
-nothing-copied : _≡_ {A = List ℕ} (7 ∷ 8 ∷ []) (take 1 (5 ∷ 6 ∷ []) ++ drop 1 (7 ∷ 8 ∷ [])) → ⊥
-nothing-copied h = impossible (cc)
 
 -- ---- copy_ranges: the GUID's halves as the working table has them; the halves turned
 
