@@ -194,8 +194,8 @@ fn answer_store(
 }
 
 // One answer to one request. Nothing is asked of the caller, and nothing that was in the tables matters. Ruled out
-// (proofs/WrongAnswers), with a table too short: the store's fault before 13; a number of the table put to 0. And (proofs/WrongHubs)
-// the hubs that document 01 names.
+// (proofs/WrongAnswers), with a table too short: the store's fault before 13; a number of the table put to 0. And (WrongHubs in
+// `evidence`) the hubs that document 01 names.
 pub fn answer(
     store: &[u8],
     request: &[u8],

@@ -9,8 +9,7 @@ use numbers::guid::swap;
 use ranges::range_at;
 use talk::range::Range;
 
-// The first n numbers of a table, over the front of another. Ruled out (proofs/WrongAnswers): the later numbers put to 0; nothing
-// copied.
+// The first n numbers of a table, over the front of another: the later numbers stay.
 pub fn copy_numbers(to: &mut [u64], from: &[u64], n: usize)
     requires { ⌜ (n ≤ length (now to)) × (n ≤ length (now from)) ⌝ }
     ensures { λ _. ⌜ now (to .exit) ≡ take n (now (from .entry)) ++ drop n (now (to .entry)) ⌝ }
