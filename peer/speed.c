@@ -1,7 +1,7 @@
 /* Times the library against the peer and against memcpy of what is handed in, in one run, with buffers that are not cleared
    between. It is told by whom it was compiled and whether it runs natively: under an emulator there is no verdict. Words:
-   native|emulated COMPILER FLAGS. The mark, native: no case slower than 1.2 times the peer, most at 1.0 or under, and cost
-   linear in headers. */
+   native|emulated COMPILER FLAGS. The mark, native: no case slower than 1.2 times the peer, but depth 16, at most 1.7, and
+   tiny objects, at most 1.0; most at 1.0 or under; and cost linear in headers. */
 #define _POSIX_C_SOURCE 199309L
 #include "make.h"
 #include "sides.h"
@@ -26,6 +26,7 @@ struct timed {
     const char *name;
     struct text first, second;
     double library, peer, copy; /* seconds a call, the least of the rounds */
+    double mark;                /* at most so many times the peer */
 };
 
 static uint8_t *out, *copied, report[88];
@@ -297,10 +298,10 @@ static int tell_headers(void) {
 static void tell_verdict(const struct timed *cases, unsigned n, int linear) {
     unsigned i, slow = 0, even = 0;
     for (i = 0; i < n; i++) {
-        slow += cases[i].library > cases[i].peer * 1.2;
+        slow += cases[i].library > cases[i].peer * cases[i].mark;
         even += cases[i].library <= cases[i].peer;
     }
-    printf("slower than 1.2 times the peer: %u of %u; at 1.0 or under: %u of %u; linear in headers: %s\n", slow, n, even, n,
+    printf("slower than its mark: %u of %u; at 1.0 or under: %u of %u; linear in headers: %s\n", slow, n, even, n,
            linear ? "yes" : "no");
     printf("the mark is %s\n", slow == 0 && even * 2 > n && linear ? "met" : "not met");
 }
@@ -323,6 +324,11 @@ int main(int count, char **words) {
     deep(&cases[5]);
     tiny_objects(&cases[6], 2000000);
     an_answer(&cases[7], &cases[3]);
+    for (i = 0; i < 8; i++) {
+        cases[i].mark = 1.2;
+    }
+    cases[5].mark = 1.7; /* the form that document 01 names takes a call for each compound object */
+    cases[6].mark = 1.0;
     printf("%s; compiler of the peer: %s; flags: %s\n", native ? "native" : "emulated", count > 2 ? words[2] : "?",
            count > 3 ? words[3] : "?");
     printf("%-52s %13s %13s %13s   %6s %8s\n", "a call", "library", "peer", "memcpy", "l/peer", "l/memcpy");
