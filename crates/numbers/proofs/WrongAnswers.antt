@@ -119,7 +119,7 @@ cut-holds : formAt (0x80 ∷ []) ≡ form.Holds 0 1 true → ⊥
 unfolding formAt readForm valueOf sizeOf le trailingZeros
 cut-holds h = impossible (cc)
 
--- ---- comes_before
+-- ---- the order of GUIDs, by which ranges stand
 
 -- `01 00..` does not come before `00 01 00..`, though its little-endian number is the lower
 by-numbers : guidBefore (record { low = 1; high = 0 }) (record { low = 256; high = 0 }) ≡ true → ⊥

@@ -1,9 +1,10 @@
-// GUIDs: sixteen bytes as two little-endian numbers, their order, and the form that puts byte 128 before one.
+// GUIDs: sixteen bytes as two little-endian numbers, the numbers whose order is that of the bytes, and the form that puts byte 128
+// before a GUID.
 ghost use mathlib.Core.Path.{_≡_};
 ghost use mathlib.Core.List.{_++_};
 ghost use Prim.Native.Nat.{_+_, _≤_};
 ghost use lib.ListN.{length, drop};
-ghost use Rattle.numbers.specs.Guid.{guidAt, guidBytes, taggedBytes, guidBefore, swapped};
+ghost use Rattle.numbers.specs.Guid.{guidAt, guidBytes, taggedBytes, swapped};
 ghost use Rattle.numbers.specs.Calls.{Writes};
 use crate::bytes::put_le;
 use crate::bytes::read_le;
@@ -46,7 +47,7 @@ fn put_tagged(out: &mut [u8], n: usize, g: Guid, x: u64)
 }
 
 // The longest form of an extended GUID or of a serial number, as a single item.
-pub fn write_tagged(out: &mut [u8], n: usize, g: Guid, x: u64) -> Wrote
+pub(crate) fn write_tagged(out: &mut [u8], n: usize, g: Guid, x: u64) -> Wrote
     requires { ⌜ n ≤ 8 ⌝ }
     ensures { λ r. ⌜ Writes (taggedBytes n g x) (now (out .entry)) r (now (out .exit)) ⌝ }
 {
@@ -70,20 +71,4 @@ pub fn swap(x: u64) -> u64
         + x / 1099511627776 % 256 * 65536
         + x / 281474976710656 % 256 * 256
         + x / 72057594037927936 % 256
-}
-
-// Whether a's sixteen bytes come before b's. Ruled out (proofs/WrongAnswers): the order of the little-endian numbers; a GUID
-// before itself.
-pub fn comes_before(a: Guid, b: Guid) -> bool
-    ensures { λ r. ⌜ r ≡ guidBefore a b ⌝ }
-{
-    let x = swap(a.low);
-    let y = swap(b.low);
-    if x < y {
-        return true;
-    }
-    if y < x {
-        return false;
-    }
-    swap(a.high) < swap(b.high)
 }

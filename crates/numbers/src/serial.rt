@@ -1,8 +1,6 @@
 // Serial numbers: null, or a GUID and a number of 64 bits.
 ghost use mathlib.Core.Path.{_≡_};
-ghost use Prim.Native.Nat.{_≤_};
-ghost use lib.ListN.{length};
-ghost use Rattle.numbers.specs.Serial.{numbered, readSerial, serialBytes};
+ghost use Rattle.numbers.specs.Serial.{numbered, readSerial};
 ghost use Rattle.numbers.specs.Calls.{ReadsSerial, WritesSerial};
 use crate::bytes::read_le;
 use crate::compact::write_zero;
@@ -73,15 +71,5 @@ pub fn write_serial(out: &mut [u8], serial: Serial) -> Wrote
     match serial {
         Serial::Null => write_zero(out),
         Serial::Numbered(g, x) => write_tagged(out, 8, g, x),
-    }
-}
-
-// How many bytes a serial number takes.
-pub fn serial_length(serial: Serial) -> usize
-    ensures { λ r. ⌜ (r ≡ length (serialBytes serial)) × (r ≤ 25) ⌝ }
-{
-    match serial {
-        Serial::Null => 1,
-        Serial::Numbered(_, _) => 25,
     }
 }
