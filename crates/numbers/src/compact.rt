@@ -60,7 +60,7 @@ fn read_form(s: &[u8], k: usize) -> Form
 
 // The form at the front of s. Ruled out (proofs/WrongAnswers): telling that `02 00` is no longer than needed; a value from
 // `80` alone.
-pub fn form_at(s: &[u8]) -> Form
+fn form_at(s: &[u8]) -> Form
     ensures { λ r. ⌜ r ≡ formAt (now (s .entry)) ⌝ }
 {
     if s.len() == 0 {
@@ -142,7 +142,7 @@ fn put_form(out: &mut [u8], k: usize, v: u64)
 }
 
 // The byte 0: the number 0, a null extended GUID, a null serial number.
-pub fn write_zero(out: &mut [u8]) -> Wrote
+pub(crate) fn write_zero(out: &mut [u8]) -> Wrote
     ensures { λ r. ⌜ Writes (0 ∷ []) (now (out .entry)) r (now (out .exit)) ⌝ }
 {
     if out.len() < 1 {

@@ -43,7 +43,7 @@ pub struct Page {
 
 // The answer's length: the first range brings a cell knowledge of 25 bytes. Ruled out (proofs/WrongAnswers): these left out;
 // counted where there is no range.
-pub fn whole_of(fixed: usize, stored: usize, ranges: usize, spelled: usize) -> usize
+fn whole_of(fixed: usize, stored: usize, ranges: usize, spelled: usize) -> usize
     requires { ⌜ fixed + 25 + stored + spelled < 2 ^ 64 ⌝ }
     ensures { λ r. ⌜ r ≡ wholeOf fixed stored ranges spelled ⌝ }
 {
@@ -55,7 +55,7 @@ pub fn whole_of(fixed: usize, stored: usize, ranges: usize, spelled: usize) -> u
 
 // Whether a page of j that asks so much is sendable. Ruled out (proofs/WrongAnswers): the limit put to a page of 1; a page of 2 over
 // the limit.
-pub fn is_sendable(b: Bounds, j: usize, stored: usize, ranges: usize, whole: usize) -> bool
+fn is_sendable(b: Bounds, j: usize, stored: usize, ranges: usize, whole: usize) -> bool
     ensures { λ r. ⌜ r ≡ isSendable (b .most) (b .limit) (b .room) j stored ranges whole ⌝ }
 {
     if b.most < ranges {
@@ -72,7 +72,7 @@ pub fn is_sendable(b: Bounds, j: usize, stored: usize, ranges: usize, whole: usi
 
 impl Page {
     // Nothing taken yet.
-    pub fn new(ranges: usize, spelled: usize) -> Page
+    fn new(ranges: usize, spelled: usize) -> Page
         ensures { λ r. ⌜ r ≡ record { count = 0; bytes = 0; place = 0; ranges = ranges; spelled = spelled } ⌝ }
     {
         Page {
@@ -85,7 +85,7 @@ impl Page {
     }
 
     // The element at the place is not wanted.
-    pub fn pass(self) -> Page
+    fn pass(self) -> Page
         requires { ⌜ self .place < 256 ⌝ }
         ensures { λ r. ⌜ r ≡ record { count = self .count; bytes = self .bytes; place = self .place + 1; ranges = self .ranges; spelled = self .spelled } ⌝ }
     {
@@ -99,7 +99,7 @@ impl Page {
     }
 
     // Takes the wanted element at the place, whose price is p: its serial number goes into the rows.
-    pub fn take(self, t: &mut [u64], x: Element, p: Price) -> Page
+    fn take(self, t: &mut [u64], x: Element, p: Price) -> Page
         requires { ⌜ (self .count < 256) × (self .place < 256) × (self .bytes + x .length < 2 ^ 64) × (self .ranges * 4 ≤ length (now t)) × (p .ranges * 4 ≤ length (now t)) × Priced (now t) (self .ranges) (serialRange x) p ⌝ }
         ensures { λ r. ⌜ (r ≡ record { count = self .count + 1; bytes = self .bytes + x .length; place = self .place + 1; ranges = p .ranges; spelled = p .spelled }) × (now (t .exit) ≡ laidWith x (rangesAt (now (t .entry)) 0 (self .ranges)) (now (t .entry))) ⌝ }
     {
@@ -114,7 +114,7 @@ impl Page {
     }
 
     // The answer where the next page, of `ranges` and `whole`, is not sendable.
-    pub fn stop(self, b: Bounds, ranges: usize, whole: usize) -> Decided
+    fn stop(self, b: Bounds, ranges: usize, whole: usize) -> Decided
         requires { ⌜ b .fixed + 25 + self .bytes + self .spelled < 2 ^ 64 ⌝ }
         ensures { λ r. ⌜ r ≡ stopped (b .most) (self .count) (wholeOf (b .fixed) (self .bytes) (self .ranges) (self .spelled)) (self .ranges) ranges whole ⌝ }
     {
@@ -129,7 +129,7 @@ impl Page {
     }
 
     // The answer where nothing more is wanted.
-    pub fn end(self, b: Bounds) -> Decided
+    fn end(self, b: Bounds) -> Decided
         requires { ⌜ b .fixed + 25 + self .bytes + self .spelled < 2 ^ 64 ⌝ }
         ensures { λ r. ⌜ r ≡ ended (b .room) (self .count) (wholeOf (b .fixed) (self .bytes) (self .ranges) (self .spelled)) (self .ranges) ⌝ }
     {
@@ -147,7 +147,7 @@ impl Page {
 // The longest page of those of n elements whose flag is not 0, in store order; the table of ranges then holds the serial numbers of
 // those that are sent too. Ruled out (proofs/WrongAnswers), with nothing wanted and no room: a page that is sent; the room as the needed
 // length.
-pub fn decide(
+pub(crate) fn decide(
     rows: &[u64],
     ids: &[u64],
     n: usize,

@@ -27,7 +27,7 @@ pub struct Price {
 }
 
 // An element's serial number as a range. Ruled out (proofs/WrongAnswers): all numbers up to it; the number 0.
-pub fn serial_range(x: Element) -> Range
+pub(crate) fn serial_range(x: Element) -> Range
     ensures { λ r. ⌜ r ≡ serialRange x ⌝ }
 {
     let serial = x.serial;
@@ -36,7 +36,7 @@ pub fn serial_range(x: Element) -> Range
 
 // The price of x, where the first `count` rows take `spelled` bytes. Ruled out (proofs/WrongAnswers), in an empty table: no row
 // for a new range; its GUID not counted.
-pub fn price_of(t: &[u64], count: usize, spelled: usize, x: Range) -> Price
+pub(crate) fn price_of(t: &[u64], count: usize, spelled: usize, x: Range) -> Price
     requires { ⌜ (count ≤ 512) × (count * 4 ≤ length (now t)) × (spelled ≡ length (rangesBytes (rangesAt (now t) 0 count))) × Normal (rangesAt (now t) 0 count) ⌝ }
     ensures { λ r. ⌜ Priced (now (t .entry)) count x r ⌝ }
 {

@@ -10,7 +10,7 @@ use ranges::range_at;
 use talk::range::Range;
 
 // The first n numbers of a table, over the front of another: the later numbers stay.
-pub fn copy_numbers(to: &mut [u64], from: &[u64], n: usize)
+pub(crate) fn copy_numbers(to: &mut [u64], from: &[u64], n: usize)
     requires { ⌜ (n ≤ length (now to)) × (n ≤ length (now from)) ⌝ }
     ensures { λ _. ⌜ now (to .exit) ≡ take n (now (from .entry)) ++ drop n (now (to .entry)) ⌝ }
 {
@@ -35,7 +35,7 @@ fn put_range_row(to: &mut [u64], k: usize, x: Range)
 
 // The first rows of the working table of ranges, as rows of the lent table. Ruled out (proofs/WrongAnswers): the GUID's halves as
 // the working table has them; the halves turned.
-pub fn copy_ranges(to: &mut [u64], table: &[u64], rows: usize)
+pub(crate) fn copy_ranges(to: &mut [u64], table: &[u64], rows: usize)
     requires { ⌜ (rows * 4 ≤ length (now to)) × (rows * 4 ≤ length (now table)) ⌝ }
     ensures { λ _. ⌜ now (to .exit) ≡ rangeRows (rangesAt (now (table .entry)) 0 rows) ++ drop (rows * 4) (now (to .entry)) ⌝ }
 {

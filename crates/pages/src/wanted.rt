@@ -18,7 +18,7 @@ use store::table::key_at;
 // The type of a storage index.
 pub const STORAGE_INDEX: u64 = 1;
 
-pub fn guid_of(k: Key) -> Guid
+pub(crate) fn guid_of(k: Key) -> Guid
     ensures { λ r. ⌜ r ≡ guidOf k ⌝ }
 {
     Guid {
@@ -28,7 +28,7 @@ pub fn guid_of(k: Key) -> Guid
 }
 
 // The element of row i.
-pub fn element_at(rows: &[u64], ids: &[u64], i: usize) -> Element
+pub(crate) fn element_at(rows: &[u64], ids: &[u64], i: usize) -> Element
     requires { ⌜ (i * 6 + 6 ≤ length (now rows)) × (i * 3 + 3 ≤ length (now ids)) ⌝ }
     ensures { λ r. ⌜ r ≡ elementOf (now (rows .entry)) (now (ids .entry)) i ⌝ }
 {
@@ -53,7 +53,7 @@ fn knows_element(table: &[u64], count: usize, x: Element) -> bool
 
 // The flag of each of n elements whose serial number is known is put to 0. Ruled out (proofs/WrongAnswers): a known one that stays
 // wanted; an unknown one that does not.
-pub fn clear_known(
+pub(crate) fn clear_known(
     rows: &[u64],
     ids: &[u64],
     n: usize,
@@ -83,7 +83,7 @@ fn named(k: Key) -> ExtendedGuid
 
 // The id of the first of n elements that is a storage index; null if none is. Ruled out (proofs/WrongAnswers): null though there is
 // one; the id of the first element, of whatever type.
-pub fn storage_index(rows: &[u64], ids: &[u64], n: usize) -> ExtendedGuid
+pub(crate) fn storage_index(rows: &[u64], ids: &[u64], n: usize) -> ExtendedGuid
     requires { ⌜ (n * 6 ≤ length (now rows)) × (n * 3 ≤ length (now ids)) × ((i : ℕ) → i < n → getD (now ids) (i * 3 + 2) 0 < 2 ^ 32) ⌝ }
     ensures { λ r. ⌜ r ≡ storageIndex (elementsIn (now (rows .entry)) (now (ids .entry)) n) ⌝ }
 {

@@ -33,7 +33,7 @@ pub const CHANGES: u64 = 0x5F;
 pub const SIGNATURE: u64 = 0x9B069439F329CF9D;
 
 // The answer's length without elements and ranges. Ruled out (proofs/WrongAnswers), with id 1 and no storage index: 40, and 45.
-pub fn fixed_length(id: u64, index: ExtendedGuid) -> usize
+pub(crate) fn fixed_length(id: u64, index: ExtendedGuid) -> usize
     ensures { λ r. ⌜ (r ≡ fixedLength id index) × (r ≤ 69) ⌝ }
 {
     39 + compact_length(id) + extended_guid_length(index)
@@ -157,7 +157,7 @@ pub struct Sending {
 
 // The answer: the first elements whose flag is not 0, and the knowledge of the first rows of the table. Ruled out
 // (proofs/WrongAnswers): a partial answer that is not marked; another type of sub-request in it.
-pub fn write_answer(
+pub(crate) fn write_answer(
     out: &mut [u8],
     store: &[u8],
     rows: &[u64],

@@ -53,7 +53,7 @@ fn kind_field(d: &[u8]) -> Reading
 }
 
 // Both bytes.
-pub fn filter_fields(d: &[u8]) -> FilterFields
+pub(crate) fn filter_fields(d: &[u8]) -> FilterFields
     ensures { λ r. ⌜ r ≡ filterFields (now (d .entry)) ⌝ }
 {
     let k = kind_field(d);
@@ -66,14 +66,14 @@ pub fn filter_fields(d: &[u8]) -> FilterFields
 }
 
 // A data run of one number.
-pub fn one_number(d: &[u8]) -> Reading
+pub(crate) fn one_number(d: &[u8]) -> Reading
     ensures { λ r. ⌜ r ≡ oneNumber (now (d .entry)) ⌝ }
 {
     Reading::At(0, 0).number(d)
 }
 
 // The type that a filter of that kind has inside.
-pub fn type_part(s: &[u8], c: Reading) -> Reading
+pub(crate) fn type_part(s: &[u8], c: Reading) -> Reading
     ensures { λ r. ⌜ r ≡ typePart (now (s .entry)) c ⌝ }
 {
     let o = c.start(s, FILTER, FILTER_TYPE, false, true);

@@ -66,7 +66,7 @@ pub fn key_of(g: Guid, number: u64) -> Key
 }
 
 // An id that stands at p and must not be null.
-pub fn named_key(c: ReadingId, p: usize) -> ReadingKey
+fn named_key(c: ReadingId, p: usize) -> ReadingKey
     ensures { λ r. ⌜ r ≡ namedKey p c ⌝ }
 {
     match c {
@@ -79,7 +79,7 @@ pub fn named_key(c: ReadingId, p: usize) -> ReadingKey
 }
 
 // A serial number that stands at p and must not be null.
-pub fn numbered_key(c: ReadingSerial, p: usize) -> ReadingKey
+fn numbered_key(c: ReadingSerial, p: usize) -> ReadingKey
     ensures { λ r. ⌜ r ≡ numberedKey p c ⌝ }
 {
     match c {
@@ -93,7 +93,7 @@ pub fn numbered_key(c: ReadingSerial, p: usize) -> ReadingKey
 
 impl ReadingKey {
     // It stands at p and must not have been seen before.
-    pub fn fresh(self, p: usize, was: bool) -> ReadingKey
+    fn fresh(self, p: usize, was: bool) -> ReadingKey
         ensures { λ r. ⌜ r ≡ freshKey p was self ⌝ }
     {
         match self {
@@ -107,7 +107,7 @@ impl ReadingKey {
         }
     }
 
-    pub fn key(self) -> Key
+    fn key(self) -> Key
         ensures { λ r. ⌜ r ≡ keyHere self ⌝ }
     {
         match self {
@@ -121,7 +121,7 @@ impl ReadingKey {
     }
 
     // On from behind it.
-    pub fn on(self) -> Reading
+    fn on(self) -> Reading
         ensures { λ r. ⌜ r ≡ onKey self ⌝ }
     {
         match self {
@@ -132,7 +132,7 @@ impl ReadingKey {
 }
 
 // The id at the front of an element's data, with n ids seen before.
-pub fn id_field(d: &[u8], ids: &[u64], marks: &[u8], n: usize) -> ReadingKey
+fn id_field(d: &[u8], ids: &[u64], marks: &[u8], n: usize) -> ReadingKey
     requires { ⌜ (n * 3 ≤ length (now ids)) × (keyMarks ≤ length (now marks)) × Marked (now marks) (idKeys (now ids) n) ⌝ }
     ensures { λ r. ⌜ r ≡ idField (idKeys (now (ids .entry)) n) (now (d .entry)) ⌝ }
 {
@@ -142,7 +142,7 @@ pub fn id_field(d: &[u8], ids: &[u64], marks: &[u8], n: usize) -> ReadingKey
 }
 
 // The serial number behind it, with n rows before.
-pub fn serial_field(d: &[u8], c: Reading, rows: &[u64], marks: &[u8], n: usize) -> ReadingKey
+fn serial_field(d: &[u8], c: Reading, rows: &[u64], marks: &[u8], n: usize) -> ReadingKey
     requires { ⌜ (n * 6 ≤ length (now rows)) × (keyMarks ≤ length (now marks)) × Marked (now marks) (serialKeys (now rows) n) ⌝ }
     ensures { λ r. ⌜ r ≡ serialField (serialKeys (now (rows .entry)) n) (now (d .entry)) c ⌝ }
 {
@@ -153,7 +153,7 @@ pub fn serial_field(d: &[u8], c: Reading, rows: &[u64], marks: &[u8], n: usize) 
 }
 
 // The fields of an element, in the part that its data run is.
-pub fn read_fields(
+fn read_fields(
     d: &[u8],
     rows: &[u64],
     rowmarks: &[u8],
@@ -174,7 +174,7 @@ pub fn read_fields(
 }
 
 // The element that begins here, with so many levels for what is inside it.
-pub fn read_element(
+pub(crate) fn read_element(
     s: &[u8],
     c: Reading,
     depth: usize,

@@ -126,7 +126,7 @@ fn entry_item(s: &[u8], c: Reading) -> Item
 }
 
 // Whether a range or an entry stands here.
-pub fn item_next(s: &[u8], c: Reading) -> bool
+pub(crate) fn item_next(s: &[u8], c: Reading) -> bool
     ensures { λ r. ⌜ r ≡ itemNext (now (s .entry)) c ⌝ }
 {
     if c.next_is(s, RANGE) {
@@ -136,7 +136,7 @@ pub fn item_next(s: &[u8], c: Reading) -> bool
 }
 
 // Which of the two.
-pub fn item_kind(s: &[u8], c: Reading) -> u64
+pub(crate) fn item_kind(s: &[u8], c: Reading) -> u64
     ensures { λ r. ⌜ r ≡ itemKind (now (s .entry)) c ⌝ }
 {
     if c.next_is(s, RANGE) {
@@ -146,7 +146,7 @@ pub fn item_kind(s: &[u8], c: Reading) -> u64
 }
 
 // The range or the entry that begins here.
-pub fn read_item(s: &[u8], c: Reading) -> Item
+pub(crate) fn read_item(s: &[u8], c: Reading) -> Item
     ensures { λ r. ⌜ r ≡ itemAt (now (s .entry)) c ⌝ }
 {
     if c.next_is(s, RANGE) {
@@ -157,7 +157,7 @@ pub fn read_item(s: &[u8], c: Reading) -> Item
 
 impl Item {
     // On from behind it.
-    pub fn on(self) -> Reading
+    pub(crate) fn on(self) -> Reading
         ensures { λ r. ⌜ r ≡ onItem self ⌝ }
     {
         match self {

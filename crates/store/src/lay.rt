@@ -38,7 +38,7 @@ pub fn lay_end(out: &mut [u8], at: usize, kind: u64) -> usize
     at + end_length(kind)
 }
 
-pub fn lay_guid(out: &mut [u8], at: usize, g: Guid) -> usize
+pub(crate) fn lay_guid(out: &mut [u8], at: usize, g: Guid) -> usize
     requires { ⌜ at + length (guidBytes g) ≤ length (now out) ⌝ }
     ensures { λ r. ⌜ Lays at (guidBytes g) (now (out .entry)) r (now (out .exit)) ⌝ }
 {

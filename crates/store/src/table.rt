@@ -46,7 +46,7 @@ pub fn mark_of(k: Key, width: u64) -> usize
 }
 
 // The key's mark is set.
-pub fn put_mark(marks: &mut [u8], k: Key)
+pub(crate) fn put_mark(marks: &mut [u8], k: Key)
     requires { ⌜ keyMarks ≤ length (now marks) ⌝ }
     ensures { λ _. ⌜ now (marks .exit) ≡ set (now (marks .entry)) (markOf keyMarks k) 1 ⌝ }
 {
@@ -55,7 +55,7 @@ pub fn put_mark(marks: &mut [u8], k: Key)
 }
 
 // Whether a key is among those of n rows, each with a key at this offset. Only a key whose mark is set is searched for.
-pub fn seen_key(t: &[u64], marks: &[u8], offset: usize, width: usize, n: usize, k: Key) -> bool
+pub(crate) fn seen_key(t: &[u64], marks: &[u8], offset: usize, width: usize, n: usize, k: Key) -> bool
     requires { ⌜ (offset + 3 ≤ width) × (n * width ≤ length (now t)) × (keyMarks ≤ length (now marks)) × Marked (now marks) (keysAt (now t) offset width n) ⌝ }
     ensures { λ r. ⌜ r ≡ seen sameKey k (keysAt (now (t .entry)) offset width n) ⌝ }
 {
@@ -83,7 +83,7 @@ fn search_key(t: &[u64], offset: usize, width: usize, n: usize, k: Key) -> bool
 }
 
 // The row of an element behind n rows.
-pub fn put_row(t: &mut [u64], n: usize, x: Element)
+pub(crate) fn put_row(t: &mut [u64], n: usize, x: Element)
     requires { ⌜ n * 6 + 6 ≤ length (now t) ⌝ }
     ensures { λ _. ⌜ now (t .exit) ≡ take (n * 6) (now (t .entry)) ++ (rowOf x ++ drop (n * 6 + 6) (now (t .entry))) ⌝ }
 {
@@ -98,7 +98,7 @@ pub fn put_row(t: &mut [u64], n: usize, x: Element)
 }
 
 // An id behind n ids.
-pub fn put_id(t: &mut [u64], n: usize, k: Key)
+pub(crate) fn put_id(t: &mut [u64], n: usize, k: Key)
     requires { ⌜ n * 3 + 3 ≤ length (now t) ⌝ }
     ensures { λ _. ⌜ now (t .exit) ≡ take (n * 3) (now (t .entry)) ++ (idOf k ++ drop (n * 3 + 3) (now (t .entry))) ⌝ }
 {
