@@ -1,6 +1,8 @@
 // One element of a lent store by its position: where it stands, and its own bytes as a part of the store.
 ghost use mathlib.Core.Path.{_≡_};
 ghost use Rattle.store.specs.Accessor.{FindsElement, elementBytes};
+use crate::package::ID_NUMBERS;
+use crate::package::ROW_NUMBERS;
 use crate::package::Stored;
 use crate::package::read_store;
 use numbers::refusal::Refusal;
@@ -18,8 +20,8 @@ pub enum Found {
 pub fn find_element(s: &[u8], position: usize) -> Found
     ensures { λ r. ⌜ FindsElement (now (s .entry)) position r ⌝ }
 {
-    let mut rows = [0u64; 1536];
-    let mut ids = [0u64; 768];
+    let mut rows = [0u64; ROW_NUMBERS];
+    let mut ids = [0u64; ID_NUMBERS];
     match read_store(s, &mut rows, &mut ids) {
         Stored::Refused(r) => Found::Refused(r),
         Stored::Holds(n) => {

@@ -29,6 +29,9 @@ pub const CELL_HIGH: u64 = 0x4D7A6600E9518696;
 // At most so many ranges and entries.
 pub const MOST_RANGES: usize = 512;
 
+// The numbers of the working table: four for each range.
+pub const RANGE_NUMBERS: usize = 2048;
+
 // How many rows the table has, how many ranges and entries may still come, and where the reading stands.
 pub struct Known {
     pub rows: usize,
@@ -59,8 +62,14 @@ fn unite(table: &mut [u64], rows: usize, item: Item) -> usize
 }
 
 // The ranges and entries of a cell knowledge, and its end.
-fn read_items(s: &[u8], c: Reading, table: &mut [u64], rows: usize, allowed: usize) -> Known
-    requires { ⌜ (rows + allowed ≤ 512) × (2048 ≤ length (now table)) × Normal (rangesAt (now table) 0 rows) ⌝ }
+fn read_items(
+    s: &[u8],
+    c: Reading,
+    table: &mut [u64; RANGE_NUMBERS],
+    rows: usize,
+    allowed: usize,
+) -> Known
+    requires { ⌜ (rows + allowed ≤ 512) × Normal (rangesAt (now table) 0 rows) ⌝ }
     ensures { λ r. ⌜ KnownIs (itemsFrom allowed (now (s .entry)) (rangesAt (now (table .entry)) 0 rows) (now (table .entry)) c) r (now (table .exit)) ⌝ }
 {
     let mut at = c;
@@ -103,8 +112,14 @@ fn is_cell(c: ReadingGuid) -> bool
 }
 
 // A cell knowledge, from behind its GUID.
-fn read_cell(s: &[u8], c: Reading, table: &mut [u64], rows: usize, left: usize) -> Known
-    requires { ⌜ (rows + left ≤ 512) × (2048 ≤ length (now table)) × Normal (rangesAt (now table) 0 rows) ⌝ }
+fn read_cell(
+    s: &[u8],
+    c: Reading,
+    table: &mut [u64; RANGE_NUMBERS],
+    rows: usize,
+    left: usize,
+) -> Known
+    requires { ⌜ (rows + left ≤ 512) × Normal (rangesAt (now table) 0 rows) ⌝ }
     ensures { λ r. ⌜ KnownIs (cellFrom (now (s .entry)) (knowing (rangesAt (now (table .entry)) 0 rows) (now (table .entry)) left c) c) r (now (table .exit)) ⌝ }
 {
     let o = c.start_of_length(s, SPECIALIZED, CELL, true, true, 0);
@@ -122,11 +137,11 @@ fn read_specialized(
     s: &[u8],
     c: Reading,
     depth: usize,
-    table: &mut [u64],
+    table: &mut [u64; RANGE_NUMBERS],
     rows: usize,
     left: usize,
 ) -> Known
-    requires { ⌜ (rows + left ≤ 512) × (2048 ≤ length (now table)) × Normal (rangesAt (now table) 0 rows) ⌝ }
+    requires { ⌜ (rows + left ≤ 512) × Normal (rangesAt (now table) 0 rows) ⌝ }
     ensures { λ r. ⌜ KnownIs (specializedFrom depth (now (s .entry)) (knowing (rangesAt (now (table .entry)) 0 rows) (now (table .entry)) left c)) r (now (table .exit)) ⌝ }
 {
     let o = c.start_of_length(s, KNOWLEDGE, SPECIALIZED, true, true, 16);
@@ -160,9 +175,8 @@ pub fn read_knowledge(
     c: Reading,
     outer: u64,
     depth: usize,
-    table: &mut [u64],
+    table: &mut [u64; RANGE_NUMBERS],
 ) -> ReadKnowledge
-    requires { ⌜ 2048 ≤ length (now table) ⌝ }
     ensures { λ r. ⌜ ReadsKnowledge (knowledgeAt depth outer (now (s .entry)) (now (table .entry)) c) r (now (table .exit)) ⌝ }
 {
     let mut at = c.start_of_length(s, outer, KNOWLEDGE, true, true, 0);

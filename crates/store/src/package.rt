@@ -1,11 +1,8 @@
 // A package read whole, in a store or in an answer: its start, its elements from left to right into the tables, its end. A store is
 // one package with nothing after it.
 ghost use mathlib.Core.Path.{_≡_};
-ghost use Prim.Native.Nat.{_≤_};
 ghost use mathlib.Core.List.{[]};
-ghost use lib.ListN.{length};
 ghost use Rattle.objects.specs.Steps.{Good};
-ghost use Rattle.store.specs.Tables.{keyMarks};
 ghost use Rattle.store.specs.Store.{packageStart, packagedOf, storedOf, walkFrom, packageWalk, storeWalk, PackageTo, WalkedTo};
 use crate::element::ELEMENT;
 use crate::element::PACKAGE;
@@ -23,6 +20,11 @@ use objects::reading::Reading;
 
 // At most so many elements, and so many levels inside one.
 pub const MOST_ELEMENTS: usize = 256;
+
+// The numbers of the working tables: six for the row of an element, three for its id.
+pub const ROW_NUMBERS: usize = 1536;
+
+pub const ID_NUMBERS: usize = 768;
 
 pub const LEVELS_INSIDE: usize = 14;
 
@@ -70,12 +72,12 @@ fn count_if_fine(n: usize, c: Reading) -> Stored
 fn walk(
     s: &[u8],
     c: Reading,
-    rows: &mut [u64],
-    rowmarks: &mut [u8],
-    ids: &mut [u64],
-    idmarks: &mut [u8],
+    rows: &mut [u64; ROW_NUMBERS],
+    rowmarks: &mut [u8; KEY_MARKS as usize],
+    ids: &mut [u64; ID_NUMBERS],
+    idmarks: &mut [u8; KEY_MARKS as usize],
 ) -> Packaged
-    requires { ⌜ Good (now s) c × (1536 ≤ length (now rows)) × (768 ≤ length (now ids)) × (keyMarks ≤ length (now rowmarks)) × (keyMarks ≤ length (now idmarks)) ⌝ }
+    requires { ⌜ Good (now s) c ⌝ }
     ensures { λ r. ⌜ PackageTo (walkFrom 256 (now (s .entry)) [] c) r (now (rows .entry)) (now (rows .exit)) (now (ids .entry)) (now (ids .exit)) ⌝ }
 {
     let mut at = c;
@@ -104,8 +106,14 @@ fn walk(
 // The package that begins here, inside an open object of type `outer`: each table then holds what belongs to the elements that were
 // read, and behind it what it held, on a refusal too. Ruled out (proofs/WrongAnswers), of the package without elements: a count of
 // one; the place of its end for the place behind it.
-pub fn read_package(s: &[u8], c: Reading, outer: u64, rows: &mut [u64], ids: &mut [u64]) -> Packaged
-    requires { ⌜ Good (now s) c × (1536 ≤ length (now rows)) × (768 ≤ length (now ids)) ⌝ }
+pub fn read_package(
+    s: &[u8],
+    c: Reading,
+    outer: u64,
+    rows: &mut [u64; ROW_NUMBERS],
+    ids: &mut [u64; ID_NUMBERS],
+) -> Packaged
+    requires { ⌜ Good (now s) c ⌝ }
     ensures { λ r. ⌜ PackageTo (packageWalk outer (now (s .entry)) c) r (now (rows .entry)) (now (rows .exit)) (now (ids .entry)) (now (ids .exit)) ⌝ }
 {
     let mut rowmarks = [0u8; KEY_MARKS as usize];
@@ -122,8 +130,7 @@ pub fn read_package(s: &[u8], c: Reading, outer: u64, rows: &mut [u64], ids: &mu
 
 // A store, its rows and its ids: each table then holds those of the elements that were read, and behind them what it held,
 // on a refusal too. Ruled out (proofs/WrongAnswers): a count of one for the store without elements; a row not written.
-pub fn read_store(s: &[u8], rows: &mut [u64], ids: &mut [u64]) -> Stored
-    requires { ⌜ (1536 ≤ length (now rows)) × (768 ≤ length (now ids)) ⌝ }
+pub fn read_store(s: &[u8], rows: &mut [u64; ROW_NUMBERS], ids: &mut [u64; ID_NUMBERS]) -> Stored
     ensures { λ r. ⌜ WalkedTo (storeWalk (now (s .entry))) r (now (rows .entry)) (now (rows .exit)) (now (ids .entry)) (now (ids .exit)) ⌝ }
 {
     if LONGEST_INPUT < s.len() {

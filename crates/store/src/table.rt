@@ -46,8 +46,7 @@ pub fn mark_of(k: Key, width: u64) -> usize
 }
 
 // The key's mark is set.
-pub(crate) fn put_mark(marks: &mut [u8], k: Key)
-    requires { ⌜ keyMarks ≤ length (now marks) ⌝ }
+pub(crate) fn put_mark(marks: &mut [u8; KEY_MARKS as usize], k: Key)
     ensures { λ _. ⌜ now (marks .exit) ≡ set (now (marks .entry)) (markOf keyMarks k) 1 ⌝ }
 {
     let at = mark_of(k, KEY_MARKS);
@@ -55,7 +54,14 @@ pub(crate) fn put_mark(marks: &mut [u8], k: Key)
 }
 
 // Whether a key is among those of n rows, each with a key at this offset. Only a key whose mark is set is searched for.
-pub(crate) fn seen_key(t: &[u64], marks: &[u8], offset: usize, width: usize, n: usize, k: Key) -> bool
+pub(crate) fn seen_key(
+    t: &[u64],
+    marks: &[u8],
+    offset: usize,
+    width: usize,
+    n: usize,
+    k: Key,
+) -> bool
     requires { ⌜ (offset + 3 ≤ width) × (n * width ≤ length (now t)) × (keyMarks ≤ length (now marks)) × Marked (now marks) (keysAt (now t) offset width n) ⌝ }
     ensures { λ r. ⌜ r ≡ seen sameKey k (keysAt (now (t .entry)) offset width n) ⌝ }
 {

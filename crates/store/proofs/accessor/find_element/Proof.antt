@@ -10,12 +10,6 @@ use borrow.Author.Needs.{needs}
 use Rattle.store.proofs.accessor.find_element.Statement.{statement}
 use Rattle.store.proofs.accessor.find_element.Tie as tie
 
-slice-aggregate-read-store : tie.Need-slice-aggregate-read-store
-slice-aggregate-read-store c = search needs
-
-slice-aggregate-read-store-2 : tie.Need-slice-aggregate-read-store-2
-slice-aggregate-read-store-2 c = search needs
-
 read-store-requires : tie.Need-read-store-requires
 read-store-requires c κs = search needs
 
@@ -31,67 +25,65 @@ at-place-requires c κs = search needs
 returns : tie.Need-returns
 returns c =
     let k = c .before .before .before in
-    let s = k .before .before .before .before .before .before .before .before .args .s .now in
-    let q = store-holds s (k .n .given .0 .0) (sym (k .before .before .before .before .read-store .ensures .0) ∙ k .n .given .1) in
-    let i = k .before .before .before .before .before .before .before .before .args .position in
+    let s = k .before .before .before .before .before .before .args .s .now in
+    let q = store-holds s (k .n .given .0 .0) (sym (k .before .before .read-store .ensures .0) ∙ k .n .given .1) in
+    let i = k .before .before .before .before .before .before .args .position in
     rw (c .at-place .ensures, q .1 i, found-none (storeWalk s .elements) i (omega arith))
 
 -- the position's row stands within the table
-room : (c : tie.Else1) → c .before .before .before .before .before .before .before .before .before .before .args .position * 6 + 1 < 1536
+room : (c : tie.Else1) → c .before .before .before .before .before .before .before .before .args .position * 6 + 1 < 1536
 room c =
     let k = c .before .before in
-    let s = k .before .before .before .before .before .before .before .before .args .s .now in
-    let q = store-holds s (k .n .given .0 .0) (sym (k .before .before .before .before .read-store .ensures .0) ∙ k .n .given .1) in
+    let s = k .before .before .before .before .before .before .args .s .now in
+    let q = store-holds s (k .n .given .0 .0) (sym (k .before .before .read-store .ensures .0) ∙ k .n .given .1) in
     omega (arith, store-most s)
 
 mul-at : tie.Need-mul-at
 mul-at c = omega (arith, room c)
 
-mul-t16 : tie.Need-mul-t16
-mul-t16 c = omega (arith, room c)
+mul-t14 : tie.Need-mul-t14
+mul-t14 c = omega (arith, room c)
 
-array-read-t19 : tie.Need-array-read-t19
-array-read-t19 c = omega (arith, room c)
+array-read-t17 : tie.Need-array-read-t17
+array-read-t17 c = omega (arith, room c)
 
-add-t21 : tie.Need-add-t21
-add-t21 c = omega (arith, room c)
+add-t19 : tie.Need-add-t19
+add-t19 c = omega (arith, room c)
 
-mul-t22 : tie.Need-mul-t22
-mul-t22 c = omega (arith, room c)
+mul-t20 : tie.Need-mul-t20
+mul-t20 c = omega (arith, room c)
 
-array-read-t25 : tie.Need-array-read-t25
-array-read-t25 c = omega (arith, room c)
+array-read-t23 : tie.Need-array-read-t23
+array-read-t23 c = omega (arith, room c)
 
 returns-2 : tie.Need-returns-2
 returns-2 c =
     let k = c .before in
-    let s = k .before .before .before .before .before .before .before .before .args .s .now in
-    rw (store-refused s (k .r .given .0 .0) (sym (k .before .before .before .before .read-store .ensures .0) ∙ k .r .given .1) (k .before .before .before .before .before .before .before .before .args .position))
+    let s = k .before .before .before .before .before .before .args .s .now in
+    rw (store-refused s (k .r .given .0 .0) (sym (k .before .before .read-store .ensures .0) ∙ k .r .given .1) (k .before .before .before .before .before .before .args .position))
 
 returns-3 : tie.Need-returns-3
 returns-3 c =
     let k = c .before .before in
-    let s = k .before .before .before .before .before .before .before .before .args .s .now in
-    let q = store-holds s (k .n .given .0 .0) (sym (k .before .before .before .before .read-store .ensures .0) ∙ k .n .given .1) in
-    let i = k .before .before .before .before .before .before .before .before .args .position in
-    rw (q .1 i, k .before .before .before .before .read-store .ensures .1) (ap tellFound (sym (found-row (storeWalk s .elements) _ i (omega arith))))
+    let s = k .before .before .before .before .before .before .args .s .now in
+    let q = store-holds s (k .n .given .0 .0) (sym (k .before .before .read-store .ensures .0) ∙ k .n .given .1) in
+    let i = k .before .before .before .before .before .before .args .position in
+    rw (q .1 i, k .before .before .read-store .ensures .1) (ap tellFound (sym (found-row (storeWalk s .elements) _ i (omega arith))))
 
 pub find-element-spec : {M : Type 1} → statement M
 find-element-spec =
     tie.close
     (tie.spec
-    slice-aggregate-read-store
-    slice-aggregate-read-store-2
     read-store-requires
     enum-known-r
     enum-known-n
     at-place-requires
     returns
     mul-at
-    mul-t16
-    array-read-t19
-    add-t21
-    mul-t22
-    array-read-t25
+    mul-t14
+    array-read-t17
+    add-t19
+    mul-t20
+    array-read-t23
     returns-2
     returns-3)

@@ -1,9 +1,7 @@
 -- `knowledge::read_knowledge` meets its contract.
 -- Assumes nothing.
-use mathlib.Core.Path.{_≡_, refl, sym, _∙_}
+use mathlib.Core.Path.{sym, _∙_}
 use mathlib.Core.List.{[]}
-use native.Mathlib.Omega.{arith}
-use lib.ListN.{length}
 use borrow.Author.Needs.{needs}
 use Rattle.store.specs.Knowledge.{knowing, toGo, knowledgeFrom, knowledgeAt}
 use Rattle.store.proofs.KnowledgeForward.{specialized-falls}
@@ -13,7 +11,7 @@ use Rattle.store.proofs.knowledge.read_knowledge.Tie as tie
 
 abbrev Inv-loop : tie.InvT-loop
 Inv-loop s outer depth table₀ at₀ n₀ left₀ table at n left =
-    (length table ≡ length table₀) × Learning depth s (knowledgeFrom depth s (knowing [] table₀ 512 at₀)) table at n left
+    Learning depth s (knowledgeFrom depth s (knowing [] table₀ 512 at₀)) table at n left
 
 abbrev μ-loop : tie.MeasureT-loop
 μ-loop s outer depth table₀ at₀ n₀ left₀ table at n left = toGo s at
@@ -22,7 +20,7 @@ start-of-length-requires : tie.Need-start-of-length-requires Inv-loop μ-loop
 start-of-length-requires c κs = search needs
 
 loop-holds : tie.Need-loop-holds Inv-loop μ-loop
-loop-holds c = (refl, learning-start _ _ _ _)
+loop-holds c = learning-start _ _ _ _
 
 next-is-requires : tie.Need-next-is-requires Inv-loop μ-loop
 next-is-requires c κs = search needs
@@ -30,22 +28,19 @@ next-is-requires c κs = search needs
 read-specialized-requires : tie.Need-read-specialized-requires Inv-loop μ-loop
 read-specialized-requires c κs =
     let l = c .before .before .before in
-    let u = l .loop .inv .1 .room in
-    (u, omega arith, l .loop .inv .1 .normal)
+    (l .loop .inv .room, l .loop .inv .normal)
 
 loop-less : tie.Need-loop-less Inv-loop μ-loop
 loop-less c =
-    let k = c .before .before in
-    let l = k .before .before .before .before in
-    let e = sym (k .before .before .before .next-is .ensures) ∙ k .before .before .if1 .taken in
-    rw (k .read-specialized .ensures .last) (specialized-falls _ _ _ e)
+    let l = c .before .before .before .before in
+    let e = sym (c .before .before .before .next-is .ensures) ∙ c .before .before .if1 .taken in
+    rw (c .read-specialized .ensures .last) (specialized-falls _ _ _ e)
 
 loop-again : tie.Need-loop-again Inv-loop μ-loop
 loop-again c =
-    let k = c .before .before in
-    let l = k .before .before .before .before in
-    let e = sym (k .before .before .before .next-is .ensures) ∙ k .before .before .if1 .taken in
-    (k .read-specialized .kept .1 .1 .1 .0 ∙ l .loop .inv .0, learning-more (l .loop .inv .1) e (k .read-specialized .result) _ (k .read-specialized .ensures))
+    let l = c .before .before .before .before in
+    let e = sym (c .before .before .before .next-is .ensures) ∙ c .before .before .if1 .taken in
+    learning-more (l .loop .inv) e (c .read-specialized .result) _ (c .read-specialized .ensures)
 
 end-requires : tie.Need-end-requires Inv-loop μ-loop
 end-requires c κs = search needs
@@ -53,15 +48,12 @@ end-requires c κs = search needs
 answer-requires : tie.Need-answer-requires Inv-loop μ-loop
 answer-requires c κs = search needs
 
-same-length : tie.Need-same-length Inv-loop μ-loop
-same-length c = search needs
-
 returns : tie.Need-returns Inv-loop μ-loop
 unfolding knowledgeAt
 returns c =
     let l = c .before .before .before .before in
     let e = sym (c .before .before .before .next-is .ensures) ∙ c .before .before .if1 .left in
-    rw (← l .before .start-of-length .ensures) (learning-end (l .loop .inv .1) e _ (c .answer .ensures ∙ rw (c .before .end .ensures)))
+    rw (← l .before .start-of-length .ensures) (learning-end (l .loop .inv) e _ (c .answer .ensures ∙ rw (c .before .end .ensures)))
 
 pub read-knowledge-spec : {M : Type 1} → statement M
 read-knowledge-spec =
@@ -77,5 +69,4 @@ read-knowledge-spec =
     loop-again
     end-requires
     answer-requires
-    same-length
     returns)

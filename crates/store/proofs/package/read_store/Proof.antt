@@ -31,31 +31,19 @@ finish-requires c κs = search needs
 count-if-fine-requires : tie.Need-count-if-fine-requires
 count-if-fine-requires c κs = search needs
 
-same-length : tie.Need-same-length
-same-length c = search needs
-
-same-length-2 : tie.Need-same-length-2
-same-length-2 c = search needs
-
 returns-2 : tie.Need-returns-2
 unfolding storeWalk
 returns-2 c =
     let k = c .before in
-    let p = k .before .before .before .before .before .before in
+    let p = k .before .before in
     let w = p .read-package .ensures in
     rw (le-ltb _ _ (p .before .before .before .if1 .left)) (finished-refused _ _ _ _ (sym (k .r .given .1) ∙ w .0), w .1, w .2)
-
-same-length-3 : tie.Need-same-length-3
-same-length-3 c = search needs
-
-same-length-4 : tie.Need-same-length-4
-same-length-4 c = search needs
 
 returns-3 : tie.Need-returns-3
 unfolding storeWalk
 returns-3 c =
     let k = c .before .before .before in
-    let p = k .before .before .before .before .before .before in
+    let p = k .before .before in
     let w = p .read-package .ensures in
     rw (le-ltb _ _ (p .before .before .before .if1 .left)) (
       c .count-if-fine .ensures ∙ ap (storedOf _) (c .before .finish .ensures) ∙ finished-holds _ _ _ _ _ (sym (k .n .given .1) ∙ w .0),
@@ -74,9 +62,5 @@ read-store-spec =
     enum-known-n
     finish-requires
     count-if-fine-requires
-    same-length
-    same-length-2
     returns-2
-    same-length-3
-    same-length-4
     returns-3)
