@@ -2,14 +2,12 @@
 -- stands in the table once elements were taken.
 -- Assumes nothing.
 use mathlib.Core.Path.{_≡_, sym, ap, _∙_}
-use mathlib.Core.Bool.{true, false}
 use mathlib.Core.List.{List, [], _∷_, _++_}
 use Prim.Native.Nat.{ℕ, zero, suc, _+_, _-_, _*_, _^_, _≤_, _<_}
 use native.Mathlib.Omega.{arith}
 use lib.ListN.{length, take, drop, length-append}
 use lib.Seq.{drop-at}
 use borrow.Author.Tests.{le-leb}
-use Rattle.laws.proofs.Cases.{impossible}
 use Rattle.talk.specs.Each.{Each}
 use Rattle.talk.specs.Ranges.{absorb, insert, Normal, AllFit}
 use Rattle.talk.specs.declared.range.Range.{Range}
@@ -21,6 +19,7 @@ use Rattle.store.specs.KnowledgeWritten.{rangeBytes, rangesBytes}
 use Rattle.store.specs.Written.{guidOf}
 use Rattle.store.specs.declared.element.Element.{Element}
 use Rattle.store.proofs.KnowledgeFits.{range-fits}
+use Rattle.ranges.proofs.OneAnswers.{rows-before-one}
 use Rattle.ranges.proofs.RangeRows.{insert-at, length-rows, add-done, laid-rows}
 use Rattle.store.proofs.KnowledgeLengths.{data-most, range-is}
 use Rattle.pages.specs.Choice.{serialRange, rangesWith}
@@ -95,15 +94,6 @@ price-law t count x p place h k meets ranges spelled =
 
 -- there is one price
 
-first-one : (t : List ℕ) (count : ℕ) (x : Range) (i j : ℕ) → FirstNotBefore t count x i → FirstNotBefore t count x j → i ≡ j
-first-one t count x i j f g = omega (arith, not-less i j f g, not-less j i g f)
-  where
-    not-less : (i j : ℕ) → FirstNotBefore t count x i → FirstNotBefore t count x j → ¬ (i < j)
-    not-less i j f g h =
-        let m = g .most in
-        let e : true ≡ false = sym (g .before i h) ∙ f .stop (omega arith) in
-        impossible (cc)
-
 abbrev price : ℕ → ℕ → Range → ℕ → ℕ → Price
 price at next range ranges spelled = record { at = at; next = next; range = range; ranges = ranges; spelled = spelled }
 
@@ -113,7 +103,7 @@ same-price a b c d e = cc
 
 pub priced-one : (t : List ℕ) (count : ℕ) (x : Range) (p q : Price) → Priced t count x p → Priced t count x q → p ≡ q
 priced-one t count x p q f g =
-    let a : p .at ≡ q .at = first-one t count x (p .at) (q .at) (f .place) (g .place) in
+    let a : p .at ≡ q .at = rows-before-one t count x (p .at) (q .at) (f .place) (g .place) in
     let l : p .range ∷ rangesAt t (p .next) (count - p .next) ≡ q .range ∷ rangesAt t (q .next) (count - q .next) =
     sym (drop-at (rangesAt t 0 (p .at)) _ (p .at) (length-rows t 0 (p .at)))
     ∙ ap (drop (p .at)) (sym (f .form) ∙ g .form)

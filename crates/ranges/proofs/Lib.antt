@@ -1,3 +1,4 @@
 pub mod Four
+pub mod OneAnswers
 pub mod RangeRows
 pub mod RangeSearch

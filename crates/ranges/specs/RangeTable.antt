@@ -2,16 +2,17 @@
 -- Assumes nothing.
 use mathlib.Core.Path.{_≡_}
 use mathlib.Core.Bool.{true, false}
-use Prim.Native.Nat.{ℕ, zero, suc, _+_, _*_, _≤_, _<_}
+use Prim.Native.Nat.{ℕ, zero, suc, _+_, _-_, _*_, _≤_, _<_}
 use mathlib.Core.List.{List, [], _∷_, _++_}
 use lib.ListN.{length, drop, getD}
 use lib.Dec.{leb}
 use Rattle.laws.specs.Pick.{pick}
 use Rattle.numbers.specs.Refusals.{Told, gives}
-use Rattle.talk.specs.Ranges.{isBefore}
+use Rattle.talk.specs.Ranges.{isBefore, absorb}
 use Rattle.talk.specs.declared.range.Range.{Range}
 use Rattle.ranges.specs.declared.Added.{Added}
 use Rattle.ranges.specs.declared.Added.the-variants.{Rows, Full}
+use Rattle.ranges.specs.declared.Gathered.{Gathered}
 
 -- row k
 abbrev pub rangeAt : List ℕ → ℕ → Range
@@ -41,6 +42,11 @@ pub record FirstNotBefore (t : List ℕ) (count : ℕ) (x : Range) (i : ℕ) : T
   pub most : i ≤ count
   pub before : (j : ℕ) → j < i → isBefore (rangeAt t j) x ≡ true
   pub stop : i < count → isBefore (rangeAt t i) x ≡ false
+
+-- x joined with the rows from i on that it meets, and the first row that it does not meet
+abbrev pub Gathers : List ℕ → ℕ → ℕ → Range → Gathered → Type 0
+Gathers t count i x r =
+    (i ≤ r .next) × (r .next ≤ count) × (absorb x (rangesAt t i (count - i)) ≡ r .range ∷ rangesAt t (r .next) (count - r .next))
 
 -- the rows of a list, and behind them the table's own numbers
 abbrev pub laidRanges : List Range → List ℕ → List ℕ

@@ -4,8 +4,8 @@ ghost use mathlib.Core.Path.{_≡_};
 ghost use mathlib.Core.List.{_++_, _∷_};
 ghost use Prim.Native.Nat.{_+_, _-_, _*_, _≤_, min, max};
 ghost use lib.ListN.{length, take, drop};
-ghost use Rattle.talk.specs.Ranges.{isBefore, joined, absorb, insert, within, Normal};
-ghost use Rattle.ranges.specs.RangeTable.{rangeAt, rangesAt, rangeNumbers, numbersOf, addedTo, laidIn, FirstNotBefore};
+ghost use Rattle.talk.specs.Ranges.{isBefore, joined, insert, within, Normal};
+ghost use Rattle.ranges.specs.RangeTable.{rangeAt, rangesAt, rangeNumbers, numbersOf, addedTo, laidIn, FirstNotBefore, Gathers};
 ghost use Rattle.ranges.specs.Ranged.{rangeOf, knows};
 use numbers::guid::Guid;
 use numbers::guid::swap;
@@ -133,7 +133,7 @@ pub fn rows_before(t: &[u64], count: usize, x: Range) -> usize
 // x joined with the rows from i on that it meets.
 pub fn gather(t: &[u64], count: usize, i: usize, x: Range) -> Gathered
     requires { ⌜ (i ≤ count) × (count * 4 ≤ length (now t)) ⌝ }
-    ensures { λ r. ⌜ (i ≤ r .next) × (r .next ≤ count) × (absorb x (rangesAt (now (t .entry)) i (count - i)) ≡ r .range ∷ rangesAt (now (t .entry)) (r .next) (count - r .next)) ⌝ }
+    ensures { λ r. ⌜ Gathers (now (t .entry)) count i x r ⌝ }
 {
     let mut y = x;
     let mut j = i;
@@ -172,7 +172,7 @@ pub fn shift(t: &mut [u64], i: usize, j: usize, count: usize, x: Range)
 }
 
 // A range added to the first `count` rows: the rows are then those with the range inserted; or there is no room, and the
-// table is as it was. Ruled out (proofs/KnowledgeWrongAnswers): two rows for ranges that touch; what stands behind the rows
+// table is as it was. Ruled out (proofs/KnowledgeWrongAnswers of `store`): two rows for ranges that touch; what stands behind the rows
 // put to 0.
 pub fn add_range(t: &mut [u64], count: usize, x: Range) -> Added
     requires { ⌜ (count * 4 ≤ length (now t)) × Normal (rangesAt (now t) 0 count) ⌝ }
@@ -208,7 +208,7 @@ fn is_within(x: Range, upper: u64, lower: u64, n: u64) -> bool
 }
 
 // Whether one of the first `count` rows holds n under the GUID: only the first that does not lie before it can. Ruled out
-// (proofs/KnowledgeWrongAnswers): 5 known by a row of 1 to 4, which it touches; 4 not known by it.
+// (proofs/KnowledgeWrongAnswers of `store`): 5 known by a row of 1 to 4, which it touches; 4 not known by it.
 pub fn is_known(t: &[u64], count: usize, g: Guid, n: u64) -> bool
     requires { ⌜ (count * 4 ≤ length (now t)) × Normal (rangesAt (now t) 0 count) ⌝ }
     ensures { λ r. ⌜ r ≡ knows (rangesAt (now (t .entry)) 0 count) g n ⌝ }

@@ -1,6 +1,6 @@
 -- The calls on a package, on a store and on a knowledge determine their answers: what is told is known by what tells it, and any two answers allowed are equal.
 -- Assumes nothing.
-use mathlib.Core.Path.{_≡_, refl, sym, ap, _∙_}
+use mathlib.Core.Path.{_≡_, sym, ap, _∙_}
 use Prim.Native.Nat.{ℕ}
 use mathlib.Core.List.{List}
 use Rattle.laws.proofs.Cases.{impossible}
@@ -17,12 +17,8 @@ use Rattle.store.specs.declared.package.Packaged.{Packaged}
 use Rattle.store.specs.declared.package.Packaged.the-variants as packaged
 use Rattle.store.specs.declared.package.Stored.{Stored}
 use Rattle.store.specs.declared.package.Stored.the-variants as stored
-use Rattle.ranges.specs.RangeTable.{addedTo, laidIn, tellAdded}
 use Rattle.store.specs.Knowledge.{Knowing, ReadsKnowledge, tellItem, tellReadKnowledge}
-use Rattle.talk.specs.declared.range.Range.{Range}
 use Rattle.talk.proofs.Order.{same-range}
-use Rattle.ranges.specs.declared.Added.{Added}
-use Rattle.ranges.specs.declared.Added.the-variants as added
 use Rattle.store.specs.declared.item.Item.the-variants as item
 use Rattle.store.specs.declared.knowledge.ReadKnowledge.{ReadKnowledge}
 use Rattle.store.specs.declared.knowledge.ReadKnowledge.the-variants as read
@@ -93,12 +89,6 @@ walked-one w r q rows x y ids u v a b = (a .0 ∙ sym (b .0), a .1 ∙ sym (b .1
 
 -- ---- knowledge
 
-pub added-telling : Telling tellAdded
-added-telling (added.Rows n) (added.Rows m) e = let v = values-of _ _ e in cc
-added-telling (added.Rows n) added.Full e = let v = values-of _ _ e in impossible (cc)
-added-telling added.Full (added.Rows m) e = let v = values-of _ _ e in impossible (cc)
-added-telling added.Full added.Full e = refl
-
 pub item-telling : Telling tellItem
 item-telling (item.Adds p x) (item.Adds q y) e =
     let v = values-of _ _ e in let z : x ≡ y = same-range x y (cc) (cc) (cc) (cc) in let w : p ≡ q = cc in rw (w, z)
@@ -120,8 +110,3 @@ read-knowledge-telling (read.Refused r) (read.Refused q) e = ap read.Refused (re
 -- the answer of a reading, and the table at its exit
 pub reads-knowledge-one : (k : Knowing) (r q : ReadKnowledge) (x y : List ℕ) → ReadsKnowledge k r x → ReadsKnowledge k q y → (r ≡ q) × (x ≡ y)
 reads-knowledge-one k r q x y a b = (a .0 ∙ sym (b .0), a .1 ∙ sym (b .1))
-
--- what adding a range answers, and the table at its exit
-pub add-range-one : (t : List ℕ) (l : List Range) (r q : Added) (x y : List ℕ) → (r ≡ addedTo t l) × (x ≡ laidIn t l) → (q ≡ addedTo t l) × (y ≡ laidIn t l)
-    → (r ≡ q) × (x ≡ y)
-add-range-one t l r q x y a b = (a .0 ∙ sym (b .0), a .1 ∙ sym (b .1))
