@@ -1,7 +1,5 @@
 // The request message, read whole: a function for each part, in the order of document 01.
 ghost use mathlib.Core.Path.{_≡_};
-ghost use Prim.Native.Nat.{_≤_};
-ghost use lib.ListN.{length};
 ghost use Rattle.store.specs.Knowledge.{ReadsKnowledge};
 ghost use Rattle.request.specs.Message.{versions, userAgent, subRequestFields, subRequest, queryChanges, argumentFields, arguments, constraint, packagePart, identified, constrainedFrom, ended, knowledgePart, onKnowledge, rowsKnown, inRequest, requestAnswer, ReadsRequest};
 use crate::filter::SUB_REQUEST;
@@ -14,6 +12,7 @@ use objects::layout::NOTHING;
 use objects::reading::Reading;
 use store::element::PACKAGE;
 use store::knowledge::KNOWLEDGE;
+use store::knowledge::RANGE_NUMBERS;
 use store::knowledge::ReadKnowledge;
 use store::knowledge::read_knowledge;
 
@@ -171,8 +170,7 @@ fn rows_known(k: ReadKnowledge) -> usize
 }
 
 // The knowledge, which may be absent: then nothing is known.
-fn knowledge_part(s: &[u8], c: Reading, table: &mut [u64]) -> ReadKnowledge
-    requires { ⌜ 2048 ≤ length (now table) ⌝ }
+fn knowledge_part(s: &[u8], c: Reading, table: &mut [u64; RANGE_NUMBERS]) -> ReadKnowledge
     ensures { λ r. ⌜ ReadsKnowledge (knowledgePart (now (s .entry)) (now (table .entry)) c) r (now (table .exit)) ⌝ }
 {
     if c.next_is(s, KNOWLEDGE) {
@@ -205,8 +203,7 @@ fn answer(c: Reading, id: u64, limit: u64, place: usize, count: u64, rows: usize
 
 // The request, with its knowledge in the table: after a refusal the ranges before the fault. Ruled out (proofs/WrongAnswers):
 // of no bytes, 7 for the version that is not there, and a fault of the first input; of the shortest request, a limit of 0.
-pub fn read_request(s: &[u8], table: &mut [u64]) -> Request
-    requires { ⌜ 2048 ≤ length (now table) ⌝ }
+pub fn read_request(s: &[u8], table: &mut [u64; RANGE_NUMBERS]) -> Request
     ensures { λ r. ⌜ ReadsRequest (now (s .entry)) (now (table .entry)) r (now (table .exit)) ⌝ }
 {
     if LONGEST_INPUT < s.len() {

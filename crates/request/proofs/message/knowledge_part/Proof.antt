@@ -14,15 +14,11 @@ next-is-requires c κs = search needs
 read-knowledge-requires : tie.Need-read-knowledge-requires
 read-knowledge-requires c κs = search needs
 
-same-length : tie.Need-same-length
-same-length c = search needs
-
 returns : tie.Need-returns
 unfolding knowledgePart
 returns c =
-    let k = c .before .before in
-    let e = sym (k .before .before .before .next-is .ensures) ∙ k .before .before .if1 .taken in
-    rw e (k .read-knowledge .ensures)
+    let e = sym (c .before .before .before .next-is .ensures) ∙ c .before .before .if1 .taken in
+    rw e (c .read-knowledge .ensures)
 
 answer-requires : tie.Need-answer-requires
 answer-requires c κs = search needs
@@ -35,11 +31,4 @@ returns-2 c =
 
 pub knowledge-part-spec : {M : Type 1} → statement M
 knowledge-part-spec =
-    tie.close
-    (tie.spec
-    next-is-requires
-    read-knowledge-requires
-    same-length
-    returns
-    answer-requires
-    returns-2)
+    tie.close (tie.spec next-is-requires read-knowledge-requires returns answer-requires returns-2)

@@ -14,7 +14,7 @@ in-request-requires c κs = search needs
 
 returns : tie.Need-returns
 returns c =
-    let a = c .before .before .before .before .before .args in
+    let a = c .before .before .before .before .args in
     rw (c .in-request .ensures, c .before .over-long .ensures) (over-long-read (a .s .now) (a .table .now) (c .before .before .if1 .taken))
 
 identified-requires : tie.Need-identified-requires
@@ -53,15 +53,12 @@ rows-known-requires c κs = search needs
 answer-requires : tie.Need-answer-requires
 answer-requires c κs = search needs
 
-same-length : tie.Need-same-length
-same-length c = search needs
-
 returns-2 : tie.Need-returns-2
 returns-2 c =
     let o = c .before .before .before .before .before .before in
-    let k = o .before .before .before .before in
+    let k = o .before .before in
     let f = k .before .before in
-    let a = f .before .before .before .before .before .before .args in
+    let a = f .before .before .before .before .before .args in
     let h = rw (f .read-filters .ensures, f .before .constrained .ensures, f .before .before .identified .ensures) at (k .knowledge-part .ensures) in
     whole-read (a .s .now) (a .table .now) (f .before .before .before .if1 .left) (k .knowledge-part .result) _ h _
     (c .answer .ensures
@@ -86,5 +83,4 @@ read-request-spec =
     value-requires-3
     rows-known-requires
     answer-requires
-    same-length
     returns-2)
