@@ -1,5 +1,5 @@
 // The modes for a knowledge: its ranges, its bytes written again, and whether it has a number.
-ghost use Prim.Native.Nat.{_+_, _*_, _≤_};
+ghost use Prim.Native.Nat.{_*_, _≤_};
 ghost use lib.ListN.{length};
 ghost use Rattle.talk.specs.Ranges.{Normal};
 ghost use Rattle.objects.specs.declared.reading.Reading.the-variants.{At};
@@ -14,6 +14,7 @@ use numbers::refusal::Refusal;
 use objects::reading::Reading;
 use ranges::is_known;
 use store::knowledge::MOST_RANGES;
+use store::knowledge::RANGE_NUMBERS;
 use store::knowledge::ReadKnowledge;
 use store::knowledge::read_knowledge;
 use store::knowledge_write::write_knowledge;
@@ -32,23 +33,35 @@ pub fn every_row(t: &[u64], n: usize)
     say::table(t, n * 4, 4, 2)
 }
 
-// Whether no number was changed behind the rows of 512 ranges. Before that a row may be left from before it was joined with
-// another.
-pub fn kept(t: &[u64]) -> bool
-    requires { ⌜ 2048 ≤ length (now t) ⌝ }
+// A range takes at least so many bytes: its header two, its GUID sixteen, and one for each end. An entry that adds one takes more.
+const LEAST_RANGE: usize = 20;
+
+// At most so many ranges come from s.
+fn ranges_in(s: &[u8]) -> usize
+    ensures { λ r. ⌜ r ≤ 512 ⌝ }
 {
-    untouched(&t[2048..])
+    let n = s.len() / LEAST_RANGE;
+    if MOST_RANGES < n {
+        return MOST_RANGES;
+    }
+    n
 }
 
-// The place behind the knowledge, and its rows; or that numbers behind all rows were changed. More ranges than a knowledge may
-// hold count as that.
-fn held(place: usize, n: usize, t: &[u64])
-    requires { ⌜ 2048 ≤ length (now t) ⌝ }
-{
+// Whether no number was changed behind the rows of as many ranges as the bytes of s have room for. Before that a row may be left
+// from before it was joined with another.
+pub fn kept(s: &[u8], t: &[u64; RANGE_NUMBERS]) -> bool {
+    let end = ranges_in(s) * 4;
+    let all = &t[..];
+    untouched(&all[end..])
+}
+
+// The place behind the knowledge, and its rows; or that numbers were changed behind what its ranges can reach. More ranges than a
+// knowledge may hold count as that.
+fn held(s: &[u8], place: usize, n: usize, t: &[u64; RANGE_NUMBERS]) {
     if MOST_RANGES < n {
         return say::touched();
     }
-    if !kept(t) {
+    if !kept(s, t) {
         return say::touched();
     }
     say::ok();
@@ -56,30 +69,27 @@ fn held(place: usize, n: usize, t: &[u64])
     every_row(t, n)
 }
 
-// A refusal; or that numbers behind all rows were changed.
-pub fn refused(r: Refusal, t: &[u64])
-    requires { ⌜ 2048 ≤ length (now t) ⌝ }
-{
-    if !kept(t) {
+// A refusal; or that numbers were changed behind what its ranges can reach.
+pub fn refused(s: &[u8], r: Refusal, t: &[u64; RANGE_NUMBERS]) {
+    if !kept(s, t) {
         return say::touched();
     }
     say::refusal(r)
 }
 
 // The knowledge at the front of s.
-fn read(s: &[u8], t: &mut [u64]) -> ReadKnowledge
-    requires { ⌜ 2048 ≤ length (now t) ⌝ }
+fn read(s: &[u8], t: &mut [u64; RANGE_NUMBERS]) -> ReadKnowledge
     ensures { λ r. ⌜ ReadsKnowledge (knowledgeAt 12 0x42 (now (s .entry)) (now (t .entry)) (At 0 0)) r (now (t .exit)) ⌝ }
 {
     read_knowledge(s, Reading::At(0, 0), SUB_REQUEST, LEVELS, t)
 }
 
-// `knowledge HEX`. The table is longer than a knowledge needs.
+// `knowledge HEX`
 pub fn rows(s: &[u8]) {
-    let mut t = [UNTOUCHED; 2112];
+    let mut t = [UNTOUCHED; RANGE_NUMBERS];
     match read(s, &mut t) {
-        ReadKnowledge::Holds(place, n) => held(place, n, &t),
-        ReadKnowledge::Refused(r) => refused(r, &t),
+        ReadKnowledge::Holds(place, n) => held(s, place, n, &t),
+        ReadKnowledge::Refused(r) => refused(s, r, &t),
     }
 }
 
@@ -89,14 +99,14 @@ fn output_space() -> [u8; 20000] {
     [say::UNTOUCHED; 20000]
 }
 
-// The knowledge of n rows, written to the first bytes of out; or that numbers behind all rows were changed.
-fn written(t: &[u64], n: usize, out: &mut [u8], room: usize)
-    requires { ⌜ (2048 ≤ length (now t)) × (room ≤ length (now out)) ⌝ }
+// The knowledge of n rows, written to the first bytes of out; or that numbers were changed behind what its ranges can reach.
+fn written(s: &[u8], t: &[u64; RANGE_NUMBERS], n: usize, out: &mut [u8], room: usize)
+    requires { ⌜ room ≤ length (now out) ⌝ }
 {
     if MOST_RANGES < n {
         return say::touched();
     }
-    if !kept(t) {
+    if !kept(s, t) {
         return say::touched();
     }
     let wrote = write_knowledge(&mut out[0..room], t, n);
@@ -107,10 +117,10 @@ fn written(t: &[u64], n: usize, out: &mut [u8], room: usize)
 fn read_and_written(s: &[u8], out: &mut [u8], room: usize)
     requires { ⌜ room ≤ length (now out) ⌝ }
 {
-    let mut t = [UNTOUCHED; 2112];
+    let mut t = [UNTOUCHED; RANGE_NUMBERS];
     match read(s, &mut t) {
-        ReadKnowledge::Holds(_, n) => written(&t, n, out, room),
-        ReadKnowledge::Refused(r) => refused(r, &t),
+        ReadKnowledge::Holds(_, n) => written(s, &t, n, out, room),
+        ReadKnowledge::Refused(r) => refused(s, r, &t),
     }
 }
 
@@ -131,14 +141,14 @@ fn known_is(n: u64) {
     say::number(n)
 }
 
-// Whether the number is known under the GUID; or that numbers behind all rows were changed.
-fn asked(t: &[u64], n: usize, g: Guid, number: u64)
-    requires { ⌜ (2048 ≤ length (now t)) × Normal (rangesAt (now t) 0 n) ⌝ }
+// Whether the number is known under the GUID; or that numbers were changed behind what its ranges can reach.
+fn asked(s: &[u8], t: &[u64; RANGE_NUMBERS], n: usize, g: Guid, number: u64)
+    requires { ⌜ Normal (rangesAt (now t) 0 n) ⌝ }
 {
     if MOST_RANGES < n {
         return say::touched();
     }
-    if !kept(t) {
+    if !kept(s, t) {
         return say::touched();
     }
     if is_known(t, n, g, number) {
@@ -149,10 +159,10 @@ fn asked(t: &[u64], n: usize, g: Guid, number: u64)
 
 // The knowledge at the front of s, asked for one number.
 fn read_and_asked(s: &[u8], g: Guid, number: u64) {
-    let mut t = [UNTOUCHED; 2112];
+    let mut t = [UNTOUCHED; RANGE_NUMBERS];
     match read(s, &mut t) {
-        ReadKnowledge::Holds(_, n) => asked(&t, n, g, number),
-        ReadKnowledge::Refused(r) => refused(r, &t),
+        ReadKnowledge::Holds(_, n) => asked(s, &t, n, g, number),
+        ReadKnowledge::Refused(r) => refused(s, r, &t),
     }
 }
 

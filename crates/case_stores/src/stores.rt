@@ -1,7 +1,7 @@
 // The modes for a store: its rows, and one element by its position.
 ghost use mathlib.Core.Bool.{true};
 ghost use mathlib.Core.Path.{_≡_};
-ghost use Prim.Native.Nat.{ℕ, _+_, _*_, _≤_, _<_};
+ghost use Prim.Native.Nat.{ℕ, _≤_, _<_};
 ghost use lib.ListN.{length, getD};
 use case_words::say;
 use case_words::words;
@@ -9,7 +9,9 @@ use numbers::refusal::Refusal;
 use store::accessor::Found;
 use store::accessor::element_bytes;
 use store::accessor::find_element;
+use store::package::ID_NUMBERS;
 use store::package::MOST_ELEMENTS;
+use store::package::ROW_NUMBERS;
 use store::package::Stored;
 use store::package::read_store;
 
@@ -30,20 +32,34 @@ pub fn untouched(t: &[u64]) -> bool
     true
 }
 
+// An element takes at least so many bytes: its start two, its id 17, its serial number 25, its type one and its end one.
+const LEAST_ELEMENT: usize = 46;
+
+// At most so many elements stand in s.
+fn elements_in(s: &[u8]) -> usize
+    ensures { λ r. ⌜ r ≤ 256 ⌝ }
+{
+    let n = s.len() / LEAST_ELEMENT;
+    if MOST_ELEMENTS < n {
+        return MOST_ELEMENTS;
+    }
+    n
+}
+
 // How many elements, and their rows; or that numbers behind the rows or the ids were changed. More elements than a store may
 // hold count as that.
-fn held(n: usize, rows: &[u64], ids: &[u64])
-    requires { ⌜ (1536 ≤ length (now rows)) × (768 ≤ length (now ids)) ⌝ }
-{
+fn held(n: usize, rows: &[u64; ROW_NUMBERS], ids: &[u64; ID_NUMBERS]) {
     if MOST_ELEMENTS < n {
         return say::touched();
     }
     let rows_end = n * 6;
     let ids_end = n * 3;
-    if !untouched(&rows[rows_end..]) {
+    let all_rows = &rows[..];
+    if !untouched(&all_rows[rows_end..]) {
         return say::touched();
     }
-    if !untouched(&ids[ids_end..]) {
+    let all_ids = &ids[..];
+    if !untouched(&all_ids[ids_end..]) {
         return say::touched();
     }
     say::ok();
@@ -51,27 +67,30 @@ fn held(n: usize, rows: &[u64], ids: &[u64])
     say::table(rows, rows_end, 6, 0)
 }
 
-// A refusal; or that numbers were changed behind the rows and the ids of 256 elements. Before that the tables may hold those of
-// the elements before the fault.
-fn refused(r: Refusal, rows: &[u64], ids: &[u64])
-    requires { ⌜ (1536 ≤ length (now rows)) × (768 ≤ length (now ids)) ⌝ }
-{
-    if !untouched(&rows[1536..]) {
+// A refusal; or that numbers were changed behind the rows and the ids of as many elements as the store's bytes have room for. Before
+// that the tables may hold those of the elements before the fault.
+fn refused(s: &[u8], r: Refusal, rows: &[u64; ROW_NUMBERS], ids: &[u64; ID_NUMBERS]) {
+    let n = elements_in(s);
+    let rows_end = n * 6;
+    let ids_end = n * 3;
+    let all_rows = &rows[..];
+    if !untouched(&all_rows[rows_end..]) {
         return say::touched();
     }
-    if !untouched(&ids[768..]) {
+    let all_ids = &ids[..];
+    if !untouched(&all_ids[ids_end..]) {
         return say::touched();
     }
     say::refusal(r)
 }
 
-// `store STOREHEX`. The tables are longer than a store needs.
+// `store STOREHEX`
 pub fn rows(s: &[u8]) {
-    let mut rows = [UNTOUCHED; 1600];
-    let mut ids = [UNTOUCHED; 800];
+    let mut rows = [UNTOUCHED; ROW_NUMBERS];
+    let mut ids = [UNTOUCHED; ID_NUMBERS];
     match read_store(s, &mut rows, &mut ids) {
         Stored::Holds(n) => held(n, &rows, &ids),
-        Stored::Refused(r) => refused(r, &rows, &ids),
+        Stored::Refused(r) => refused(s, r, &rows, &ids),
     }
 }
 

@@ -5,28 +5,19 @@ use borrow.Author.Needs.{needs}
 use Rattle.case_stores.proofs.knowledges.read_and_asked.Statement.{statement}
 use Rattle.case_stores.proofs.knowledges.read_and_asked.Tie as tie
 
-slice-aggregate-read : tie.Need-slice-aggregate-read
-slice-aggregate-read c = search needs
-
 read-requires : tie.Need-read-requires
 read-requires c κs = search needs
 
 enum-known-n : tie.Need-enum-known-n
 enum-known-n c = search needs
 
-slice-aggregate-asked : tie.Need-slice-aggregate-asked
-slice-aggregate-asked c = search needs
-
 asked-requires : tie.Need-asked-requires
 asked-requires c κs =
-    let q = rw (c .before .before .n .given .1) at (c .before .before .before .before .before .read .ensures) in
-    (search needs, rows-normal _ _ _ _ _ (q .0) (q .2) (q .3))
+    let q = rw (c .before .before .n .given .1) at (c .before .before .before .before .read .ensures) in
+    rows-normal _ _ _ _ _ (q .0) (q .2) (q .3)
 
 enum-known-r : tie.Need-enum-known-r
 enum-known-r c = search needs
-
-slice-aggregate-refused : tie.Need-slice-aggregate-refused
-slice-aggregate-refused c = search needs
 
 refused-requires : tie.Need-refused-requires
 refused-requires c κs = search needs
@@ -41,13 +32,10 @@ pub read-and-asked-spec : {M : Type 1} → statement M
 read-and-asked-spec =
     tie.close
     (tie.spec
-    slice-aggregate-read
     read-requires
     enum-known-n
-    slice-aggregate-asked
     asked-requires
     enum-known-r
-    slice-aggregate-refused
     refused-requires
     returns
     returns-2)
