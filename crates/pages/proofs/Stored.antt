@@ -16,6 +16,7 @@ use Rattle.talk.specs.Each.{Each}
 use Rattle.store.specs.Store.{storeWalk, storedOf, storeAnswer, WalkedTo, Stands}
 use Rattle.store.specs.Tables.{keyAt, rowOf, idOf, rowsOf, idsOf}
 use Rattle.store.specs.declared.element.Element.{Element}
+use Rattle.store.specs.declared.package.Stored.{Stored}
 use Rattle.store.specs.declared.package.Stored.the-variants as stored
 use Rattle.store.proofs.Rows.{length-flat}
 use Rattle.store.proofs.Found.{store-most, store-holds}
@@ -74,6 +75,16 @@ store-held s rows ids rows′ ids′ n b h g w =
       fits = elements-fit s b (store-read s t);
     }
 
+-- both tables are as long as they were
+pub store-long : (s rows ids rows′ ids′ : List ℕ) (r : Stored) → length rows ≡ 1536 → length ids ≡ 768
+    → WalkedTo (storeWalk s) r rows rows′ ids ids′ → (1536 ≡ length rows′) × (768 ≡ length ids′)
+store-long s rows ids rows′ ids′ r l g w =
+    let els = storeWalk s .elements in
+    let m : length els ≤ 256 = store-most s in (
+      rw (w .1) (omega (arith, length-append (rowsOf els) (drop (length els * 6) rows), length-rows els, length-drop (length els * 6) rows)),
+      rw (w .2) (omega (arith, length-append (idsOf els) (drop (length els * 3) ids), length-ids els, length-drop (length els * 3) ids)),
+    )
+
 -- row by row: where an element stands, and the number of its id
 module _ {s rows ids : List ℕ} {n : ℕ} (h : StoreHeld s rows ids n) where
   fits-row : (i : ℕ) → i < n → ElementFits s (elementOf rows ids i)
@@ -113,6 +124,10 @@ store-faulty s q room r h = store-off s q room (length (storeWalk s .elements)) 
 -- what is answered does not depend on what was in the table
 pub request-same : (q t t′ : List ℕ) (r : Request) → ReadsRequest q t r t′ → requestIn q [] ≡ r
 request-same q t t′ r h = sym (h .0 ∙ request-table-free q t [] .0)
+
+-- the table is as long as it was
+pub request-long : (q t t′ : List ℕ) (r : Request) → length t ≡ 2048 → ReadsRequest q t r t′ → 2048 ≡ length t′
+request-long q t t′ r l h = sym (ap length (h .1) ∙ request-held q t (omega arith) .long ∙ l)
 
 pub request-read : (q t t′ : List ℕ) (id limit place count k : ℕ) → 2048 ≤ length t → ReadsRequest q t (request.Asked id limit place count k) t′
     → RequestHeld q (record { id = id; limit = limit; place = place; count = count; known = k }) t′

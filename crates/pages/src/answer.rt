@@ -34,6 +34,9 @@ use request::choice::choose;
 use request::message::Request;
 use request::message::read_request;
 use store::knowledge::MOST_RANGES;
+use store::knowledge::RANGE_NUMBERS;
+use store::package::ID_NUMBERS;
+use store::package::ROW_NUMBERS;
 use store::package::Stored;
 use store::package::read_store;
 
@@ -147,7 +150,7 @@ fn answer_request(
     requires { ⌜ StoreHeld (now store) (now elements) (now ids) n × (1536 ≤ length (now rows)) × (2048 ≤ length (now ranges)) ⌝ }
     ensures { λ r. ⌜ Gives (onRequest (now (store .entry)) (storeWalk (now (store .entry)) .elements) (now (request .entry)) (length (now (out .entry))) (requestIn (now (request .entry)) [])) r (now (rows .entry)) (now (rows .exit)) (now (ranges .entry)) (now (ranges .exit)) (now (out .entry)) (now (out .exit)) ⌝ }
 {
-    let mut known = [0u64; 2048];
+    let mut known = [0u64; RANGE_NUMBERS];
     match read_request(request, &mut known) {
         Request::Refused(r) => Answered::Refused(r),
         Request::Asked(id, limit, place, count, k) => {
@@ -185,8 +188,8 @@ fn answer_store(
     requires { ⌜ (1536 ≤ length (now rows)) × (2048 ≤ length (now ranges)) ⌝ }
     ensures { λ r. ⌜ Gives (outcome (now (store .entry)) (now (request .entry)) (length (now (out .entry)))) r (now (rows .entry)) (now (rows .exit)) (now (ranges .entry)) (now (ranges .exit)) (now (out .entry)) (now (out .exit)) ⌝ }
 {
-    let mut elements = [0u64; 1536];
-    let mut ids = [0u64; 768];
+    let mut elements = [0u64; ROW_NUMBERS];
+    let mut ids = [0u64; ID_NUMBERS];
     match read_store(store, &mut elements, &mut ids) {
         Stored::Refused(r) => Answered::Refused(r),
         Stored::Holds(n) => answer_request(store, request, &elements, &ids, n, rows, ranges, out),

@@ -1,15 +1,14 @@
 -- `answer::answer_request` meets its contract.
 -- Assumes nothing.
 use mathlib.Core.Path.{refl, _∙_}
+use Prim.Native.Nat.{ℕ}
 use native.Mathlib.Omega.{arith}
+use lib.ListN.{length-replicate}
 use Rattle.pages.specs.Answer.{onRequest, told, rowsAfter, rangesAfter, outputAfter}
-use Rattle.pages.proofs.Stored.{request-same, request-read}
+use Rattle.pages.proofs.Stored.{request-same, request-long, request-read}
 use borrow.Author.Needs.{needs}
 use Rattle.pages.proofs.answer.answer_request.Statement.{statement}
 use Rattle.pages.proofs.answer.answer_request.Tie as tie
-
-slice-aggregate-read-request : tie.Need-slice-aggregate-read-request
-slice-aggregate-read-request c = search needs
 
 read-request-requires : tie.Need-read-request-requires
 read-request-requires c κs = search needs
@@ -21,21 +20,23 @@ enum-known-id : tie.Need-enum-known-id
 enum-known-id c = search needs
 
 slice-aggregate-answer-page : tie.Need-slice-aggregate-answer-page
-slice-aggregate-answer-page c = search needs
+slice-aggregate-answer-page c =
+    let rr = c .before .before .before .before in
+    request-long _ _ _ _ (length-replicate {A = ℕ} 2048 0) (rr .read-request .ensures)
 
 answer-page-requires : tie.Need-answer-page-requires
 answer-page-requires c κs =
     let k = c .before .before .before .before .before in
-    let rr = k .before .before .before in
+    let rr = k .before .before in
     let st = rr .before .before .before .before .before .before .before .before .before in
     let q = st .args .request .now in
-    (st .pre .0, request-read q _ _ _ _ _ _ _ (omega arith) (rw (k .id .given .1) at (rr .read-request .ensures)), st .pre .1, st .pre .2)
+    (st .pre .0, request-read q _ _ _ _ _ _ _ (omega (arith, length-replicate {A = ℕ} 2048 0)) (rw (k .id .given .1) at (rr .read-request .ensures)), st .pre .1, st .pre .2)
 
 returns : tie.Need-returns
 unfolding onRequest told rowsAfter rangesAfter outputAfter
 returns c =
     let k = c .before in
-    let rr = k .before .before .before in
+    let rr = k .before .before in
     let st = rr .before .before .before .before .before .before .before .before .before in
     let q = st .args .request .now in
     rw (request-same q _ _ _ (rr .read-request .ensures) ∙ k .r .given .1) (refl, refl, refl, refl)
@@ -54,7 +55,7 @@ unfolding onRequest
 returns-2 c =
     let ap = c .before .before .before .before .before .before .before in
     let k = ap .before .before .before .before .before .before in
-    let rr = k .before .before .before in
+    let rr = k .before .before in
     let st = rr .before .before .before .before .before .before .before .before .before in
     let q = st .args .request .now in
     rw (request-same q _ _ _ (rr .read-request .ensures) ∙ k .id .given .1) (ap .answer-page .ensures .0)
@@ -63,7 +64,6 @@ pub answer-request-spec : {M : Type 1} → statement M
 answer-request-spec =
     tie.close
     (tie.spec
-    slice-aggregate-read-request
     read-request-requires
     enum-known-r
     enum-known-id

@@ -1,20 +1,15 @@
 -- `answer::answer_store` meets its contract.
 -- Assumes nothing.
 use mathlib.Core.Path.{refl, sym, _∙_}
+use Prim.Native.Nat.{ℕ}
 use native.Mathlib.Omega.{arith}
-use lib.ListN.{length}
+use lib.ListN.{length, length-replicate}
 use Rattle.laws.specs.Bytes.{AllBytes}
 use Rattle.pages.specs.Answer.{told, rowsAfter, rangesAfter, outputAfter}
-use Rattle.pages.proofs.Stored.{store-held, store-fine, store-faulty}
+use Rattle.pages.proofs.Stored.{store-held, store-long, store-fine, store-faulty}
 use borrow.Author.Needs.{needs}
 use Rattle.pages.proofs.answer.answer_store.Statement.{statement}
 use Rattle.pages.proofs.answer.answer_store.Tie as tie
-
-slice-aggregate-read-store : tie.Need-slice-aggregate-read-store
-slice-aggregate-read-store c = search needs
-
-slice-aggregate-read-store-2 : tie.Need-slice-aggregate-read-store-2
-slice-aggregate-read-store-2 c = search needs
 
 read-store-requires : tie.Need-read-store-requires
 read-store-requires c κs = search needs
@@ -26,26 +21,30 @@ enum-known-n : tie.Need-enum-known-n
 enum-known-n c = search needs
 
 slice-aggregate-answer-request : tie.Need-slice-aggregate-answer-request
-slice-aggregate-answer-request c = search needs
+slice-aggregate-answer-request c =
+    let rs = c .before .before .before .before in
+    store-long _ _ _ _ _ _ (length-replicate {A = ℕ} 1536 0) (length-replicate {A = ℕ} 768 0) (rs .read-store .ensures) .0
 
 slice-aggregate-answer-request-2 : tie.Need-slice-aggregate-answer-request-2
-slice-aggregate-answer-request-2 c = search needs
+slice-aggregate-answer-request-2 c =
+    let rs = c .before .before .before .before .before in
+    store-long _ _ _ _ _ _ (length-replicate {A = ℕ} 1536 0) (length-replicate {A = ℕ} 768 0) (rs .read-store .ensures) .1
 
 answer-request-requires : tie.Need-answer-request-requires
 answer-request-requires c κs =
     let k = c .before .before .before .before .before .before in
-    let rs = k .before .before .before .before in
+    let rs = k .before .before in
     let st = rs .before .before .before .before .before .before .before .before in
     let s = st .args .store .now in
     let q = st .args .request .now in
     let b : AllBytes s = λ i. rs .before .before .before .before .before .before .before .shared-slice-known .given i .fits in
-    (store-held s _ _ _ _ (k .n .given .0 .0) b (omega arith) (omega arith) (rw (k .n .given .1) at (rs .read-store .ensures)), st .pre .0, st .pre .1)
+    (store-held s _ _ _ _ (k .n .given .0 .0) b (omega (arith, length-replicate {A = ℕ} 1536 0)) (omega (arith, length-replicate {A = ℕ} 768 0)) (rw (k .n .given .1) at (rs .read-store .ensures)), st .pre .0, st .pre .1)
 
 returns : tie.Need-returns
 unfolding told rowsAfter rangesAfter outputAfter
 returns c =
     let k = c .before in
-    let rs = k .before .before .before .before in
+    let rs = k .before .before in
     let st = rs .before .before .before .before .before .before .before .before in
     let s = st .args .store .now in
     let q = st .args .request .now in
@@ -64,7 +63,7 @@ returns-2 : tie.Need-returns-2
 returns-2 c =
     let ar = c .before .before .before .before .before .before in
     let k = ar .before .before .before .before .before .before .before in
-    let rs = k .before .before .before .before in
+    let rs = k .before .before in
     let st = rs .before .before .before .before .before .before .before .before in
     let s = st .args .store .now in
     let q = st .args .request .now in
@@ -74,8 +73,6 @@ pub answer-store-spec : {M : Type 1} → statement M
 answer-store-spec =
     tie.close
     (tie.spec
-    slice-aggregate-read-store
-    slice-aggregate-read-store-2
     read-store-requires
     enum-known-r
     enum-known-n
