@@ -9,6 +9,7 @@ pub mod RefusalNumbers
 pub mod DemandOne
 pub mod Sending
 pub mod DemandTwo
+pub mod Sufficient
 pub mod Steps
 pub mod Series
 pub mod GoingOn
