@@ -1,7 +1,7 @@
 -- Which output suffices. include/hub.h says of hub_answer: "No answer of hub_answer is larger: an output of so many bytes always
 -- suffices. So does, for a store of n bytes, one of n + HUB_ANSWER_OVER_STORE." And of hub_ask: "No request of hub_ask is larger: an
 -- output of so many bytes always suffices." That an output suffices says two things: it is never refused with 14, and more room would not
--- get a longer page. This is for whoever sizes buffers by the header. A reader needs `Sufficient` and the types of the four laws that
+-- get a longer page. This is for whoever sizes buffers by the header. A reader needs `Sufficient` and the types of the five laws that
 -- have `pub` before them. What stands behind a `=`, and every law without `pub`, can be skipped.
 -- Assumes nothing.
 use mathlib.Core.Path.{_≡_, refl, sym, ap, _∙_}
@@ -27,16 +27,19 @@ use Rattle.pages.specs.Cases.{Asks, Few, TooShort, smallest}
 use Rattle.pages.specs.Choice.{rangesWith}
 use Rattle.pages.specs.Decision.{isSendable, sendable}
 use Rattle.pages.proofs.Refusing.{answered-asks, call-sends}
-use Rattle.client.specs.Ask.{askWrote}
+use Rattle.client.specs.Ask.{askWrote, filtersGiven, knowledgeGiven}
+use Rattle.client.specs.AskWritten.{askBytes}
 use Rattle.client.specs.Read.{longestAnswer}
 use Rattle.client.proofs.CallBack.{asked-size}
 use Rattle.client.proofs.FaultNumbers.{ask-refused}
+use Rattle.client.proofs.NextAsk.{filters-fine, knowledge-fine, room-enough}
 use Rattle.hub.specs.Bench.{HubAsks}
 use Rattle.hub.specs.Call.{HubAnswers}
 use Rattle.evidence.specs.Calling.{GivesAnswer}
 use Rattle.evidence.proofs.Calling.{gave-outcome, read-within}
 use Rattle.evidence.proofs.DemandOne.{demand-one-hub-numbers}
 use Rattle.evidence.proofs.DemandTwo.{demand-two}
+use Rattle.evidence.proofs.Refusals.{request-written}
 
 -- so many bytes of output, for an answer from the store s: HUB_LARGEST_ANSWER, 16,842,752, or the store's length and
 -- HUB_ANSWER_OVER_STORE
@@ -96,7 +99,17 @@ pub hub-ask-suffices : (id limit : ℕ) (f k : List ℕ) (number : ℕ) (out out
 hub-ask-suffices id limit f k number out out′ report report′ enough h e =
     written-suffices id limit f k (length out) enough (askWrote id limit f k (length out)) refl (sym (h .0) ∙ e)
 
--- ---- no answer is larger than HUB_LARGEST_ANSWER
+-- ---- no request is larger than HUB_LARGEST_REQUEST, and no answer larger than HUB_LARGEST_ANSWER
+
+-- the request is the one of `RequestGiven` in specs/Results
+pub largest-request : (id limit : ℕ) (f k out out′ report report′ : List ℕ) → HubAsks id limit f k 0 out out′ report report′
+    → length (askBytes id limit f k) ≤ longestInput
+unfolding askWrote
+largest-request id limit f k out out′ report report′ h =
+    let (n, is) = request-written id limit f k (length out) (askWrote id limit f k (length out)) refl (h .0) in
+    let filters = filters-fine (filtersGiven f) _ n is in
+    let knowledge = knowledge-fine (knowledgeGiven k) _ n (filters .3) in
+    room-enough (length out) (askBytes id limit f k) n (knowledge .3) .0
 
 pub largest-answer : (s q : List ℕ) → AllBytes s → AllBytes q → (room : ℕ) (w : List ℕ) → GivesAnswer s q room w → length w ≤ longestAnswer
 largest-answer s q b d room w g = read-within w _ (demand-two s q b d room w g .read .read)
