@@ -1,7 +1,5 @@
 // The modes for a request: what it asks for, where its filters stand, and what it knows; and which elements of a store its
 // filters leave in.
-ghost use Prim.Native.Nat.{_≤_};
-ghost use lib.ListN.{length};
 use case_stores::knowledges;
 use case_stores::stores::UNTOUCHED;
 use case_words::say;
@@ -11,19 +9,28 @@ use request::choice::choose;
 use request::message::Request;
 use request::message::read_request;
 use store::knowledge::MOST_RANGES;
+use store::knowledge::RANGE_NUMBERS;
+use store::package::ID_NUMBERS;
 use store::package::MOST_ELEMENTS;
+use store::package::ROW_NUMBERS;
 use store::package::Stored;
 use store::package::read_store;
 
-// Id, limit, the place of the filters and how many they are, and the n rows of the knowledge; or that numbers behind all rows
-// were changed. More ranges than a knowledge may hold count as that.
-fn asked(id: u64, limit: u64, place: usize, count: u64, n: usize, t: &[u64])
-    requires { ⌜ 2048 ≤ length (now t) ⌝ }
-{
+// Id, limit, the place of the filters and how many they are, and the n rows of the knowledge; or that numbers were changed
+// behind what its ranges can reach. More ranges than a knowledge may hold count as that.
+fn asked(
+    s: &[u8],
+    id: u64,
+    limit: u64,
+    place: usize,
+    count: u64,
+    n: usize,
+    t: &[u64; RANGE_NUMBERS],
+) {
     if MOST_RANGES < n {
         return say::touched();
     }
-    if !knowledges::kept(t) {
+    if !knowledges::kept(s, t) {
         return say::touched();
     }
     say::ok();
@@ -34,20 +41,25 @@ fn asked(id: u64, limit: u64, place: usize, count: u64, n: usize, t: &[u64])
     knowledges::every_row(t, n)
 }
 
-// `request HEX`. The table is longer than a request needs.
+// `request HEX`
 pub fn message(s: &[u8]) {
-    let mut t = [UNTOUCHED; 2112];
+    let mut t = [UNTOUCHED; RANGE_NUMBERS];
     match read_request(s, &mut t) {
-        Request::Asked(id, limit, place, count, n) => asked(id, limit, place, count, n, &t),
-        Request::Refused(r) => knowledges::refused(r, &t),
+        Request::Asked(id, limit, place, count, n) => asked(s, id, limit, place, count, n, &t),
+        Request::Refused(r) => knowledges::refused(s, r, &t),
     }
 }
 
 // Filters from a place on, put to the n elements of both tables: a byte for each element, 1 where it is in. Or that bytes
 // behind these were changed; more elements than a store may hold count as that.
-fn left_in(s: &[u8], place: usize, count: u64, rows: &[u64], ids: &[u64], n: usize)
-    requires { ⌜ (1536 ≤ length (now rows)) × (768 ≤ length (now ids)) ⌝ }
-{
+fn left_in(
+    s: &[u8],
+    place: usize,
+    count: u64,
+    rows: &[u64; ROW_NUMBERS],
+    ids: &[u64; ID_NUMBERS],
+    n: usize,
+) {
     let mut flags = [say::UNTOUCHED; 320];
     if MOST_ELEMENTS < n {
         return say::touched();
@@ -61,20 +73,18 @@ fn left_in(s: &[u8], place: usize, count: u64, rows: &[u64], ids: &[u64], n: usi
 }
 
 // The request, whose filters are then put to the elements of a store that was read.
-fn chosen_of(s: &[u8], rows: &[u64], ids: &[u64], n: usize)
-    requires { ⌜ (1536 ≤ length (now rows)) × (768 ≤ length (now ids)) ⌝ }
-{
-    let mut t = [UNTOUCHED; 2112];
+fn chosen_of(s: &[u8], rows: &[u64; ROW_NUMBERS], ids: &[u64; ID_NUMBERS], n: usize) {
+    let mut t = [UNTOUCHED; RANGE_NUMBERS];
     match read_request(s, &mut t) {
         Request::Asked(_, _, place, count, _) => left_in(s, place, count, rows, ids, n),
-        Request::Refused(r) => knowledges::refused(r, &t),
+        Request::Refused(r) => knowledges::refused(s, r, &t),
     }
 }
 
 // The store comes first, as its faults do.
 fn both(store: &[u8], s: &[u8]) {
-    let mut rows = [UNTOUCHED; 1600];
-    let mut ids = [UNTOUCHED; 800];
+    let mut rows = [UNTOUCHED; ROW_NUMBERS];
+    let mut ids = [UNTOUCHED; ID_NUMBERS];
     match read_store(store, &mut rows, &mut ids) {
         Stored::Holds(n) => chosen_of(s, &rows, &ids, n),
         Stored::Refused(r) => say::refusal(r),
