@@ -6,6 +6,8 @@ use crate::answer::read_rows;
 use numbers::refusal::at_place;
 use objects::layout::part;
 use store::accessor::Found;
+use store::package::ID_NUMBERS;
+use store::package::ROW_NUMBERS;
 
 // Where the element at a position stands: the answer's faults first, then 9 for a position at or past the count. Ruled out
 // (proofs/WrongAnswers), of no bytes: 9, which comes behind the answer's faults; an element at their front. Of an answer that holds
@@ -13,8 +15,8 @@ use store::accessor::Found;
 pub fn find_received(s: &[u8], position: usize) -> Found
     ensures { λ r. ⌜ FindsReceived (now (s .entry)) position r ⌝ }
 {
-    let mut rows = [0u64; 1536];
-    let mut ids = [0u64; 768];
+    let mut rows = [0u64; ROW_NUMBERS];
+    let mut ids = [0u64; ID_NUMBERS];
     match read_rows(s, &mut rows, &mut ids) {
         ReadAnswer::Refused(r) => Found::Refused(r),
         ReadAnswer::Is(x) => {

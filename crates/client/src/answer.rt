@@ -1,7 +1,5 @@
 // An answer read whole: a function for each part, in the order of document 01's answer bytes.
 ghost use mathlib.Core.Path.{_≡_};
-ghost use Prim.Native.Nat.{_≤_};
-ghost use lib.ListN.{length};
 ghost use Rattle.client.specs.Read.{statusByte, responseFields, responseStart, subResponseFields, subResponse, changesFields, idIn, endsOf, answerOn, receivedFrom, restOf, answerIn, ReadsAnswer};
 ghost use Rattle.client.specs.Accessor.{rowsReceived};
 use numbers::extended_guid::ExtendedGuid;
@@ -16,8 +14,11 @@ use pages::write::SIGNATURE;
 use pages::write::SUB_RESPONSE;
 use request::message::on_knowledge;
 use request::message::versions;
+use store::knowledge::RANGE_NUMBERS;
 use store::knowledge::read_knowledge;
+use store::package::ID_NUMBERS;
 use store::package::Packaged;
+use store::package::ROW_NUMBERS;
 use store::package::package_start;
 use store::package::read_package;
 
@@ -117,7 +118,7 @@ fn read_rest(s: &[u8], c: Reading, elements: usize, count: usize) -> ReadAnswer
     let o = sub.start(s, SUB_RESPONSE, CHANGES, false, true);
     let d = o.run(s);
     let mark = o.closed(s, changes_fields(d));
-    let mut table = [0u64; 2048];
+    let mut table = [0u64; RANGE_NUMBERS];
     let k = on_knowledge(read_knowledge(s, mark, SUB_RESPONSE, KNOWLEDGE_LEVELS, &mut table));
     match ends(s, k) {
         Reading::Refused(r) => ReadAnswer::Refused(r),
@@ -134,8 +135,11 @@ fn read_rest(s: &[u8], c: Reading, elements: usize, count: usize) -> ReadAnswer
 }
 
 // An answer, with the rows and ids of its elements in working tables.
-pub(crate) fn read_rows(s: &[u8], rows: &mut [u64], ids: &mut [u64]) -> ReadAnswer
-    requires { ⌜ (1536 ≤ length (now rows)) × (768 ≤ length (now ids)) ⌝ }
+pub(crate) fn read_rows(
+    s: &[u8],
+    rows: &mut [u64; ROW_NUMBERS],
+    ids: &mut [u64; ID_NUMBERS],
+) -> ReadAnswer
     ensures { λ r. ⌜ (r ≡ answerIn (now (s .entry))) × (now (rows .exit) ≡ rowsReceived (now (s .entry)) (now (rows .entry))) ⌝ }
 {
     if LONGEST_ANSWER < s.len() {
@@ -154,7 +158,7 @@ pub(crate) fn read_rows(s: &[u8], rows: &mut [u64], ids: &mut [u64]) -> ReadAnsw
 pub fn read_answer(s: &[u8]) -> ReadAnswer
     ensures { λ r. ⌜ ReadsAnswer (now (s .entry)) r ⌝ }
 {
-    let mut rows = [0u64; 1536];
-    let mut ids = [0u64; 768];
+    let mut rows = [0u64; ROW_NUMBERS];
+    let mut ids = [0u64; ID_NUMBERS];
     read_rows(s, &mut rows, &mut ids)
 }

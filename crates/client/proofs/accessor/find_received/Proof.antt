@@ -11,12 +11,6 @@ use borrow.Author.Needs.{needs}
 use Rattle.client.proofs.accessor.find_received.Statement.{statement}
 use Rattle.client.proofs.accessor.find_received.Tie as tie
 
-slice-aggregate-read-rows : tie.Need-slice-aggregate-read-rows
-slice-aggregate-read-rows c = search needs
-
-slice-aggregate-read-rows-2 : tie.Need-slice-aggregate-read-rows-2
-slice-aggregate-read-rows-2 c = search needs
-
 read-rows-requires : tie.Need-read-rows-requires
 read-rows-requires c κs = search needs
 
@@ -32,66 +26,64 @@ at-place-requires c κs = search needs
 returns : tie.Need-returns
 returns c =
     let k = c .before .before .before .before in
-    let a = k .before .before .before .before .before .before .before .before .args in
-    let q = answer-is (a .s .now) (k .x .given .0 .0) (sym (k .before .before .before .before .read-rows .ensures .0) ∙ k .x .given .1) in
+    let a = k .before .before .before .before .before .before .args in
+    let q = answer-is (a .s .now) (k .x .given .0 .0) (sym (k .before .before .read-rows .ensures .0) ∙ k .x .given .1) in
     rw (c .at-place .ensures, q .2 (a .position), found-none (packageIn (a .s .now) .elements) (a .position) (omega arith))
 
 -- the position's row stands within the table
-room : (c : tie.Else1) → c .before .before .before .before .before .before .before .before .before .before .before .args .position * 6 + 1 < 1536
+room : (c : tie.Else1) → c .before .before .before .before .before .before .before .before .before .args .position * 6 + 1 < 1536
 room c =
     let k = c .before .before .before in
-    let a = k .before .before .before .before .before .before .before .before .args in
-    let q = answer-is (a .s .now) (k .x .given .0 .0) (sym (k .before .before .before .before .read-rows .ensures .0) ∙ k .x .given .1) in
+    let a = k .before .before .before .before .before .before .args in
+    let q = answer-is (a .s .now) (k .x .given .0 .0) (sym (k .before .before .read-rows .ensures .0) ∙ k .x .given .1) in
     omega (arith, package-most 0x62 (a .s .now) (responseStart (a .s .now)))
 
 mul-at : tie.Need-mul-at
 mul-at c = omega (arith, room c)
 
-mul-t16 : tie.Need-mul-t16
-mul-t16 c = omega (arith, room c)
+mul-t14 : tie.Need-mul-t14
+mul-t14 c = omega (arith, room c)
 
-array-read-t19 : tie.Need-array-read-t19
-array-read-t19 c = omega (arith, room c)
+array-read-t17 : tie.Need-array-read-t17
+array-read-t17 c = omega (arith, room c)
 
-add-t21 : tie.Need-add-t21
-add-t21 c = omega (arith, room c)
+add-t19 : tie.Need-add-t19
+add-t19 c = omega (arith, room c)
 
-mul-t22 : tie.Need-mul-t22
-mul-t22 c = omega (arith, room c)
+mul-t20 : tie.Need-mul-t20
+mul-t20 c = omega (arith, room c)
 
-array-read-t25 : tie.Need-array-read-t25
-array-read-t25 c = omega (arith, room c)
+array-read-t23 : tie.Need-array-read-t23
+array-read-t23 c = omega (arith, room c)
 
 returns-2 : tie.Need-returns-2
 returns-2 c =
     let k = c .before in
-    let a = k .before .before .before .before .before .before .before .before .args in
-    rw (answer-refused (a .s .now) (k .r .given .0 .0) (sym (k .before .before .before .before .read-rows .ensures .0) ∙ k .r .given .1) (a .position))
+    let a = k .before .before .before .before .before .before .args in
+    rw (answer-refused (a .s .now) (k .r .given .0 .0) (sym (k .before .before .read-rows .ensures .0) ∙ k .r .given .1) (a .position))
 
 returns-3 : tie.Need-returns-3
 returns-3 c =
     let k = c .before .before .before in
-    let a = k .before .before .before .before .before .before .before .before .args in
-    let q = answer-is (a .s .now) (k .x .given .0 .0) (sym (k .before .before .before .before .read-rows .ensures .0) ∙ k .x .given .1) in
-    rw (q .2 (a .position), k .before .before .before .before .read-rows .ensures .1, rows-received (a .s .now) _ (q .1))
+    let a = k .before .before .before .before .before .before .args in
+    let q = answer-is (a .s .now) (k .x .given .0 .0) (sym (k .before .before .read-rows .ensures .0) ∙ k .x .given .1) in
+    rw (q .2 (a .position), k .before .before .read-rows .ensures .1, rows-received (a .s .now) _ (q .1))
     (ap tellFound (sym (found-row (packageIn (a .s .now) .elements) _ (a .position) (omega arith))))
 
 pub find-received-spec : {M : Type 1} → statement M
 find-received-spec =
     tie.close
     (tie.spec
-    slice-aggregate-read-rows
-    slice-aggregate-read-rows-2
     read-rows-requires
     enum-known-r
     enum-known-x
     at-place-requires
     returns
     mul-at
-    mul-t16
-    array-read-t19
-    add-t21
-    mul-t22
-    array-read-t25
+    mul-t14
+    array-read-t17
+    add-t19
+    mul-t20
+    array-read-t23
     returns-2
     returns-3)

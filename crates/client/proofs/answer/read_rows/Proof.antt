@@ -1,7 +1,6 @@
 -- `answer::read_rows` meets its contract.
 -- Assumes nothing.
 use mathlib.Core.Path.{_≡_, refl, sym, _∙_}
-use native.Mathlib.Omega.{arith}
 use borrow.Author.Tests.{lt-ltb, le-ltb}
 use Rattle.objects.specs.Steps.{valued}
 use Rattle.objects.specs.declared.reading.Reading.the-variants.{Refused}
@@ -30,7 +29,7 @@ place-requires : tie.Need-place-requires
 place-requires c κs = search needs
 
 read-package-requires : tie.Need-read-package-requires
-read-package-requires c κs = (rw (c .before .before .before .before .response-start .ensures) (good-response-start _), omega arith, omega arith)
+read-package-requires c κs = rw (c .before .before .before .before .response-start .ensures) (good-response-start _)
 
 enum-known-r : tie.Need-enum-known-r
 enum-known-r c = search needs
@@ -41,32 +40,20 @@ enum-known-n c = search needs
 read-rest-requires : tie.Need-read-rest-requires
 read-rest-requires c κs = search needs
 
-same-length : tie.Need-same-length
-same-length c = search needs
-
-same-length-2 : tie.Need-same-length-2
-same-length-2 c = search needs
-
 returns-2 : tie.Need-returns-2
 unfolding answerIn answerEnd answerOn valued rowsReceived
 returns-2 c =
-    let k = c .before .before .before .before .before .before .before in
-    let s = k .before .before .before .before .before .before .before .before .before .before .args .s .now in
+    let k = c .before .before .before in
+    let s = k .before .before .before .before .before .before .before .before .args .s .now in
     let h = rw (k .before .before .before .before .before .response-start .ensures) at (k .read-package .ensures) in
     let q : packageIn s .last ≡ Refused _ = package-refused _ _ _ (sym (h .0) ∙ c .before .r .given .1) in
     rw (le-ltb _ _ (k .before .before .before .before .before .before .if1 .left)) (rw (q, rest-fault s (c .before .r .given .0 .0)), h .1)
 
-same-length-3 : tie.Need-same-length-3
-same-length-3 c = search needs
-
-same-length-4 : tie.Need-same-length-4
-same-length-4 c = search needs
-
 returns-3 : tie.Need-returns-3
 unfolding answerIn answerEnd rowsReceived
 returns-3 c =
-    let k = c .before .before .before .before .before .before .before .before in
-    let s = k .before .before .before .before .before .before .before .before .before .before .args .s .now in
+    let k = c .before .before .before .before in
+    let s = k .before .before .before .before .before .before .before .before .args .s .now in
     let h = rw (k .before .before .before .before .before .response-start .ensures) at (k .read-package .ensures) in
     let q = package-holds _ _ _ _ (sym (h .0) ∙ c .before .before .n .given .1) in
     rw (le-ltb _ _ (k .before .before .before .before .before .before .if1 .left))
@@ -85,9 +72,5 @@ read-rows-spec =
     enum-known-r
     enum-known-n
     read-rest-requires
-    same-length
-    same-length-2
     returns-2
-    same-length-3
-    same-length-4
     returns-3)
