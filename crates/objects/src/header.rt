@@ -32,7 +32,7 @@ pub const SHORT_TYPES: u64 = 64;
 pub const ESCAPE: u64 = 32767;
 
 // What is left of n from `at` on.
-pub fn left_of(n: usize, at: usize) -> usize
+pub(crate) fn left_of(n: usize, at: usize) -> usize
     ensures { λ r. ⌜ r ≡ n - at ⌝ }
 {
     if n < at {
@@ -93,7 +93,7 @@ fn header_of(t: &[u8], at: usize) -> Header
 }
 
 // The header at a place of the input.
-pub fn header_at(s: &[u8], at: usize) -> Header
+pub(crate) fn header_at(s: &[u8], at: usize) -> Header
     ensures { λ r. ⌜ r ≡ headerAt (now (s .entry)) at ⌝ }
 {
     if s.len() < at {
@@ -103,7 +103,7 @@ pub fn header_at(s: &[u8], at: usize) -> Header
 }
 
 // The true length, behind a header with the length n that ends at `at`.
-pub fn length_at(s: &[u8], at: usize, n: u64) -> Length
+pub(crate) fn length_at(s: &[u8], at: usize, n: u64) -> Length
     ensures { λ r. ⌜ r ≡ lengthAt (now (s .entry)) at n ⌝ }
 {
     if n != ESCAPE {
@@ -119,7 +119,7 @@ pub fn length_at(s: &[u8], at: usize, n: u64) -> Length
 }
 
 // The header at the front of a part, true length included.
-pub fn item(s: &[u8]) -> Header
+fn item(s: &[u8]) -> Header
     ensures { λ r. ⌜ r ≡ wholeHeader (now (s .entry)) ⌝ }
 {
     match header_of(s, 0) {

@@ -43,7 +43,7 @@ impl Reading {
     }
 
     // The data's length must be n; else 5 at the header's place p.
-    pub fn length_is(self, n: u64, p: usize) -> Reading
+    fn length_is(self, n: u64, p: usize) -> Reading
         ensures { λ r. ⌜ r ≡ lengthIs n p self ⌝ }
     {
         match self {
