@@ -1,6 +1,6 @@
 #!/bin/sh
 # What make test does, in this order: the toolchain is the one that the file toolchain names; every source file is in
-# the layout; the docs name what there is; rt ci passes; the tests in C pass; no library rests on an axiom. Only if all
+# the layout; the docs name what there is; rt ci passes; the tests in C pass; no library but those of the test programs rests on an axiom. Only if all
 # of it holds is the last line 'N passed, 0 failed', where N counts what rt ci and the other tests have passed, and the
 # exit status 0. What each part took stands before it, and in target/log/gate, which tools/gate-figures reads.
 set -u

@@ -197,7 +197,7 @@ static void elements_found(void) {
 }
 
 int main(void) {
-    static const unsigned types[] = {INSIDE, LONGEST_TYPE}; /* where headers are short one call goes by many levels, else by one */
+    static const unsigned types[] = {INSIDE, LONGEST_TYPE}; /* short headers, and long ones */
     make_stack();
     for (size_t i = 0; i < sizeof types / sizeof *types; i++) {
         nested_type = types[i];

@@ -103,9 +103,9 @@ abbrev failed : List ℕ
 failed =
     0x0C ∷ 0x00 ∷ 0x0B ∷ 0x00 ∷ 0x9D ∷ 0xCF ∷ 0x29 ∷ 0xF3 ∷ 0x39 ∷ 0x94 ∷ 0x06 ∷ 0x9B ∷ 0x16 ∷ 0x03 ∷ 0x02 ∷ 0x00 ∷ 0x01 ∷ 0xAC ∷ 0x02 ∷ 0x00 ∷ 0x55 ∷ 0x0E ∷ 0x02 ∷ 0x06 ∷ 0x00 ∷ 0x03 ∷ 0x05 ∷ 0x00 ∷ 0xFA ∷ 0x02 ∷ 0x04 ∷ 0x00 ∷ 0x00 ∷ 0x00 ∷ 0x84 ∷ 0x00 ∷ 0x41 ∷ 0x07 ∷ 0x01 ∷ 0x8B ∷ 0x01 ∷ []
 
-error-taken : ReadsAnswer failed (answer.Is marked) → ⊥
+error-taken : (x : Received) → ReadsAnswer failed (answer.Is x) → ⊥
 unfolding versions fixedIn le responseStart startHere runHere closedAt packageStart startOfLength lengthIs placeOf skip walkFrom nextIs endHere subResponse changes knowledgeIn knowledgeAt knowledgeFrom knowledgeTurn toGo iterate turns valued endsOf finish restOf answerEnd headerAt headerOf sized startOf endOf lengthAt statusByte responseFields subResponseFields changesFields need valueOf number numberIs idHere onId readCompact formAt readForm compact.valueOf sizeOf readExtendedGuid formOfId trailingZeros answerOn answerIn receivedFrom idIn idNumbers receivedNumbers
-error-taken h = let z : _≡_ {A = ℕ} 0 5 = ap (λ (t : Told). t .number) h in omega arith
+error-taken x h = let z : _≡_ {A = ℕ} 0 5 = ap (λ (t : Told). t .number) h in omega arith
 
 -- ---- an answer that holds one element, of 46 bytes from place 20 on
 

@@ -32,11 +32,11 @@ use Rattle.evidence.proofs.Steps.{held, answer, answered-judged}
 -- ---- one answer
 
 -- the count and the mark that a bench reads
-abbrev countIn : ReadAnswer → ℕ
+abbrev pub countIn : ReadAnswer → ℕ
 countIn (read.Is x) = x .count
 countIn (read.Refused r) = 0
 
-abbrev markIn : ReadAnswer → Bool
+abbrev pub markIn : ReadAnswer → Bool
 markIn (read.Is x) = x .partial
 markIn (read.Refused r) = false
 

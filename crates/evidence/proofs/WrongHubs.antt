@@ -49,7 +49,7 @@ use Rattle.evidence.proofs.DemandOne.{demand-one, demand-one-hub-answer
 use Rattle.evidence.proofs.DemandTwo.{DemandTwo, demand-two}
 use Rattle.evidence.proofs.DemandThree.{DemandThree, demand-three}
 use Rattle.evidence.proofs.GoingOn.{exported-zero, none-refused}
-use Rattle.evidence.proofs.Weekend.{no-empty-partial}
+use Rattle.evidence.proofs.Weekend.{countIn, markIn, no-empty-partial}
 use Rattle.evidence.proofs.Example.{one, asking, one-answered}
 
 -- ---- one that refuses everything: "the table gives each refusal exactly when". Where both inputs are read, a page of 1 does not need over
@@ -152,15 +152,7 @@ later-cleared s q n rowCount rangeCount rows rows′ ranges ranges′ out out′
     (λ g. sent-refused (g .0) (g .1))
     (demand-one s q (Sent n rowCount rangeCount) rows rows′ ranges ranges′ out out′ h .gets)
 
--- ---- the count and the mark that a bench reads, and lists with nothing in them
-
-abbrev countIn : ReadAnswer → ℕ
-countIn (read.Is x) = x .count
-countIn (read.Refused r) = 0
-
-abbrev markIn : ReadAnswer → Bool
-markIn (read.Is x) = x .partial
-markIn (read.Refused r) = false
+-- ---- lists with nothing in them
 
 none-some : (l : List Element) → length l ≡ 0 → isSome l ≡ false
 none-some [] e = refl

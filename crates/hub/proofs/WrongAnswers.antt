@@ -72,7 +72,7 @@ nothing-found : HubFinds 0 [] 0 0 [] [] → ⊥
 unfolding elementFound foundIn storeWalk packageStart startOfLength lengthIs placeOf startHere skip walkFrom nextIs endHere finish headerAt headerOf
 nothing-found h = let z = h .0 in omega arith
 
--- kind 0 is a store: of one without elements 9 is told, and not 7, as of an answer without its version
+-- kind 0 is a store: of one without elements 9 is told, and not 7, as these bytes would give if they were read as an answer
 store-as-answer : HubFinds 0 (0xAC ∷ 0x02 ∷ 0x00 ∷ 0x55 ∷ []) 0 7 [] [] → ⊥
 unfolding elementFound elementIn foundIn storeWalk packageStart startOfLength lengthIs placeOf startHere skip walkFrom nextIs endHere finish headerAt headerOf sized startOf endOf lengthAt le
 store-as-answer h = let z = h .0 in omega arith

@@ -1,7 +1,7 @@
 -- The GUID of a specialized knowledge, read from its data run of sixteen bytes, is the GUID that stands at its place, with the same fault
 -- where a byte is missing. Only the proof of `knowledge::read_specialized` needs this.
 -- Assumes nothing.
-use mathlib.Core.Path.{_≡_, refl, sym, ap, _∙_}
+use mathlib.Core.Path.{_≡_, refl, ap, _∙_}
 use mathlib.Core.Bool.{true}
 use mathlib.Core.List.{List}
 use Prim.Native.Nat.{ℕ, _+_, _-_, _≤_, _<_}
@@ -9,16 +9,15 @@ use native.Mathlib.Nat.{add-zero}
 use native.Mathlib.Omega.{arith}
 use lib.ListN.{length, take, drop, length-take, length-drop}
 use lib.Seq.{take-take, length-take-le}
-use lib.Dec.{ltb, eqb}
-use borrow.Author.Tests.{lt-ltb, le-ltb, ltb-true, ltb-false, eqb-true}
-use Rattle.laws.proofs.Cases.{by-bool, by-lt, pick-all}
+use lib.Dec.{eqb}
+use borrow.Author.Tests.{lt-ltb, le-ltb, eqb-true}
+use Rattle.laws.proofs.Cases.{by-lt, pick-all}
 use Rattle.laws.proofs.Parts.{same-part}
 use Rattle.numbers.specs.Guid.{guidAt}
 use Rattle.numbers.specs.Refusals.{faultAt}
 use Rattle.objects.specs.Steps.{guidHere, onGuid, runHere, closedAt, closed, lengthIs, startHere, startOfLength, placeOf, Good}
 use Rattle.objects.specs.declared.reading.Reading.{Reading}
 use Rattle.objects.specs.declared.reading.Reading.the-variants.{At, Refused}
-use Rattle.objects.specs.declared.reading.ReadingGuid.{ReadingGuid}
 use Rattle.objects.specs.declared.reading.ReadingGuid.the-variants as guid′
 use Rattle.objects.proofs.Keep.{good-front, good-guid}
 use Rattle.store.specs.Knowledge.{guidField, isCell, specializedGuid}

@@ -12,7 +12,6 @@ use Rattle.laws.specs.Pick.{pick}
 use Rattle.laws.specs.Loop.{Turn, iterate}
 use Rattle.laws.specs.Loop.Turn.{more, done}
 use Rattle.numbers.specs.Refusals.{Told, gives, refuses, faultAt}
-use Rattle.numbers.specs.Guid.{swapped}
 use Rattle.numbers.specs.declared.guid.Guid.{Guid}
 use Rattle.numbers.specs.declared.serial.Serial.the-variants as number
 use Rattle.objects.specs.Steps.{placeOf, valueOf, need, guidHere, onGuid, serialHere, onSerial, startHere, startOfLength, runHere, closed, endHere, nextIs, inside}
@@ -23,7 +22,7 @@ use Rattle.objects.specs.declared.reading.ReadingGuid.{ReadingGuid}
 use Rattle.objects.specs.declared.reading.ReadingGuid.the-variants as guid′
 use Rattle.objects.specs.declared.reading.ReadingSerial.{ReadingSerial}
 use Rattle.objects.specs.declared.reading.ReadingSerial.the-variants as serial′
-use Rattle.talk.specs.Ranges.{holds, insert, Normal}
+use Rattle.talk.specs.Ranges.{insert, Normal}
 use Rattle.talk.specs.declared.range.Range.{Range}
 use Rattle.ranges.specs.Ranged.{rangeOf}
 use Rattle.ranges.specs.RangeTable.{rangesAt, laidRanges}

@@ -168,8 +168,8 @@ pub fn answer(rows: usize, c: Reading) -> ReadKnowledge
 }
 
 // The knowledge that begins here, inside an open object of type `outer`, with so many levels inside a specialized knowledge
-// of another kind: 12 in a request, where four objects are open there. The table then holds its ranges in normal form; on a refusal, those before the fault. Ruled out
-// (proofs/KnowledgeWrongAnswers), of `84 00 41`: one row; a number of the table put to 0.
+// of another kind: 12 in a request, where four objects are open there. The table then holds its ranges in normal form; on a refusal,
+// those before the fault. Ruled out (proofs/KnowledgeWrongAnswers), of `84 00 41`: one row; a number of the table put to 0.
 pub fn read_knowledge(
     s: &[u8],
     c: Reading,

@@ -21,12 +21,12 @@ use objects::reading::Reading;
 // At most so many elements, and so many levels inside one.
 pub const MOST_ELEMENTS: usize = 256;
 
+pub const LEVELS_INSIDE: usize = 14;
+
 // The numbers of the working tables: six for the row of an element, three for its id.
 pub const ROW_NUMBERS: usize = 1536;
 
 pub const ID_NUMBERS: usize = 768;
-
-pub const LEVELS_INSIDE: usize = 14;
 
 // How many elements a package holds, and the place behind its end.
 pub enum Packaged {
