@@ -33,6 +33,13 @@ other-type h =
     let z : _≡_ {A = List ℕ} (0x2F ∷ 0 ∷ 4 ∷ 4 ∷ []) (0x4F ∷ 0 ∷ 4 ∷ 4 ∷ []) = ap (λ (t : Told). t .values) h in
     let y : _≡_ {A = ℕ} 0x2F 0x4F = cc in omega arith
 
+-- `0C 56` has 43 bytes of data: its second byte is twice that, with the type's highest bit lowest
+twice-the-length : ReadsHeader (0x0C ∷ 0x56 ∷ []) (Start 1 true 86 2) → ⊥
+unfolding single wholeHeader headerOf sized startOf lengthAt le
+twice-the-length h =
+    let z : _≡_ {A = List ℕ} (1 ∷ 1 ∷ 86 ∷ 2 ∷ []) (1 ∷ 1 ∷ 43 ∷ 2 ∷ []) = ap (λ (t : Told). t .values) h in
+    let y : _≡_ {A = ℕ} 86 43 = cc in omega arith
+
 -- the true length that `02 00 FE FF` lacks would stand at 4, not at 0
 lacks-at-front : ReadsHeader (0x02 ∷ 0x00 ∷ 0xFE ∷ 0xFF ∷ []) (Refused (faultAt 2 0)) → ⊥
 unfolding single wholeHeader headerOf sized startOf lengthAt le readCompact formAt
@@ -74,6 +81,11 @@ end-left-out h = let z : _≡_ {A = ℕ} 3 2 = cc in omega arith
 too-deep : objectAt (0x0C ∷ 0x00 ∷ 0x05 ∷ []) 0 0 ≡ passed.To 3 → ⊥
 unfolding objectAt objectD dataPast lengthAt headerAt headerOf sized startOf endOf le iterate turns
 too-deep h = impossible (cc)
+
+-- with one level left it is taken, and not refused one level before the depth
+one-level-less : objectAt (0x0C ∷ 0x00 ∷ 0x05 ∷ []) 0 1 ≡ passed.Refused (faultAt 6 0) → ⊥
+unfolding objectAt objectD dataPast lengthAt headerAt headerOf sized startOf endOf le iterate turns
+one-level-less h = impossible (cc)
 
 -- ---- read_run
 

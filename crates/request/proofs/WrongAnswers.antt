@@ -45,3 +45,13 @@ no-limit h = let z : _≡_ {A = ℕ} 0 0xFFFFFFFFFFFFFFFF = ap (λ (r : Request)
 constraint-missed : ReadsRequest shortest (7 ∷ []) (Refused (inRequest (faultAt 5 41))) (7 ∷ []) → ⊥
 unfolding requestKnowing knowledgePart versions userAgent subRequestFields subRequest queryChanges argumentFields arguments constraint packagePart identified constrainedFrom filtersFrom ended requestAnswer requestIn number numberIs nullId need valueOf fixedIn valued skip startHere lengthIs startOfLength runHere closedAt inside endHere nextIs finish placeOf headerAt headerOf sized startOf endOf lengthAt runAt iterate turns readCompact formAt readForm compact.valueOf sizeOf readExtendedGuid formOfId trailingZeros le
 constraint-missed h = let z : _≡_ {A = ℕ} 5 0 = ap (λ (r : Request). tellRequest r .number) (h .0) in omega arith
+
+-- with the low flag bit alone it is refused with 8, and not read: both must be set
+abbrev one-flag : List ℕ
+one-flag =
+    0x0C ∷ 0x00 ∷ 0x0B ∷ 0x00 ∷ 0x9C ∷ 0xCF ∷ 0x29 ∷ 0xF3 ∷ 0x39 ∷ 0x94 ∷ 0x06 ∷ 0x9B ∷ 0x06 ∷ 0x02 ∷ 0x00 ∷ 0x00 ∷ 0xEE ∷ 0x02 ∷ 0x00 ∷ 0x00 ∷ 0x77 ∷ 0x01 ∷ 0x16 ∷ 0x02 ∷ 0x06 ∷ 0x00 ∷ 0x03 ∷ 0x05 ∷ 0x00 ∷ 0x8A ∷ 0x02 ∷ 0x02 ∷ 0x00 ∷ 0x00 ∷ 0xDA ∷ 0x02 ∷ 0x06 ∷ 0x00 ∷ 0x01 ∷ 0x00 ∷ 0x00 ∷ 0x0B ∷ 0x01 ∷ 0x03 ∷ 0x01 ∷ []
+
+one-flag-enough : (id limit place count known : ℕ) → ReadsRequest one-flag (7 ∷ []) (Asked id limit place count known) (7 ∷ []) → ⊥
+unfolding requestKnowing knowledgePart versions userAgent subRequestFields subRequest queryChanges argumentFields arguments constraint packagePart identified constrainedFrom filtersFrom ended requestAnswer requestIn number numberIs nullId need valueOf fixedIn valued skip startHere lengthIs startOfLength runHere closedAt inside endHere nextIs finish placeOf headerAt headerOf sized startOf endOf lengthAt runAt iterate turns readCompact formAt readForm compact.valueOf sizeOf readExtendedGuid formOfId trailingZeros le
+one-flag-enough id limit place count known h =
+    let z : _≡_ {A = ℕ} 0 8 = ap (λ (r : Request). tellRequest r .number) (h .0) in omega arith
