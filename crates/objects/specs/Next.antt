@@ -1,5 +1,5 @@
--- What stands at a place of a run, an object from there, and what a run meets. Only the code of `header`, `layout` and `nesting` needs this: that a run is what document 01 says
--- stands in Nesting.antt, and nothing here adds to it, so a reader of the promises can skip it.
+-- What stands at a place of a run, an object from there, and what a run meets. Only the code of `header`, `layout` and `nesting` needs
+-- this: that a run is what document 01 says stands in Nesting.antt, and nothing here adds to it, so a reader of the promises can skip it.
 -- Assumes nothing.
 use Prim.Native.Nat.{ℕ, _+_, _-_, _/_, _%_}
 use mathlib.Core.Bool.{Bool, false}
