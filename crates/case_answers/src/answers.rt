@@ -9,7 +9,7 @@ use numbers::refusal::Refusal;
 use pages::answer::Answered;
 use pages::answer::answer;
 use store::knowledge::MOST_RANGES;
-use store::package::MOST_ELEMENTS;
+use store::table::MOST_ELEMENTS;
 
 // How many numbers a table has that parts are lent of: more than the call needs.
 const TABLE_NUMBERS: usize = 5120;

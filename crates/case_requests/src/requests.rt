@@ -10,11 +10,11 @@ use request::message::Request;
 use request::message::read_request;
 use store::knowledge::MOST_RANGES;
 use store::knowledge::RANGE_NUMBERS;
-use store::package::ID_NUMBERS;
-use store::package::MOST_ELEMENTS;
-use store::package::ROW_NUMBERS;
 use store::package::Stored;
 use store::package::read_store;
+use store::table::ID_NUMBERS;
+use store::table::MOST_ELEMENTS;
+use store::table::ROW_NUMBERS;
 
 // Id, limit, the place of the filters and how many they are, and the n rows of the knowledge; or that numbers were changed
 // behind what its ranges can reach. More ranges than a knowledge may hold count as that.

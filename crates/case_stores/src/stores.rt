@@ -9,11 +9,11 @@ use numbers::refusal::Refusal;
 use store::accessor::Found;
 use store::accessor::element_bytes;
 use store::accessor::find_element;
-use store::package::ID_NUMBERS;
-use store::package::MOST_ELEMENTS;
-use store::package::ROW_NUMBERS;
 use store::package::Stored;
 use store::package::read_store;
+use store::table::ID_NUMBERS;
+use store::table::MOST_ELEMENTS;
+use store::table::ROW_NUMBERS;
 
 // What every number of a table holds before a case lends it.
 pub const UNTOUCHED: u64 = 0xA5A5A5A5A5A5A5A5;

@@ -15,13 +15,13 @@ use Rattle.objects.specs.declared.reading.Reading.{Reading}
 use Rattle.objects.specs.declared.reading.Reading.the-variants.{At, Refused}
 use Rattle.objects.proofs.Forward.{Past, behind-place}
 use Rattle.store.specs.Accessor.{elementIn}
-use Rattle.store.specs.Store.{packagedOf, laidRows}
+use Rattle.store.specs.Store.{packagedOf, laidRows, laidIds}
 use Rattle.store.specs.declared.accessor.Found.the-variants as found
 use Rattle.store.specs.declared.package.Packaged.the-variants as packaged
 use Rattle.store.proofs.KnowledgeCarry.{carries-knowledge}
 use Rattle.store.proofs.KnowledgeHeld.{knowledge-past}
 use Rattle.client.specs.Read.{longestAnswer, packageIn, subResponse, changes, knowledgeIn, endsOf, markAt, knowledgeEnd, receivedFrom, restOf, answerEnd, answerOn, answerIn}
-use Rattle.client.specs.Accessor.{receivedAt, rowsReceived}
+use Rattle.client.specs.Accessor.{receivedAt, rowsReceived, idsReceived}
 use Rattle.client.specs.declared.answer.Received.{Received}
 use Rattle.client.specs.declared.answer.ReadAnswer.the-variants as answer
 
@@ -101,3 +101,7 @@ answer-is s x h =
 pub rows-received : (s t : List ℕ) → length s ≤ longestAnswer → rowsReceived s t ≡ laidRows (packageIn s) t
 unfolding rowsReceived
 rows-received s t h = rw (le-ltb longestAnswer (length s) h)
+
+pub ids-received : (s t : List ℕ) → length s ≤ longestAnswer → idsReceived s t ≡ laidIds (packageIn s) t
+unfolding idsReceived
+ids-received s t h = rw (le-ltb longestAnswer (length s) h)

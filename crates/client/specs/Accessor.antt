@@ -9,7 +9,7 @@ use lib.Dec.{ltb}
 use lib.ListN.{length}
 use Rattle.laws.specs.Pick.{pick}
 use Rattle.store.specs.Accessor.{foundOn, tellFound, bytesAt}
-use Rattle.store.specs.Store.{laidRows}
+use Rattle.store.specs.Store.{laidRows, laidIds}
 use Rattle.store.specs.declared.accessor.Found.{Found}
 use Rattle.client.specs.Read.{longestAnswer, packageIn, answerEnd}
 
@@ -23,7 +23,10 @@ FindsReceived s i r = tellFound r ≡ tellFound (receivedAt s i)
 unfoldable pub receivedBytes : List ℕ → ℕ → List ℕ
 receivedBytes s i = bytesAt s (receivedAt s i)
 
--- ---- as the code has it: the rows of the elements stand in a working table, if the answer is not over-long
+-- ---- as the code has it: the rows and ids of the elements stand in working tables, if the answer is not over-long
 
 unfoldable pub rowsReceived : List ℕ → List ℕ → List ℕ
 rowsReceived s t = pick (ltb longestAnswer (length s)) t (laidRows (packageIn s) t)
+
+unfoldable pub idsReceived : List ℕ → List ℕ → List ℕ
+idsReceived s t = pick (ltb longestAnswer (length s)) t (laidIds (packageIn s) t)

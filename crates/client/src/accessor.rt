@@ -6,8 +6,9 @@ use crate::answer::read_rows;
 use numbers::refusal::at_place;
 use objects::layout::part;
 use store::accessor::Found;
-use store::package::ID_NUMBERS;
-use store::package::ROW_NUMBERS;
+use store::table::ID_NUMBERS;
+use store::table::ROW_NUMBERS;
+use store::table::element_in_row;
 
 // Where the element at a position stands: the answer's faults first, then 9 for a position at or past the count. Ruled out
 // (proofs/WrongAnswers), of no bytes: 9, which comes behind the answer's faults; an element at their front. Of an answer that holds
@@ -23,8 +24,8 @@ pub fn find_received(s: &[u8], position: usize) -> Found
             if x.count <= position {
                 return Found::Refused(at_place(9, 0));
             }
-            let at = position * 6;
-            Found::At(rows[at] as usize, rows[at + 1] as usize)
+            let e = element_in_row(&rows, &ids, position);
+            Found::At(e.place, e.length)
         }
     }
 }

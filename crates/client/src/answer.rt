@@ -1,7 +1,7 @@
 // An answer read whole: a function for each part, in the order of document 01's answer bytes.
 ghost use mathlib.Core.Path.{_≡_};
 ghost use Rattle.client.specs.Read.{statusByte, responseFields, responseStart, subResponseFields, subResponse, changesFields, idIn, endsOf, answerOn, receivedFrom, restOf, answerIn, ReadsAnswer};
-ghost use Rattle.client.specs.Accessor.{rowsReceived};
+ghost use Rattle.client.specs.Accessor.{rowsReceived, idsReceived};
 use numbers::extended_guid::ExtendedGuid;
 use numbers::refusal::Refusal;
 use numbers::refusal::at_place;
@@ -16,11 +16,11 @@ use request::message::on_knowledge;
 use request::message::versions;
 use store::knowledge::RANGE_NUMBERS;
 use store::knowledge::read_knowledge;
-use store::package::ID_NUMBERS;
 use store::package::Packaged;
-use store::package::ROW_NUMBERS;
 use store::package::package_start;
 use store::package::read_package;
+use store::table::ID_NUMBERS;
+use store::table::ROW_NUMBERS;
 
 // An answer that is longer is refused with 1.
 pub const LONGEST_ANSWER: usize = 16842752;
@@ -140,7 +140,7 @@ pub(crate) fn read_rows(
     rows: &mut [u64; ROW_NUMBERS],
     ids: &mut [u64; ID_NUMBERS],
 ) -> ReadAnswer
-    ensures { λ r. ⌜ (r ≡ answerIn (now (s .entry))) × (now (rows .exit) ≡ rowsReceived (now (s .entry)) (now (rows .entry))) ⌝ }
+    ensures { λ r. ⌜ (r ≡ answerIn (now (s .entry))) × (now (rows .exit) ≡ rowsReceived (now (s .entry)) (now (rows .entry))) × (now (ids .exit) ≡ idsReceived (now (s .entry)) (now (ids .entry))) ⌝ }
 {
     if LONGEST_ANSWER < s.len() {
         return ReadAnswer::Refused(at_place(1, LONGEST_ANSWER));

@@ -22,6 +22,7 @@ use report::put_report;
 use report::refuse;
 use store::accessor::Found;
 use store::accessor::find_element;
+use store::table::ROW_NUMBERS;
 
 // One answer to one request: 0 if the output has it, else the refusal's number. The report tells the rest. Ruled out
 // (proofs/WrongAnswers), of no store and no request: 0; a report of one byte that is written to.
@@ -29,7 +30,7 @@ use store::accessor::find_element;
 pub extern "C" fn hub_answer(store: &[u8], request: &[u8], out: &mut [u8], report: &mut [u8]) -> u64
     ensures { λ r. ⌜ HubAnswers (now (store .entry)) (now (request .entry)) r (now (out .entry)) (now (out .exit)) (now (report .entry)) (now (report .exit)) ⌝ }
 {
-    let mut rows = [0u64; 1536];
+    let mut rows = [0u64; ROW_NUMBERS];
     let mut ranges = [0u64; 2048];
     match answer(store, request, &mut rows, &mut ranges, out) {
         Answered::Refused(r) => refuse(report, r),

@@ -16,15 +16,16 @@ use Rattle.talk.specs.Wanted.{keep, isWanted, wanted}
 use Rattle.talk.specs.declared.range.Range.{Range}
 use Rattle.store.specs.declared.element.Element.{Element}
 use Rattle.request.specs.Meaning.{Filter, leftIn, letsIn}
-use Rattle.request.specs.Choice.{elementOf, elementsFrom, flagOf, flagsOf, setFlags}
-use Rattle.request.proofs.Elements.{elements-turn, elements-end}
+use Rattle.store.specs.Tables.{elementInRow, elementsInRows}
+use Rattle.request.specs.Choice.{flagOf, flagsOf, setFlags}
+use Rattle.store.proofs.Elements.{elements-turn, elements-end}
 use Rattle.pages.specs.Choice.{isKnown, wantedIn}
 use Rattle.pages.specs.Tables.{chosen, chosenIn}
 
 -- ---- those of the rows from i on
 
 abbrev pub chosenFrom : List ℕ → List ℕ → ℕ → List ℕ → ℕ → List Element
-chosenFrom rows ids n flags i = chosen (elementsFrom rows ids i (n - i)) (drop i flags)
+chosenFrom rows ids n flags i = chosen (elementsInRows rows ids i (n - i)) (drop i flags)
 
 pub chosen-start : (rows ids : List ℕ) (n : ℕ) (flags : List ℕ) → chosenIn rows ids n flags ≡ chosenFrom rows ids n flags 0
 chosen-start rows ids n flags =
@@ -32,14 +33,14 @@ chosen-start rows ids n flags =
     rw e
 
 module _ (rows ids : List ℕ) (n : ℕ) (flags : List ℕ) (i : ℕ) (h : i < n) (g : i < length flags) where
-  chosen-turn : chosenFrom rows ids n flags i ≡ pick (eqb (getD flags i 0) 0) (chosenFrom rows ids n flags (i + 1)) (elementOf rows ids i ∷ chosenFrom rows ids n flags (i + 1))
+  chosen-turn : chosenFrom rows ids n flags i ≡ pick (eqb (getD flags i 0) 0) (chosenFrom rows ids n flags (i + 1)) (elementInRow rows ids i ∷ chosenFrom rows ids n flags (i + 1))
   unfolding chosen
   chosen-turn = rw (elements-turn rows ids i n h, drop-cons flags i 0 g, add-one i)
 
   pub chosen-not : getD flags i 0 ≡ 0 → chosenFrom rows ids n flags i ≡ chosenFrom rows ids n flags (i + 1)
   chosen-not e = chosen-turn ∙ rw (eq-eqb (getD flags i 0) 0 e)
 
-  pub chosen-one : (getD flags i 0 ≡ 0 → ⊥) → {x : Element} → x ≡ elementOf rows ids i → chosenFrom rows ids n flags i ≡ x ∷ chosenFrom rows ids n flags (i + 1)
+  pub chosen-one : (getD flags i 0 ≡ 0 → ⊥) → {x : Element} → x ≡ elementInRow rows ids i → chosenFrom rows ids n flags i ≡ x ∷ chosenFrom rows ids n flags (i + 1)
   chosen-one e x-is = chosen-turn ∙ rw (ne-eqb (getD flags i 0) 0 e, x-is)
 
 pub chosen-none : (rows ids : List ℕ) (n : ℕ) (flags : List ℕ) (i : ℕ) → n ≤ i → chosenFrom rows ids n flags i ≡ []

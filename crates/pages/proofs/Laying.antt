@@ -9,7 +9,7 @@ use lib.Seq.{take-nil}
 use Rattle.laws.specs.Placed.{laid, Lays}
 use Rattle.laws.proofs.Placing.{laid-nothing, lays-first}
 use Rattle.store.specs.declared.element.Element.{Element}
-use Rattle.request.specs.Choice.{elementOf}
+use Rattle.store.specs.Tables.{elementInRow}
 use Rattle.pages.specs.Written.{storedBytes, elementsBytes}
 use Rattle.pages.specs.Tables.{chosenIn}
 use Rattle.pages.proofs.Chosen.{chosenFrom, chosen-start, chosen-not, chosen-one, chosen-none}
@@ -54,26 +54,26 @@ module _ {s rows ids : List ℕ} {n : ℕ} {flags : List ℕ} {behind : ℕ} {to
       }
 
   taken : i < n → (getD flags i 0 ≡ 0 → ⊥) → (left ≡ 0 → ⊥)
-      → toLay s rows ids n flags left i ≡ storedBytes s (elementOf rows ids i) ++ toLay s rows ids n flags (left - 1) (i + 1)
+      → toLay s rows ids n flags left i ≡ storedBytes s (elementInRow rows ids i) ++ toLay s rows ids n flags (left - 1) (i + 1)
   unfolding elementsBytes
   taken h f z =
       ap (elementsBytes s)
-      (ap (take left) (chosen-one rows ids n flags i h (omega arith) f refl) ∙ take-one left (elementOf rows ids i) (chosenFrom rows ids n flags (i + 1)) z)
+      (ap (take left) (chosen-one rows ids n flags i h (omega arith) f refl) ∙ take-one left (elementInRow rows ids i) (chosenFrom rows ids n flags (i + 1)) z)
 
   -- there is room for the next
-  pub laying-fits : i < n → (getD flags i 0 ≡ 0 → ⊥) → (left ≡ 0 → ⊥) → p + length (storedBytes s (elementOf rows ids i)) ≤ length out
+  pub laying-fits : i < n → (getD flags i 0 ≡ 0 → ⊥) → (left ≡ 0 → ⊥) → p + length (storedBytes s (elementInRow rows ids i)) ≤ length out
   laying-fits h f z =
       let a = ap length (taken h f z) in
-      let b = length-append (storedBytes s (elementOf rows ids i)) (toLay s rows ids n flags (left - 1) (i + 1)) in
+      let b = length-append (storedBytes s (elementInRow rows ids i)) (toLay s rows ids n flags (left - 1) (i + 1)) in
       let d = u .place in
       let e = u .room in
       omega arith
 
   pub laying-taken : (q : ℕ) (d : List ℕ) → i < n → (getD flags i 0 ≡ 0 → ⊥) → (left ≡ 0 → ⊥) → length d ≡ length out
-      → Lays p (storedBytes s (elementOf rows ids i)) out q d
+      → Lays p (storedBytes s (elementInRow rows ids i)) out q d
       → Laying s rows ids n flags behind told d q (left - 1) (i + 1)
   laying-taken q d h f z l y =
-      let x = storedBytes s (elementOf rows ids i) in
+      let x = storedBytes s (elementInRow rows ids i) in
       let w = toLay s rows ids n flags left i in
       let r = toLay s rows ids n flags (left - 1) (i + 1) in
       let a = ap length (taken h f z) in

@@ -2,30 +2,26 @@
 -- Assumes nothing.
 use mathlib.Core.Path.{_≡_, refl, sym, ap, fun-ext, _∙_}
 use mathlib.Core.Bool.{Bool}
-use mathlib.Core.List.{List, _++_}
-use Prim.Native.Nat.{ℕ, _+_, _*_, _≤_}
-use lib.ListN.{length, take, drop}
+use mathlib.Core.List.{List}
+use Prim.Native.Nat.{ℕ, _+_, _≤_}
+use lib.ListN.{length, take}
 use lib.Dec.{ltb}
-use Rattle.laws.specs.Placed.{Lays}
-use Rattle.laws.proofs.Placing.{laid-front}
 use Rattle.numbers.specs.Refusals.{faultAt, tooShort}
-use Rattle.objects.specs.declared.reading.Reading.the-variants.{At}
+use Rattle.numbers.specs.declared.extended_guid.ExtendedGuid.{ExtendedGuid}
 use Rattle.talk.specs.Wanted.{wanted}
 use Rattle.talk.proofs.Things.{each-first, each-kept, each-so}
 use Rattle.ranges.specs.RangeTable.{rangesAt}
 use Rattle.store.specs.Store.{storeWalk}
 use Rattle.store.specs.declared.element.Element.{Element}
 use Rattle.ranges.proofs.RangeRows.{length-rows}
-use Rattle.request.specs.Choice.{elementsIn, flagsOf, setFlags}
-use Rattle.request.specs.Meaning.{filtersRead, letsIn}
+use Rattle.store.specs.Tables.{elementsIn}
 use Rattle.request.specs.Message.{filtersOf}
-use Rattle.pages.specs.Choice.{isKnown, wantedIn, storageIndex, rangesWith, storedLength}
+use Rattle.pages.specs.Choice.{wantedIn, storageIndex, rangesWith, storedLength}
 use Rattle.pages.specs.Decision.{decision}
 use Rattle.pages.specs.Written.{answerBytes}
 use Rattle.pages.specs.Tables.{takenIn, fixedLength, StoreHeld, chosenIn, tableMeasure, Decides}
-use Rattle.pages.specs.Answer.{rangeRows, Ask, pageRanges, pageBytes, pageMeasure, onDecided, pageDecided, pageOutcome, knownIn, told, rowsAfter, rangesAfter, outputAfter, Gives}
-use Rattle.pages.specs.Held.{RequestHeld, askIn, knownAfter}
-use Rattle.pages.specs.declared.page.Bounds.{Bounds}
+use Rattle.pages.specs.Answer.{Ask, pageRanges, pageBytes, pageMeasure, onDecided, pageDecided, pageOutcome, knownIn, told, rowsAfter, rangesAfter, outputAfter, Gives}
+use Rattle.pages.specs.Held.{RequestHeld, askIn, wantedFlags, boundsFor, knownAfter, PageSent}
 use Rattle.pages.specs.declared.page.Decided.{Decided}
 use Rattle.pages.specs.declared.page.Decided.the-variants.{Sent, Crowded, Short}
 use Rattle.pages.specs.declared.answer.Asked.{Asked}
@@ -59,15 +55,15 @@ module _ (s q : List ℕ) (a : Asked) (rows ids known : List ℕ) (n : ℕ) (h :
   -- ---- the flags, and the decision
 
   pub flags-wanted : (flags d : List ℕ)
-      → flags ≡ setFlags (isKnown (rangesAt known 0 (a .known))) 0 (elementsIn rows ids n) (flagsOf (letsIn (filtersRead (a .count) q (At (a .place) 0)) (elementsIn rows ids n)) ++ d)
+      → flags ≡ wantedFlags q a (rangesAt known 0 (a .known)) (elementsIn rows ids n) d
       → chosenIn rows ids n flags ≡ ask .wanted
   flags-wanted flags d e = rw (e, h .held, g .held, g .filters) (chosen-are-wanted (filtersOf q) (knownIn q) (storeWalk s .elements) d)
 
-  pub page-decided : (room : ℕ) (w : List Element) (b : Bounds) (r : Decided) (t : List ℕ) → w ≡ ask .wanted → Decides w (rangesAt known 0 (a .known)) b r known t
-      → b ≡ record { most = 512; limit = a .limit; fixed = fixedLength (a .id) (storageIndex (storeWalk s .elements)); room = room }
+  pub page-decided : (room : ℕ) (w : List Element) (index : ExtendedGuid) (r : Decided) (t : List ℕ) → w ≡ ask .wanted
+      → Decides w (rangesAt known 0 (a .known)) (boundsFor a index room) r known t → index ≡ storageIndex (storeWalk s .elements)
       → (r ≡ pageDecided ask room) × (t ≡ knownAfter ask room known)
   unfolding pageDecided
-  page-decided room w b r t e d c =
+  page-decided room w index r t e d c =
       let l = g .held in
       let f : r ≡ decision 512 (a .limit) room (pageMeasure ask) (length (ask .wanted)) = rw (e, l, c, measure-same) at (d .0) in
       (f, rw (e, l, f) at (d .1))
@@ -123,15 +119,14 @@ module _ (s q : List ℕ) (a : Asked) (rows ids known : List ℕ) (n : ℕ) (h :
       unfolding pageMeasure pageRanges rangesWith
       sent-few = let z : length (knownIn q) ≤ 512 = rw (← known-count) (g .most) in rw (sent-is .ranges-are) (sent-is .carries z)
 
-      pub page-sent : (behind : ℕ) (rows′ ranges′ out′ : List ℕ)
-          → Lays 0 (answerBytes s (a .id) (storageIndex (storeWalk s .elements)) (take k w) more (rangesAt t 0 count)) out behind out′
-          → rows′ ≡ take (n * 6) rows ++ drop (n * 6) rows₀ → ranges′ ≡ rangeRows (rangesAt t 0 count) ++ drop (count * 4) ranges₀
+      pub page-sent : (rows′ ranges′ out′ : List ℕ)
+          → PageSent (answerBytes s (a .id) (storageIndex (storeWalk s .elements)) (take k w) more (rangesAt t 0 count)) rows n t count out out′ rows₀ rows′ ranges₀ ranges′
           → Gives (pageOutcome ask (length out)) (answer.Sent whole n count) rows₀ rows′ ranges₀ ranges′ out out′
       unfolding pageOutcome onDecided told rowsAfter rangesAfter outputAfter
-      page-sent behind rows′ ranges′ out′ l x y =
+      page-sent rows′ ranges′ out′ l =
           rw (← f, e) (
             rw (← whole-is, ← count-is, h .count),
-            x ∙ rw (h .rows-are, h .count),
-            y ∙ rw (ranges-sent, count-is),
-            l .1 ∙ rw sent-bytes (laid-front (pageBytes ask k) out),
+            l .1 ∙ rw (h .rows-are, h .count),
+            l .2 ∙ rw (ranges-sent, count-is),
+            l .0 ∙ rw sent-bytes,
           )

@@ -23,6 +23,7 @@ use Rattle.request.specs.declared.message.Request.the-variants as request
 use Rattle.request.proofs.FaultNumbers.{request-number}
 use Rattle.request.proofs.Whole.{over-long-read}
 use Rattle.pages.specs.Decision.{decision}
+use Rattle.store.specs.Tables.{rowNumbers}
 use Rattle.pages.specs.Answer.{Ask, Outcome, refused, answered, numberIn, pageRanges, pageBytes, pageMeasure, onDecided, pageDecided, pageOutcome, askOf, onRequest, onStore, outcome, answerOf}
 use Rattle.pages.specs.Cases.{Asks, OverLong, smallest, TooShort, Sends}
 use Rattle.pages.specs.declared.page.Decided.{Decided}
@@ -65,14 +66,14 @@ asked-outcome s q a room h = stored-on s q room (storeWalk s .last) (h .store-re
 
 -- ---- 13: "store table under 1,536 numbers or knowledge table under 2,048"
 
-pub thirteen-if : (s q : List ℕ) (rows ranges room : ℕ) → (rows < 1536) ⊎ (ranges < 2048) → answerOf s q rows ranges room ≡ refused (faultAt 13 0)
+pub thirteen-if : (s q : List ℕ) (rows ranges room : ℕ) → (rows < rowNumbers) ⊎ (ranges < 2048) → answerOf s q rows ranges room ≡ refused (faultAt 13 0)
 unfolding answerOf
-thirteen-if s q rows ranges room (inl h) = rw (lt-ltb rows 1536 h)
-thirteen-if s q rows ranges room (inr h) = by-lt rows 1536 (λ l. rw (lt-ltb rows 1536 l)) (λ l. rw (le-ltb rows 1536 l, lt-ltb ranges 2048 h))
+thirteen-if s q rows ranges room (inl h) = rw (lt-ltb rows rowNumbers h)
+thirteen-if s q rows ranges room (inr h) = by-lt rows rowNumbers (λ l. rw (lt-ltb rows rowNumbers l)) (λ l. rw (le-ltb rows rowNumbers l, lt-ltb ranges 2048 h))
 
-pub tables-fine : (s q : List ℕ) (rows ranges room : ℕ) → 1536 ≤ rows → 2048 ≤ ranges → answerOf s q rows ranges room ≡ outcome s q room
+pub tables-fine : (s q : List ℕ) (rows ranges room : ℕ) → rowNumbers ≤ rows → 2048 ≤ ranges → answerOf s q rows ranges room ≡ outcome s q room
 unfolding answerOf
-tables-fine s q rows ranges room h g = rw (le-ltb rows 1536 h, le-ltb ranges 2048 g)
+tables-fine s q rows ranges room h g = rw (le-ltb rows rowNumbers h, le-ltb ranges 2048 g)
 
 -- the other refusals have other numbers
 fault-number : (s : List ℕ) (r : Refusal) → storeWalk s .last ≡ reading.Refused r → (1 ≤ r .number) × (r .number ≤ 12)
@@ -95,9 +96,9 @@ never-thirteen-on s q room _ (page a x) h =
 pub never-thirteen : (s q : List ℕ) (room : ℕ) → numberIn (outcome s q room) ≡ 13 → ⊥
 never-thirteen s q room h = never-thirteen-on s q room (outcome s q room) (course s q room) h
 
-pub thirteen-only-if : (s q : List ℕ) (rows ranges room : ℕ) → numberIn (answerOf s q rows ranges room) ≡ 13 → (rows < 1536) ⊎ (ranges < 2048)
+pub thirteen-only-if : (s q : List ℕ) (rows ranges room : ℕ) → numberIn (answerOf s q rows ranges room) ≡ 13 → (rows < rowNumbers) ⊎ (ranges < 2048)
 thirteen-only-if s q rows ranges room h =
-    by-lt rows 1536 inl
+    by-lt rows rowNumbers inl
     (λ a. by-lt ranges 2048 inr (λ b. absurd (never-thirteen s q room (ap numberIn (sym (tables-fine s q rows ranges room a b)) ∙ h))))
 
 -- ---- 1: "an input is over 16,777,216 bytes"; the request's comes after all of the store's faults

@@ -4,7 +4,7 @@ use mathlib.Core.Path.{_≡_, refl, sym, ap, subst, _∙_}
 use mathlib.Core.List.{List, []}
 use Prim.Native.Nat.{ℕ, zero, suc, _+_, _*_, _^_, _≤_, _<_}
 use native.Mathlib.Omega.{arith}
-use lib.ListN.{length, drop, getD, length-append, length-drop}
+use lib.ListN.{length, drop, length-append, length-drop}
 use lib.Seq.{take-at}
 use Rattle.laws.specs.Bytes.{AllBytes}
 use Rattle.laws.proofs.Cases.{by-lt, impossible}
@@ -14,7 +14,7 @@ use Rattle.objects.specs.declared.reading.Reading.{Reading}
 use Rattle.objects.specs.declared.reading.Reading.the-variants as reading
 use Rattle.talk.specs.Each.{Each}
 use Rattle.store.specs.Store.{storeWalk, storedOf, storeAnswer, WalkedTo, Stands}
-use Rattle.store.specs.Tables.{keyAt, rowOf, idOf, rowsOf, idsOf}
+use Rattle.store.specs.Tables.{rowWidth, idWidth, mostElements, rowNumbers, rowOf, idOf, rowsOf, idsOf, elementInRow, elementsInRows, elementsIn}
 use Rattle.store.specs.declared.element.Element.{Element}
 use Rattle.store.specs.declared.package.Stored.{Stored}
 use Rattle.store.specs.declared.package.Stored.the-variants as stored
@@ -22,11 +22,10 @@ use Rattle.store.proofs.Rows.{length-flat}
 use Rattle.store.proofs.Found.{store-most, store-holds}
 use Rattle.store.proofs.Chains.{over-long, store-read}
 use Rattle.store.proofs.ElementFits.{ElementFits, elements-fit}
-use Rattle.request.specs.Choice.{elementOf, elementsFrom, elementsIn}
 use Rattle.request.specs.Message.{requestIn, ReadsRequest}
 use Rattle.request.specs.declared.message.Request.{Request}
 use Rattle.request.specs.declared.message.Request.the-variants as request
-use Rattle.request.proofs.Elements.{elements-held}
+use Rattle.store.proofs.Elements.{elements-held}
 use Rattle.request.proofs.Whole.{request-table-free, request-held, asked-filters, asked-known}
 use Rattle.pages.specs.Tables.{StoreHeld}
 use Rattle.pages.specs.Answer.{onRequest, onStore, outcome, refused}
@@ -35,8 +34,8 @@ use Rattle.pages.specs.Held.{RequestHeld}
 -- ---- the store
 
 -- what holds of each element holds of the one of row i
-each-at : (P : Element → Type 0) (rows ids : List ℕ) (k n i : ℕ) → i < n → Each P (elementsFrom rows ids k n) → P (elementOf rows ids (k + i))
-unfolding elementsFrom
+each-at : (P : Element → Type 0) (rows ids : List ℕ) (k n i : ℕ) → i < n → Each P (elementsInRows rows ids k n) → P (elementInRow rows ids (k + i))
+unfolding elementsInRows
 each-at P rows ids k zero i h e = absurd (omega arith)
 each-at P rows ids k (suc n) zero h e = let q : k + 0 ≡ k = omega arith in rw q (e .0)
 each-at P rows ids k (suc n) (suc i) h e = let q : k + suc i ≡ suc k + i = omega arith in rw q (each-at P rows ids (suc k) n i (omega arith) (e .1))
@@ -46,57 +45,55 @@ unfolding storedOf
 holds-stands m n (reading.At e v) q = tt
 holds-stands m n (reading.Refused r) q = impossible (cc)
 
-length-rows : (es : List Element) → length (rowsOf es) ≡ length es * 6
-length-rows es = length-flat rowOf 6 (λ x. refl) es
+length-rows : (es : List Element) → length (rowsOf es) ≡ length es * rowWidth
+length-rows es = length-flat rowOf rowWidth (λ x. refl) es
 
-length-ids : (es : List Element) → length (idsOf es) ≡ length es * 3
+length-ids : (es : List Element) → length (idsOf es) ≡ length es * idWidth
 length-ids es = length-flat (λ x. idOf (x .id)) 3 (λ x. refl) es
 
-fits-at : (s rows ids : List ℕ) (i : ℕ) → ElementFits s (elementOf rows ids i) → (getD rows (i * 6) 0 + getD rows (i * 6 + 1) 0 ≤ length s) × (getD ids (i * 3 + 2) 0 < 2 ^ 32)
-unfolding elementOf keyAt
-fits-at s rows ids i h = h
-
-pub store-held : (s rows ids rows′ ids′ : List ℕ) (n : ℕ) → AllBytes s → 1536 ≤ length rows → 768 ≤ length ids
+pub store-held : (s rows ids rows′ ids′ : List ℕ) (n : ℕ) → AllBytes s → rowNumbers ≤ length rows → mostElements * idWidth ≤ length ids
     → WalkedTo (storeWalk s) (stored.Holds n) rows rows′ ids ids′ → StoreHeld s rows′ ids′ n
 store-held s rows ids rows′ ids′ n b h g w =
     let els = storeWalk s .elements in
     let c : length els ≡ n = store-holds s n (sym (w .0)) .0 in
-    let m : length els ≤ 256 = store-most s in
+    let m : length els ≤ mostElements = store-most s in
     let t = holds-stands (length els) n (storeWalk s .last) (sym (w .0)) in
-    let l : elementsIn rows′ ids′ n ≡ els = rw (w .1, w .2, ← c) (elements-held els (drop (length els * 6) rows) (drop (length els * 3) ids)) in
+    let l : elementsIn rows′ ids′ n ≡ els = rw (w .1, w .2, ← c) (elements-held els (drop (length els * rowWidth) rows) (drop (length els * idWidth) ids)) in
     record {
       count = sym c;
       held = l;
-      rows-are = rw (w .1, ← c) (take-at (rowsOf els) (drop (length els * 6) rows) (length els * 6) (length-rows els));
+      rows-are = rw (w .1, ← c) (take-at (rowsOf els) (drop (length els * rowWidth) rows) (length els * rowWidth) (length-rows els));
       most = omega arith;
-      row-room = rw (w .1) (omega (arith, length-append (rowsOf els) (drop (length els * 6) rows), length-rows els, length-drop (length els * 6) rows));
-      id-room = rw (w .2) (omega (arith, length-append (idsOf els) (drop (length els * 3) ids), length-ids els, length-drop (length els * 3) ids));
+      stand = record {
+        row-room = rw (w .1) (omega (arith, length-append (rowsOf els) (drop (length els * rowWidth) rows), length-rows els));
+        id-room = rw (w .2) (omega (arith, length-append (idsOf els) (drop (length els * idWidth) ids), length-ids els));
+      };
       short = by-lt longestInput (length s) (λ k. absurd (over-long s k t)) (λ k. k);
       fits = elements-fit s b (store-read s t);
     }
 
 -- both tables are as long as they were
-pub store-long : (s rows ids rows′ ids′ : List ℕ) (r : Stored) → length rows ≡ 1536 → length ids ≡ 768
-    → WalkedTo (storeWalk s) r rows rows′ ids ids′ → (1536 ≡ length rows′) × (768 ≡ length ids′)
+pub store-long : (s rows ids rows′ ids′ : List ℕ) (r : Stored) → length rows ≡ rowNumbers → length ids ≡ mostElements * idWidth
+    → WalkedTo (storeWalk s) r rows rows′ ids ids′ → (rowNumbers ≡ length rows′) × (mostElements * idWidth ≡ length ids′)
 store-long s rows ids rows′ ids′ r l g w =
     let els = storeWalk s .elements in
-    let m : length els ≤ 256 = store-most s in (
-      rw (w .1) (omega (arith, length-append (rowsOf els) (drop (length els * 6) rows), length-rows els, length-drop (length els * 6) rows)),
-      rw (w .2) (omega (arith, length-append (idsOf els) (drop (length els * 3) ids), length-ids els, length-drop (length els * 3) ids)),
+    let m : length els ≤ mostElements = store-most s in (
+      rw (w .1) (omega (arith, length-append (rowsOf els) (drop (length els * rowWidth) rows), length-rows els, length-drop (length els * rowWidth) rows)),
+      rw (w .2) (omega (arith, length-append (idsOf els) (drop (length els * idWidth) ids), length-ids els, length-drop (length els * idWidth) ids)),
     )
 
 -- row by row: where an element stands, and the number of its id
 module _ {s rows ids : List ℕ} {n : ℕ} (h : StoreHeld s rows ids n) where
-  fits-row : (i : ℕ) → i < n → ElementFits s (elementOf rows ids i)
+  fits-row : (i : ℕ) → i < n → ElementFits s (elementInRow rows ids i)
   fits-row i k =
       let z : 0 + i ≡ i = omega arith in
       rw z at (each-at (ElementFits s) rows ids 0 n i k (subst (Each (ElementFits s)) (sym (h .held)) (h .fits)))
 
-  pub short-row : (i : ℕ) → i < n → getD rows (i * 6 + 1) 0 ≤ 2 ^ 24
-  short-row i k = let a = fits-at s rows ids i (fits-row i k) .0 in let b = h .short in omega arith
+  pub short-row : (i : ℕ) → i < n → elementInRow rows ids i .length ≤ 2 ^ 24
+  short-row i k = let a = fits-row i k .0 in let b = h .short in omega arith
 
-  pub id-row : (i : ℕ) → i < n → getD ids (i * 3 + 2) 0 < 2 ^ 32
-  id-row i k = fits-at s rows ids i (fits-row i k) .1
+  pub id-row : (i : ℕ) → i < n → elementInRow rows ids i .id .number < 2 ^ 32
+  id-row i k = fits-row i k .1
 
 -- the outcome then goes on with the request, or is the store's fault
 store-on : (s q : List ℕ) (room m n : ℕ) (c : Reading) → storedOf m c ≡ stored.Holds n

@@ -14,7 +14,7 @@ use Rattle.objects.specs.declared.reading.Reading.the-variants as reading
 use Rattle.talk.specs.declared.range.Range.{Range}
 use Rattle.store.specs.KnowledgeWritten.{guidOf}
 use Rattle.store.specs.Store.{storeWalk}
-use Rattle.store.specs.Tables.{rowsOf}
+use Rattle.store.specs.Tables.{rowWidth, rowNumbers, rowsOf}
 use Rattle.store.specs.declared.element.Element.{Element}
 use Rattle.request.specs.Message.{filtersOf, requestKnowing, requestIn}
 use Rattle.request.specs.declared.message.Request.{Request}
@@ -110,7 +110,7 @@ outcome s q room = onStore s (storeWalk s .elements) q room (storeWalk s .last)
 -- 13: "store table under 1,536 numbers or knowledge table under 2,048"
 unfoldable pub answerOf : List ℕ → List ℕ → ℕ → ℕ → ℕ → Outcome
 answerOf s q rows ranges room =
-    pick (ltb rows 1536) (refused (faultAt 13 0)) (pick (ltb ranges 2048) (refused (faultAt 13 0)) (outcome s q room))
+    pick (ltb rows rowNumbers) (refused (faultAt 13 0)) (pick (ltb ranges 2048) (refused (faultAt 13 0)) (outcome s q room))
 
 -- ---- what the call answers: "The call returns the answer's length and both row counts"
 
@@ -136,7 +136,7 @@ rangeRows (x ∷ xs) = rangeRow x ++ rangeRows xs
 -- "the store table holds a row per element (place, length, type, serial's GUID as two little-endian numbers, serial's number)"
 unfoldable pub rowsAfter : Outcome → List ℕ → List ℕ
 rowsAfter (refused r) t = t
-rowsAfter (answered w all l) t = rowsOf all ++ drop (length all * 6) t
+rowsAfter (answered w all l) t = rowsOf all ++ drop (length all * rowWidth) t
 
 unfoldable pub rangesAfter : Outcome → List ℕ → List ℕ
 rangesAfter (refused r) t = t

@@ -13,32 +13,31 @@ use Rattle.numbers.specs.ExtendedGuid.{extendedGuidBytes}
 use Rattle.numbers.specs.declared.extended_guid.ExtendedGuid.{ExtendedGuid}
 use Rattle.objects.specs.Header.{endBytes}
 use Rattle.talk.specs.Each.{Each}
-use Rattle.talk.specs.Ranges.{insert}
+use Rattle.talk.specs.Ranges.{insert, Normal}
 use Rattle.talk.specs.declared.range.Range.{Range}
 use Rattle.ranges.specs.RangeTable.{FirstNotBefore, rangesAt, laidRanges}
 use Rattle.store.specs.KnowledgeWritten.{rangesBytes}
 use Rattle.store.specs.Store.{storeWalk}
-use Rattle.store.specs.Tables.{rowsOf}
+use Rattle.store.specs.Tables.{rowWidth, mostElements, RowsStand, rowsOf, elementInRow, elementsIn}
 use Rattle.store.specs.Written.{packageFront}
 use Rattle.store.specs.declared.element.Element.{Element}
-use Rattle.request.specs.Choice.{elementsIn}
 use Rattle.pages.specs.Choice.{serialRange, rangesWith, storedLength}
 use Rattle.pages.specs.Decision.{Measure, decision}
-use Rattle.pages.specs.Written.{versionBytes, answerSignature, responseBytes, subResponseBytes, changesBytes}
+use Rattle.pages.specs.Written.{versionBytes, answerSignature, responseBytes, subResponseBytes, changesBytes, answerBytes}
 use Rattle.pages.specs.declared.page.Bounds.{Bounds}
 use Rattle.pages.specs.declared.page.Decided.{Decided}
 use Rattle.pages.specs.declared.page.Decided.the-variants.{Sent, Crowded, Short}
 use Rattle.pages.specs.declared.price.Price.{Price}
+use Rattle.pages.specs.declared.write.Sending.{Sending}
 
 -- ---- a store that was read: the rows and the ids of its n elements stand in the working tables
 
 pub record StoreHeld (s rows ids : List ℕ) (n : ℕ) : Type 0 where
   pub count : n ≡ length (storeWalk s .elements)
   pub held : elementsIn rows ids n ≡ storeWalk s .elements
-  pub rows-are : take (n * 6) rows ≡ rowsOf (storeWalk s .elements)
-  pub most : n ≤ 256
-  pub row-room : 1536 ≤ length rows
-  pub id-room : 768 ≤ length ids
+  pub rows-are : take (n * rowWidth) rows ≡ rowsOf (storeWalk s .elements)
+  pub most : n ≤ mostElements
+  pub stand : RowsStand rows ids n
   pub short : length s ≤ 2 ^ 24
   pub fits : Each (λ (x : Element). (x .place + x .length ≤ length s) × (x .id .number < 2 ^ 32)) (storeWalk s .elements)
 
@@ -104,11 +103,38 @@ takenIn (Sent k whole ranges more) = k
 takenIn Crowded = 0
 takenIn (Short n) = 0
 
+-- what deciding is lent: n elements, none of them long, and their flags; the ranges that are known, and room for as many as a page may
+-- carry
+pub record ToDecide (rows ids : List ℕ) (n : ℕ) (flags t : List ℕ) (count most : ℕ) : Type 0 where
+  pub stand : RowsStand rows ids n
+  pub few : n ≤ mostElements
+  pub short : (i : ℕ) → i < n → elementInRow rows ids i .length ≤ 2 ^ 24
+  pub flagged : n ≤ length flags
+  pub carried : count ≤ most
+  pub most-carried : most ≤ 512
+  pub room : 2048 ≤ length t
+  pub normal : Normal (rangesAt t 0 count)
+
 -- what deciding promises: the decision, and the working table at exit
 abbrev pub Decides : List Element → List Range → Bounds → Decided → List ℕ → List ℕ → Type 0
 Decides w l b r t t′ =
     (r ≡ decision (b .most) (b .limit) (b .room) (tableMeasure (b .fixed) l w) (length w))
     × (t′ ≡ laidAll (take (takenIn r) w) l t)
+
+-- ---- sending a page that was decided
+
+-- the answer: the first of those whose flag is not 0, and the ranges of the first rows
+abbrev pub sentBytes : List ℕ → List ℕ → List ℕ → ℕ → List ℕ → Sending → List ℕ → List ℕ
+sentBytes store rows ids n flags page table =
+    answerBytes store (page .id) (page .index) (take (page .count) (chosenIn rows ids n flags)) (page .partial) (rangesAt table 0 (page .ranges))
+
+-- what sending is lent: n elements and their flags, the rows of ranges, and room for the answer
+pub record ToSend (store rows ids : List ℕ) (n : ℕ) (flags : List ℕ) (page : Sending) (table : List ℕ) (room : ℕ) : Type 0 where
+  pub stand : RowsStand rows ids n
+  pub flagged : n ≤ length flags
+  pub few : page .ranges ≤ 512
+  pub ranges-stand : page .ranges * 4 ≤ length table
+  pub fits : length (sentBytes store rows ids n flags page table) ≤ room
 
 -- ---- an answer as it is laid: up to the first element, from behind the last to the knowledge, and the ends
 

@@ -1,20 +1,17 @@
 // The answering call. Everything is decided in tables of its own; only when no refusal is left are the output and the lent tables
 // written. Each function judges one thing and goes on: the tables' lengths, the store, the request, the page.
 ghost use mathlib.Core.Path.{_≡_};
-ghost use Prim.Native.Nat.{_*_, _≤_, _<_};
-ghost use mathlib.Core.List.{[], _++_};
+ghost use Prim.Native.Nat.{_*_, _≤_};
+ghost use mathlib.Core.List.{[]};
 ghost use lib.ListN.{length, drop};
-ghost use Rattle.objects.specs.declared.reading.Reading.the-variants.{At};
 ghost use Rattle.talk.specs.Ranges.{Normal};
 ghost use Rattle.ranges.specs.RangeTable.{rangesAt};
 ghost use Rattle.store.specs.Store.{storeWalk};
 ghost use Rattle.request.specs.Message.{requestIn};
-ghost use Rattle.request.specs.Meaning.{filtersRead, letsIn};
-ghost use Rattle.request.specs.Choice.{elementsIn, flagsOf, setFlags};
-ghost use Rattle.pages.specs.Choice.{isKnown};
-ghost use Rattle.pages.specs.Tables.{fixedLength, StoreHeld};
+ghost use Rattle.store.specs.Tables.{rowWidth, rowNumbers, RowsStand, elementsIn};
+ghost use Rattle.pages.specs.Tables.{StoreHeld, ToDecide, Decides, chosenIn, ToSend, sentBytes};
 ghost use Rattle.pages.specs.Answer.{onRequest, outcome, pageOutcome, Gives, Answers};
-ghost use Rattle.pages.specs.Held.{RequestHeld, askIn, knownAfter};
+ghost use Rattle.pages.specs.Held.{RequestHeld, askIn, wantedFlags, boundsFor, knownAfter, PageSent};
 use crate::page::Bounds;
 use crate::page::Decided;
 use crate::page::decide;
@@ -35,14 +32,14 @@ use request::message::Request;
 use request::message::read_request;
 use store::knowledge::MOST_RANGES;
 use store::knowledge::RANGE_NUMBERS;
-use store::package::ID_NUMBERS;
-use store::package::ROW_NUMBERS;
 use store::package::Stored;
 use store::package::read_store;
+use store::table::ID_NUMBERS;
+use store::table::MOST_ELEMENTS;
+use store::table::ROW_NUMBERS;
+use store::table::ROW_WIDTH;
 
-// How many numbers the lent tables have at least.
-pub const STORE_NUMBERS: usize = 1536;
-
+// How many numbers the lent table of ranges has at least; that of the store has those of its working table.
 pub const KNOWLEDGE_NUMBERS: usize = 2048;
 
 // The answer's length, how many rows the store's table has, and how many the knowledge's; or the refusal.
@@ -70,8 +67,8 @@ fn mark_wanted(
     known: &[u64],
     flags: &mut [u8],
 )
-    requires { ⌜ (n * 6 ≤ length (now elements)) × (n * 3 ≤ length (now ids)) × (n ≤ length (now flags)) × (a .known * 4 ≤ length (now known)) × Normal (rangesAt (now known) 0 (a .known)) ⌝ }
-    ensures { λ _. ⌜ now (flags .exit) ≡ setFlags (isKnown (rangesAt (now (known .entry)) 0 (a .known))) 0 (elementsIn (now (elements .entry)) (now (ids .entry)) n) (flagsOf (letsIn (filtersRead (a .count) (now (request .entry)) (At (a .place) 0)) (elementsIn (now (elements .entry)) (now (ids .entry)) n)) ++ drop n (now (flags .entry))) ⌝ }
+    requires { ⌜ RowsStand (now elements) (now ids) n × (n ≤ length (now flags)) × (a .known * 4 ≤ length (now known)) × Normal (rangesAt (now known) 0 (a .known)) ⌝ }
+    ensures { λ _. ⌜ now (flags .exit) ≡ wantedFlags (now (request .entry)) a (rangesAt (now (known .entry)) 0 (a .known)) (elementsIn (now (elements .entry)) (now (ids .entry)) n) (drop n (now (flags .entry))) ⌝ }
 {
     choose(
         request,
@@ -87,7 +84,7 @@ fn mark_wanted(
 
 // What is asked of a page: at most 512 ranges, the limit, and room in the output.
 fn bounds_of(a: Asked, index: ExtendedGuid, room: usize) -> Bounds
-    ensures { λ r. ⌜ (r ≡ record { most = 512; limit = a .limit; fixed = fixedLength (a .id) index; room = room }) × (r .fixed ≤ 69) ⌝ }
+    ensures { λ r. ⌜ (r ≡ boundsFor a index room) × (r .fixed ≤ 69) ⌝ }
 {
     Bounds {
         most: MOST_RANGES,
@@ -95,6 +92,47 @@ fn bounds_of(a: Asked, index: ExtendedGuid, room: usize) -> Bounds
         fixed: fixed_length(a.id, index),
         room,
     }
+}
+
+// Deciding: which elements are wanted, and the longest page of them. Nothing of the answer is written.
+fn decide_page(
+    request: &[u8],
+    a: Asked,
+    index: ExtendedGuid,
+    elements: &[u64],
+    ids: &[u64],
+    n: usize,
+    known: &mut [u64],
+    flags: &mut [u8],
+    room: usize,
+) -> Decided
+    requires { ⌜ ToDecide (now elements) (now ids) n (now flags) (now known) (a .known) 512 ⌝ }
+    ensures { λ r. ⌜ (now (flags .exit) ≡ wantedFlags (now (request .entry)) a (rangesAt (now (known .entry)) 0 (a .known)) (elementsIn (now (elements .entry)) (now (ids .entry)) n) (drop n (now (flags .entry)))) × Decides (chosenIn (now (elements .entry)) (now (ids .entry)) n (now (flags .exit))) (rangesAt (now (known .entry)) 0 (a .known)) (boundsFor a index room) r (now (known .entry)) (now (known .exit)) ⌝ }
+{
+    mark_wanted(request, a, elements, ids, n, known, flags);
+    let bounds = bounds_of(a, index, room);
+    decide(elements, ids, n, flags, known, a.known, bounds)
+}
+
+// Sending: the answer of a page that was decided, the rows of all n elements, and the ranges that it carries.
+fn send_page(
+    out: &mut [u8],
+    store: &[u8],
+    elements: &[u64],
+    ids: &[u64],
+    n: usize,
+    flags: &[u8],
+    page: Sending,
+    known: &[u64],
+    rows: &mut [u64],
+    ranges: &mut [u64],
+)
+    requires { ⌜ ToSend (now store) (now elements) (now ids) n (now flags) page (now known) (length (now out)) × (n * rowWidth ≤ length (now rows)) × (page .ranges * 4 ≤ length (now ranges)) ⌝ }
+    ensures { λ _. ⌜ PageSent (sentBytes (now (store .entry)) (now (elements .entry)) (now (ids .entry)) n (now (flags .entry)) page (now (known .entry))) (now (elements .entry)) n (now (known .entry)) (page .ranges) (now (out .entry)) (now (out .exit)) (now (rows .entry)) (now (rows .exit)) (now (ranges .entry)) (now (ranges .exit)) ⌝ }
+{
+    write_answer(out, store, elements, ids, n, flags, page, known);
+    copy_numbers(rows, elements, n * ROW_WIDTH);
+    copy_ranges(ranges, known, page.ranges);
 }
 
 // The page for what was asked, decided and sent.
@@ -110,14 +148,13 @@ fn answer_page(
     ranges: &mut [u64],
     out: &mut [u8],
 ) -> Answered
-    requires { ⌜ StoreHeld (now store) (now elements) (now ids) n × RequestHeld (now request) a (now known) × (1536 ≤ length (now rows)) × (2048 ≤ length (now ranges)) ⌝ }
+    requires { ⌜ StoreHeld (now store) (now elements) (now ids) n × RequestHeld (now request) a (now known) × (rowNumbers ≤ length (now rows)) × (2048 ≤ length (now ranges)) ⌝ }
     ensures { λ r. ⌜ Gives (pageOutcome (askIn (now (store .entry)) (now (request .entry)) a) (length (now (out .entry)))) r (now (rows .entry)) (now (rows .exit)) (now (ranges .entry)) (now (ranges .exit)) (now (out .entry)) (now (out .exit)) × (now (known .exit) ≡ knownAfter (askIn (now (store .entry)) (now (request .entry)) a) (length (now (out .entry))) (now (known .entry))) ⌝ }
 {
-    let mut flags = [0u8; 256];
-    mark_wanted(request, a, elements, ids, n, known, &mut flags);
+    let mut flags = [0u8; MOST_ELEMENTS];
     let index = storage_index(elements, ids, n);
-    let bounds = bounds_of(a, index, out.len());
-    match decide(elements, ids, n, &flags, known, a.known, bounds) {
+    let room = out.len();
+    match decide_page(request, a, index, elements, ids, n, known, &mut flags, room) {
         Decided::Crowded => Answered::Refused(at_place(9, 0)),
         Decided::Short(needed) => Answered::Refused(too_short(needed)),
         Decided::Sent(k, whole, count, partial) => {
@@ -128,9 +165,18 @@ fn answer_page(
                 partial,
                 ranges: count,
             };
-            write_answer(out, store, elements, ids, n, &flags, page, known);
-            copy_numbers(rows, elements, n * 6);
-            copy_ranges(ranges, known, count);
+            send_page(
+                out,
+                store,
+                elements,
+                ids,
+                n,
+                &flags,
+                page,
+                known,
+                rows,
+                ranges,
+            );
             Answered::Sent(whole, n, count)
         }
     }
@@ -147,7 +193,7 @@ fn answer_request(
     ranges: &mut [u64],
     out: &mut [u8],
 ) -> Answered
-    requires { ⌜ StoreHeld (now store) (now elements) (now ids) n × (1536 ≤ length (now rows)) × (2048 ≤ length (now ranges)) ⌝ }
+    requires { ⌜ StoreHeld (now store) (now elements) (now ids) n × (rowNumbers ≤ length (now rows)) × (2048 ≤ length (now ranges)) ⌝ }
     ensures { λ r. ⌜ Gives (onRequest (now (store .entry)) (storeWalk (now (store .entry)) .elements) (now (request .entry)) (length (now (out .entry))) (requestIn (now (request .entry)) [])) r (now (rows .entry)) (now (rows .exit)) (now (ranges .entry)) (now (ranges .exit)) (now (out .entry)) (now (out .exit)) ⌝ }
 {
     let mut known = [0u64; RANGE_NUMBERS];
@@ -185,7 +231,7 @@ fn answer_store(
     ranges: &mut [u64],
     out: &mut [u8],
 ) -> Answered
-    requires { ⌜ (1536 ≤ length (now rows)) × (2048 ≤ length (now ranges)) ⌝ }
+    requires { ⌜ (rowNumbers ≤ length (now rows)) × (2048 ≤ length (now ranges)) ⌝ }
     ensures { λ r. ⌜ Gives (outcome (now (store .entry)) (now (request .entry)) (length (now (out .entry)))) r (now (rows .entry)) (now (rows .exit)) (now (ranges .entry)) (now (ranges .exit)) (now (out .entry)) (now (out .exit)) ⌝ }
 {
     let mut elements = [0u64; ROW_NUMBERS];
@@ -208,7 +254,7 @@ pub fn answer(
 ) -> Answered
     ensures { λ r. ⌜ Answers (now (store .entry)) (now (request .entry)) r (now (rows .entry)) (now (rows .exit)) (now (ranges .entry)) (now (ranges .exit)) (now (out .entry)) (now (out .exit)) ⌝ }
 {
-    if rows.len() < STORE_NUMBERS {
+    if rows.len() < ROW_NUMBERS {
         return Answered::Refused(at_place(13, 0));
     }
     if ranges.len() < KNOWLEDGE_NUMBERS {

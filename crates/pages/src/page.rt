@@ -1,20 +1,20 @@
 // The page under way, and the longest page: wanted elements are taken in store order until the next page is not sendable. One
 // element more is priced before it is taken.
 ghost use mathlib.Core.Path.{_≡_};
-ghost use Prim.Native.Nat.{ℕ, _+_, _*_, _^_, _≤_, _<_};
-ghost use lib.ListN.{length, getD};
-ghost use Rattle.talk.specs.Ranges.{Normal};
+ghost use Prim.Native.Nat.{_+_, _*_, _^_, _≤_, _<_};
+ghost use lib.ListN.{length};
 ghost use Rattle.ranges.specs.RangeTable.{rangesAt};
+ghost use Rattle.store.specs.Tables.{mostElements};
 ghost use Rattle.pages.specs.Choice.{serialRange};
 ghost use Rattle.pages.specs.Decision.{isSendable};
-ghost use Rattle.pages.specs.Tables.{stopped, ended, wholeOf, Priced, laidWith, chosenIn, Decides};
+ghost use Rattle.pages.specs.Tables.{stopped, ended, wholeOf, Priced, laidWith, chosenIn, ToDecide, Decides};
 use crate::price::Price;
 use crate::price::price_of;
 use crate::price::serial_range;
-use crate::wanted::element_at;
 use ranges::shift;
 use store::element::Element;
 use store::knowledge_write::ranges_length;
+use store::table::element_in_row;
 
 // The page of so many elements, so long an answer, so many ranges, and whether a wanted element remains; or 9; or 14 with the
 // needed length.
@@ -86,7 +86,7 @@ impl Page {
 
     // The element at the place is not wanted.
     fn pass(self) -> Page
-        requires { ⌜ self .place < 256 ⌝ }
+        requires { ⌜ self .place < mostElements ⌝ }
         ensures { λ r. ⌜ r ≡ record { count = self .count; bytes = self .bytes; place = self .place + 1; ranges = self .ranges; spelled = self .spelled } ⌝ }
     {
         Page {
@@ -100,7 +100,7 @@ impl Page {
 
     // Takes the wanted element at the place, whose price is p: its serial number goes into the rows.
     fn take(self, t: &mut [u64], x: Element, p: Price) -> Page
-        requires { ⌜ (self .count < 256) × (self .place < 256) × (self .bytes + x .length < 2 ^ 64) × (self .ranges * 4 ≤ length (now t)) × (p .ranges * 4 ≤ length (now t)) × Priced (now t) (self .ranges) (serialRange x) p ⌝ }
+        requires { ⌜ (self .count < mostElements) × (self .place < mostElements) × (self .bytes + x .length < 2 ^ 64) × (self .ranges * 4 ≤ length (now t)) × (p .ranges * 4 ≤ length (now t)) × Priced (now t) (self .ranges) (serialRange x) p ⌝ }
         ensures { λ r. ⌜ (r ≡ record { count = self .count + 1; bytes = self .bytes + x .length; place = self .place + 1; ranges = p .ranges; spelled = p .spelled }) × (now (t .exit) ≡ laidWith x (rangesAt (now (t .entry)) 0 (self .ranges)) (now (t .entry))) ⌝ }
     {
         shift(t, p.at, p.next, self.ranges, p.range);
@@ -156,7 +156,7 @@ pub(crate) fn decide(
     count: usize,
     b: Bounds,
 ) -> Decided
-    requires { ⌜ (n ≤ 256) × (n * 6 ≤ length (now rows)) × (n * 3 ≤ length (now ids)) × (n ≤ length (now flags)) × (count ≤ b .most) × (b .most ≤ 512) × (2048 ≤ length (now t)) × (b .fixed ≤ 2 ^ 32) × ((i : ℕ) → i < n → getD (now rows) (i * 6 + 1) 0 ≤ 2 ^ 24) × Normal (rangesAt (now t) 0 count) ⌝ }
+    requires { ⌜ ToDecide (now rows) (now ids) n (now flags) (now t) count (b .most) × (b .fixed ≤ 2 ^ 32) ⌝ }
     ensures { λ r. ⌜ Decides (chosenIn (now (rows .entry)) (now (ids .entry)) n (now (flags .entry))) (rangesAt (now (t .entry)) 0 count) b r (now (t .entry)) (now (t .exit)) ⌝ }
 {
     let mut p = Page::new(count, ranges_length(t, 0, count));
@@ -166,7 +166,7 @@ pub(crate) fn decide(
             p = p.pass();
             continue;
         }
-        let x = element_at(rows, ids, at);
+        let x = element_in_row(rows, ids, at);
         let q = price_of(t, p.ranges, p.spelled, serial_range(x));
         let stored = p.bytes + x.length;
         let whole = whole_of(b.fixed, stored, q.ranges, q.spelled);

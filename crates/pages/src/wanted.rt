@@ -1,19 +1,20 @@
 // Elements of the working tables: those that the ranges know are no longer wanted; and the storage index.
 ghost use mathlib.Core.Path.{_≡_};
 ghost use Prim.Native.Nat.{ℕ, _+_, _*_, _^_, _≤_, _<_};
-ghost use lib.ListN.{length, getD};
+ghost use lib.ListN.{length};
 ghost use Rattle.numbers.specs.declared.extended_guid.ExtendedGuid.the-variants.{Named};
 ghost use Rattle.talk.specs.Ranges.{Normal};
 ghost use Rattle.ranges.specs.RangeTable.{rangesAt};
 ghost use Rattle.store.specs.Written.{guidOf};
-ghost use Rattle.request.specs.Choice.{elementOf, elementsIn, setFlags};
+ghost use Rattle.store.specs.Tables.{RowsStand, elementInRow, elementsIn};
+ghost use Rattle.request.specs.Choice.{setFlags};
 ghost use Rattle.pages.specs.Choice.{isKnown, storageIndex};
 use numbers::extended_guid::ExtendedGuid;
 use numbers::guid::Guid;
 use ranges::is_known;
 use store::element::Element;
 use store::element::Key;
-use store::table::key_at;
+use store::table::element_in_row;
 
 // The type of a storage index.
 pub const STORAGE_INDEX: u64 = 1;
@@ -24,21 +25,6 @@ pub(crate) fn guid_of(k: Key) -> Guid
     Guid {
         low: k.low,
         high: k.high,
-    }
-}
-
-// The element of row i.
-pub(crate) fn element_at(rows: &[u64], ids: &[u64], i: usize) -> Element
-    requires { ⌜ (i * 6 + 6 ≤ length (now rows)) × (i * 3 + 3 ≤ length (now ids)) ⌝ }
-    ensures { λ r. ⌜ r ≡ elementOf (now (rows .entry)) (now (ids .entry)) i ⌝ }
-{
-    let at = i * 6;
-    Element {
-        place: rows[at] as usize,
-        length: rows[at + 1] as usize,
-        kind: rows[at + 2],
-        id: key_at(ids, i * 3),
-        serial: key_at(rows, at + 3),
     }
 }
 
@@ -61,12 +47,12 @@ pub(crate) fn clear_known(
     count: usize,
     flags: &mut [u8],
 )
-    requires { ⌜ (n * 6 ≤ length (now rows)) × (n * 3 ≤ length (now ids)) × (n ≤ length (now flags)) × (count * 4 ≤ length (now table)) × Normal (rangesAt (now table) 0 count) ⌝ }
+    requires { ⌜ RowsStand (now rows) (now ids) n × (n ≤ length (now flags)) × (count * 4 ≤ length (now table)) × Normal (rangesAt (now table) 0 count) ⌝ }
     ensures { λ _. ⌜ now (flags .exit) ≡ setFlags (isKnown (rangesAt (now (table .entry)) 0 count)) 0 (elementsIn (now (rows .entry)) (now (ids .entry)) n) (now (flags .entry)) ⌝ }
 {
     let mut i = 0;
     while i < n {
-        if knows_element(table, count, element_at(rows, ids, i)) {
+        if knows_element(table, count, element_in_row(rows, ids, i)) {
             flags[i] = 0;
         }
         i += 1;
@@ -84,12 +70,12 @@ fn named(k: Key) -> ExtendedGuid
 // The id of the first of n elements that is a storage index; null if none is. Ruled out (proofs/WrongAnswers): null though there is
 // one; the id of the first element, of whatever type.
 pub(crate) fn storage_index(rows: &[u64], ids: &[u64], n: usize) -> ExtendedGuid
-    requires { ⌜ (n * 6 ≤ length (now rows)) × (n * 3 ≤ length (now ids)) × ((i : ℕ) → i < n → getD (now ids) (i * 3 + 2) 0 < 2 ^ 32) ⌝ }
+    requires { ⌜ RowsStand (now rows) (now ids) n × ((i : ℕ) → i < n → elementInRow (now rows) (now ids) i .id .number < 2 ^ 32) ⌝ }
     ensures { λ r. ⌜ r ≡ storageIndex (elementsIn (now (rows .entry)) (now (ids .entry)) n) ⌝ }
 {
     let mut i = 0;
     while i < n {
-        let x = element_at(rows, ids, i);
+        let x = element_in_row(rows, ids, i);
         if x.kind == STORAGE_INDEX {
             return named(x.id);
         }

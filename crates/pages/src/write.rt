@@ -4,10 +4,9 @@ ghost use mathlib.Core.Path.{_≡_};
 ghost use Prim.Native.Nat.{_+_, _*_, _≤_};
 ghost use lib.ListN.{length, take};
 ghost use Rattle.laws.specs.Placed.{Lays};
-ghost use Rattle.ranges.specs.RangeTable.{rangesAt};
-ghost use Rattle.pages.specs.Written.{versionBytes, elementsBytes, subResponseBytes, changesBytes, endsBytes, answerBytes, partialByte};
-ghost use Rattle.pages.specs.Tables.{chosenIn, answerFront, answerMiddle, fixedLength};
-use crate::wanted::element_at;
+ghost use Rattle.store.specs.Tables.{RowsStand};
+ghost use Rattle.pages.specs.Written.{versionBytes, elementsBytes, subResponseBytes, changesBytes, endsBytes, partialByte};
+ghost use Rattle.pages.specs.Tables.{chosenIn, ToSend, sentBytes, answerFront, answerMiddle, fixedLength};
 use numbers::compact::compact_length;
 use numbers::extended_guid::ExtendedGuid;
 use numbers::extended_guid::extended_guid_length;
@@ -21,6 +20,7 @@ use store::lay::lay_le;
 use store::lay::lay_number;
 use store::lay::lay_part;
 use store::lay::lay_start;
+use store::table::element_in_row;
 
 // The types of the objects.
 pub const RESPONSE: u64 = 0x62;
@@ -72,7 +72,7 @@ fn lay_elements(
     flags: &[u8],
     k: usize,
 ) -> usize
-    requires { ⌜ (n * 6 ≤ length (now rows)) × (n * 3 ≤ length (now ids)) × (n ≤ length (now flags)) × (at + length (elementsBytes (now store) (take k (chosenIn (now rows) (now ids) n (now flags)))) ≤ length (now out)) ⌝ }
+    requires { ⌜ RowsStand (now rows) (now ids) n × (n ≤ length (now flags)) × (at + length (elementsBytes (now store) (take k (chosenIn (now rows) (now ids) n (now flags)))) ≤ length (now out)) ⌝ }
     ensures { λ r. ⌜ Lays at (elementsBytes (now (store .entry)) (take k (chosenIn (now (rows .entry)) (now (ids .entry)) n (now (flags .entry))))) (now (out .entry)) r (now (out .exit)) ⌝ }
 {
     let mut p = at;
@@ -86,7 +86,7 @@ fn lay_elements(
             i += 1;
             continue;
         }
-        let x = element_at(rows, ids, i);
+        let x = element_in_row(rows, ids, i);
         p = lay_part(out, p, part(store, x.place, x.length as u64));
         left -= 1;
         i += 1;
@@ -167,8 +167,8 @@ pub(crate) fn write_answer(
     page: Sending,
     table: &[u64],
 ) -> usize
-    requires { ⌜ (n * 6 ≤ length (now rows)) × (n * 3 ≤ length (now ids)) × (n ≤ length (now flags)) × (page .ranges ≤ 512) × (page .ranges * 4 ≤ length (now table)) × (length (answerBytes (now store) (page .id) (page .index) (take (page .count) (chosenIn (now rows) (now ids) n (now flags))) (page .partial) (rangesAt (now table) 0 (page .ranges))) ≤ length (now out)) ⌝ }
-    ensures { λ r. ⌜ Lays 0 (answerBytes (now (store .entry)) (page .id) (page .index) (take (page .count) (chosenIn (now (rows .entry)) (now (ids .entry)) n (now (flags .entry)))) (page .partial) (rangesAt (now (table .entry)) 0 (page .ranges))) (now (out .entry)) r (now (out .exit)) ⌝ }
+    requires { ⌜ ToSend (now store) (now rows) (now ids) n (now flags) page (now table) (length (now out)) ⌝ }
+    ensures { λ r. ⌜ Lays 0 (sentBytes (now (store .entry)) (now (rows .entry)) (now (ids .entry)) n (now (flags .entry)) page (now (table .entry))) (now (out .entry)) r (now (out .exit)) ⌝ }
 {
     let behind_front = lay_front(out, 0);
     let behind_elements = lay_elements(out, behind_front, store, rows, ids, n, flags, page.count);

@@ -13,14 +13,14 @@ use borrow.Author.Tests.{eq-eqb, ne-eqb, eqb-true}
 use Rattle.laws.specs.Pick.{pick}
 use Rattle.laws.proofs.Cases.{by-bool, by-eq}
 use Rattle.store.specs.Element.{sameKey}
-use Rattle.store.specs.Tables.{keyAt, markOf}
+use Rattle.store.specs.Tables.{idInRow, markOf, elementInRow, elementsInRows, elementsIn}
 use Rattle.store.specs.declared.element.Key.{Key}
 use Rattle.store.specs.declared.element.Element.{Element}
 use Rattle.store.proofs.Rows.{same-mark, mark-lt}
-use Rattle.request.specs.Choice.{elementOf, elementsFrom, elementsIn, setFlags, matchedBy}
+use Rattle.request.specs.Choice.{setFlags, matchedBy}
 use Rattle.request.specs.Index.{indexMarks, idMark, lastWith, Linked}
 use Rattle.request.specs.declared.choice.Matched.the-variants.{WithId}
-use Rattle.request.proofs.Elements.{length-elements}
+use Rattle.store.proofs.Elements.{length-elements}
 
 -- ---- the last of some rows, set first
 
@@ -36,27 +36,27 @@ set-last test to x false e [] (b ∷ flags) = rw e
 set-last test to x false e (y ∷ xs) [] = refl
 set-last test to x false e (y ∷ xs) (b ∷ flags) = ap (λ (l : List ℕ). pick (test y) to b ∷ l) (set-last test to x false e xs flags)
 
-elements-last : (rows ids : List ℕ) (i n : ℕ) → elementsFrom rows ids i (suc n) ≡ elementsFrom rows ids i n ++ (elementOf rows ids (i + n) ∷ [])
-unfolding elementsFrom
+elements-last : (rows ids : List ℕ) (i n : ℕ) → elementsInRows rows ids i (suc n) ≡ elementsInRows rows ids i n ++ (elementInRow rows ids (i + n) ∷ [])
+unfolding elementsInRows
 elements-last rows ids i zero = let e : i + 0 ≡ i = omega arith in rw e
 elements-last rows ids i (suc n) =
     let e : i + suc n ≡ suc i + n = omega arith in
-    rw e (ap (λ (l : List Element). elementOf rows ids i ∷ l) (elements-last rows ids (suc i) n))
+    rw e (ap (λ (l : List Element). elementInRow rows ids i ∷ l) (elements-last rows ids (suc i) n))
 
 module _ (test : Element → Bool) (to : ℕ) (rows ids : List ℕ) where
-  row-last : (i : ℕ) (t : Bool) (flags : List ℕ) → test (elementOf rows ids i) ≡ t
+  row-last : (i : ℕ) (t : Bool) (flags : List ℕ) → test (elementInRow rows ids i) ≡ t
       → setFlags test to (elementsIn rows ids (suc i)) flags ≡ setFlags test to (elementsIn rows ids i) (pick t (set flags i to) flags)
   row-last i t flags e =
       let l = length-elements rows ids 0 i in
-      rw (elements-last rows ids 0 i, zero-add i) (rw l at (set-last test to (elementOf rows ids i) t e (elementsIn rows ids i) flags))
+      rw (elements-last rows ids 0 i, zero-add i) (rw l at (set-last test to (elementInRow rows ids i) t e (elementsIn rows ids i) flags))
 
 -- ---- rows with another mark
 
-other-mark : (rows ids : List ℕ) (k : Key) (i : ℕ) → (idMark ids i ≡ markOf indexMarks k → ⊥) → matchedBy (WithId k) (elementOf rows ids i) ≡ false
-unfolding matchedBy elementOf
+other-mark : (rows ids : List ℕ) (k : Key) (i : ℕ) → (idMark ids i ≡ markOf indexMarks k → ⊥) → matchedBy (WithId k) (elementInRow rows ids i) ≡ false
+unfolding matchedBy elementInRow
 other-mark rows ids k i h =
-    by-bool (sameKey (keyAt ids (i * 3)) k)
-    (λ e. absurd (h (same-mark indexMarks (keyAt ids (i * 3)) k e)))
+    by-bool (sameKey (idInRow ids i) k)
+    (λ e. absurd (h (same-mark indexMarks (idInRow ids i) k e)))
     (λ e. e)
 
 -- the last row of a mark among n is one of them, and has it
@@ -111,7 +111,7 @@ module _ {heads links ids : List ℕ} {n : ℕ} (w : Linked heads links ids n) (
     next : getD links i 0 ≡ lastWith ids (markOf indexMarks k) i
     next = let l = u .within in rw (sym (u .marked i e)) (w .link i (omega arith))
 
-    turn : (t : Bool) → matchedBy (WithId k) (elementOf rows ids i) ≡ t
+    turn : (t : Bool) → matchedBy (WithId k) (elementInRow rows ids i) ≡ t
         → Following k to rows ids n told (pick t (set flags i to) flags) (getD links i 0)
     turn t h =
         rw next
@@ -124,10 +124,10 @@ module _ {heads links ids : List ℕ} {n : ℕ} (w : Linked heads links ids n) (
               ∙ set-to-last k to rows ids i (pick t (set flags i to) flags);
         })
 
-    pub following-matched : matchedBy (WithId k) (elementOf rows ids i) ≡ true → Following k to rows ids n told (set flags i to) (getD links i 0)
+    pub following-matched : matchedBy (WithId k) (elementInRow rows ids i) ≡ true → Following k to rows ids n told (set flags i to) (getD links i 0)
     following-matched h = turn true h
 
-    pub following-passed : matchedBy (WithId k) (elementOf rows ids i) ≡ false → Following k to rows ids n told flags (getD links i 0)
+    pub following-passed : matchedBy (WithId k) (elementInRow rows ids i) ≡ false → Following k to rows ids n told flags (getD links i 0)
     following-passed h = turn false h
 
     -- each row is before the one that was looked at
@@ -136,5 +136,5 @@ module _ {heads links ids : List ℕ} {n : ℕ} (w : Linked heads links ids n) (
 
 pub following-end : {k : Key} {to : ℕ} {rows ids : List ℕ} {n : ℕ} {told flags : List ℕ} {left : ℕ} → Following k to rows ids n told flags left → left ≡ 0
     → flags ≡ told
-unfolding elementsFrom setFlags
+unfolding elementsInRows setFlags
 following-end u e = sym (rw e at (u .rest))

@@ -10,7 +10,7 @@ use lib.ListN.{length, getD, set, length-set}
 use lib.Seq.{getD-set-same, getD-set-other}
 use borrow.Author.Tests.{lt-ltb, le-ltb, eq-eqb, ne-eqb}
 use Rattle.laws.proofs.Cases.{by-lt, by-eq}
-use Rattle.store.specs.Tables.{keyAt}
+use Rattle.store.specs.Tables.{idInRow}
 use Rattle.store.proofs.Rows.{mark-lt}
 use Rattle.request.specs.Index.{indexMarks, idMark, headsWith, linksWith, indexHeads, indexLinks, lastWith, NoHeads, Linked, Indexed}
 
@@ -63,7 +63,7 @@ unfolding lastWith
 last-other ids mark i e = rw (ne-eqb (idMark ids i) mark e)
 
 mark-low : (ids : List ℕ) (i : ℕ) → idMark ids i < indexMarks
-mark-low ids i = mark-lt indexMarks (keyAt ids (i * 3)) (omega arith)
+mark-low ids i = mark-lt indexMarks (idInRow ids i) (omega arith)
 
 module _ {heads links ids : List ℕ} {i : ℕ} (u : Linked heads links ids i) (room : indexMarks ≤ length heads) (more : i < length links) where
   new-head : (m : ℕ) → m < indexMarks → getD (set heads (idMark ids i) (suc i)) m 0 ≡ lastWith ids m (suc i)

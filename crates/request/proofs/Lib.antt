@@ -8,7 +8,6 @@ pub mod FaultNumbers
 pub mod OneAnswers
 pub mod WrongAnswers
 pub mod Choosing
-pub mod Elements
 pub mod Setting
 pub mod Putting
 pub mod WrongChoices

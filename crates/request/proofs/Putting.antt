@@ -17,10 +17,11 @@ use Rattle.store.specs.declared.element.Key.{Key}
 use Rattle.store.specs.declared.element.Element.{Element}
 use Rattle.request.specs.Filter.{oneNumber, idStep, idsFrom, idsField, idsPart, typePart, kindPart, filterOpened, filterKind, filterAt}
 use Rattle.request.specs.Meaning.{Filter, keyIn, keysFrom, keysIn, filterRead, filtersRead, matches, letsIn}
-use Rattle.request.specs.Choice.{elementsIn, flagOf, flagsOf, setFlags, setByFilter, matchedBy, withIds, kindMatches}
+use Rattle.store.specs.Tables.{elementsIn}
+use Rattle.request.specs.Choice.{flagOf, flagsOf, setFlags, setByFilter, matchedBy, withIds, kindMatches}
 use Rattle.request.specs.declared.choice.Matched.the-variants.{All, OfType, WithId}
 use Rattle.request.proofs.Choosing.{same-flags, none-set, set-with-more, setByAll, filters-set}
-use Rattle.request.proofs.Elements.{length-elements}
+use Rattle.store.proofs.Elements.{length-elements}
 use Rattle.request.proofs.Turns as turns
 
 -- ---- the ids of a filter

@@ -9,7 +9,8 @@ use Rattle.objects.specs.Header.{headerAt, headerOf, sized, startOf, lengthAt}
 use Rattle.objects.specs.declared.reading.Reading.the-variants.{At}
 use Rattle.request.specs.Filter.{kindTaken, filterFields}
 use Rattle.request.specs.Meaning.{filterRead, filtersRead, matches, setBy, leftIn, letsIn}
-use Rattle.request.specs.Choice.{elementsFrom, flagOf, flagsOf, Chooses}
+use Rattle.store.specs.Tables.{elementsInRows}
+use Rattle.request.specs.Choice.{flagOf, flagsOf, Chooses}
 
 -- one element of type 5, in both tables
 abbrev rows : List ℕ
@@ -24,10 +25,10 @@ all-out = 0x3E ∷ 0x02 ∷ 0x04 ∷ 0x00 ∷ 1 ∷ 0 ∷ 0x1F ∷ 0x01 ∷ []
 
 -- no filter: the element starts in
 starts-out : Chooses [] (At 0 0) 0 rows ids 1 (9 ∷ 9 ∷ []) (0 ∷ 9 ∷ []) → ⊥
-unfolding filtersRead letsIn leftIn elementsFrom flagsOf flagOf
+unfolding filtersRead letsIn leftIn elementsInRows flagsOf flagOf
 starts-out h = impossible (cc)
 
 -- operation 0 sets out
 stays-in : Chooses all-out (At 0 0) 1 rows ids 1 (9 ∷ 9 ∷ []) (1 ∷ 9 ∷ []) → ⊥
-unfolding filtersRead filterRead filterFields kindTaken matches setBy letsIn leftIn elementsFrom flagsOf flagOf startHere runHere headerAt headerOf sized startOf lengthAt le valueOf need fixedIn
+unfolding filtersRead filterRead filterFields kindTaken matches setBy letsIn leftIn elementsInRows flagsOf flagOf startHere runHere headerAt headerOf sized startOf lengthAt le valueOf need fixedIn
 stays-in h = impossible (cc)

@@ -1,45 +1,23 @@
--- The filters put to a whole list of elements by flags: a byte for each element, 1 where it is in and 0 where it is out. And the
--- elements that stand in the working tables of a store.
+-- The filters put to a whole list of elements by flags: a byte for each element, 1 where it is in and 0 where it is out.
 -- Assumes nothing.
 use mathlib.Core.Path.{_≡_}
-use Prim.Native.Nat.{ℕ, zero, suc, _+_, _*_}
+use Prim.Native.Nat.{ℕ}
 use mathlib.Core.Bool.{Bool, true, false}
 use mathlib.Core.List.{List, [], _∷_, _++_}
-use lib.ListN.{getD, drop}
+use lib.ListN.{drop}
 use lib.Dec.{eqb}
 use Rattle.laws.specs.Pick.{pick}
 use Rattle.laws.specs.Once.{seen}
 use Rattle.objects.specs.Steps.{valueOf, startHere, runHere}
 use Rattle.objects.specs.declared.reading.Reading.{Reading}
 use Rattle.store.specs.Element.{sameKey}
-use Rattle.store.specs.Tables.{keyAt}
+use Rattle.store.specs.Tables.{elementsIn}
 use Rattle.store.specs.declared.element.Key.{Key}
 use Rattle.store.specs.declared.element.Element.{Element}
 use Rattle.request.specs.Filter.{typePart}
 use Rattle.request.specs.Meaning.{Filter, keysIn, matches, filtersRead, letsIn}
 use Rattle.request.specs.declared.choice.Matched.{Matched}
 use Rattle.request.specs.declared.choice.Matched.the-variants.{All, OfType, WithId}
-
--- ---- the elements that stand in the working tables
-
--- the one of row i: six numbers in one table, its id in the other
-unfoldable pub elementOf : List ℕ → List ℕ → ℕ → Element
-elementOf rows ids i =
-    record {
-      place = getD rows (i * 6) 0;
-      length = getD rows (i * 6 + 1) 0;
-      kind = getD rows (i * 6 + 2) 0;
-      id = keyAt ids (i * 3);
-      serial = keyAt rows (i * 6 + 3);
-    }
-
--- n of them, from row i on
-unfoldable pub elementsFrom : List ℕ → List ℕ → ℕ → ℕ → List Element
-elementsFrom rows ids i zero = []
-elementsFrom rows ids i (suc n) = elementOf rows ids i ∷ elementsFrom rows ids (suc i) n
-
-abbrev pub elementsIn : List ℕ → List ℕ → ℕ → List Element
-elementsIn rows ids n = elementsFrom rows ids 0 n
 
 -- ---- flags
 

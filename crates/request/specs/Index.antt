@@ -2,12 +2,12 @@
 -- sets does not speak of it, and a reader of Choice can skip it.
 -- Assumes nothing.
 use mathlib.Core.Path.{_≡_}
-use Prim.Native.Nat.{ℕ, zero, suc, _*_, _≤_, _<_}
+use Prim.Native.Nat.{ℕ, zero, suc, _≤_, _<_}
 use mathlib.Core.List.{List}
 use lib.ListN.{length, getD, set}
 use lib.Dec.{ltb, eqb}
 use Rattle.laws.specs.Pick.{pick}
-use Rattle.store.specs.Tables.{keyAt, markOf}
+use Rattle.store.specs.Tables.{idInRow, markOf}
 
 -- among how many the ids have their marks
 abbrev pub indexMarks : ℕ
@@ -15,7 +15,7 @@ indexMarks = 1024
 
 -- the mark of the id of row i
 abbrev pub idMark : List ℕ → ℕ → ℕ
-idMark ids i = markOf indexMarks (keyAt ids (i * 3))
+idMark ids i = markOf indexMarks (idInRow ids i)
 
 -- ---- the two tables of the index, with n rows put into them one after the other
 

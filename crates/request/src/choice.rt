@@ -6,7 +6,8 @@ ghost use lib.ListN.{length};
 ghost use lib.Dec.{eqb};
 ghost use Rattle.request.specs.Filter.{idsField, kindPart, filterAt};
 ghost use Rattle.request.specs.Meaning.{keyIn, keysIn, filterRead};
-ghost use Rattle.request.specs.Choice.{elementOf, elementsIn, flagOf, setFlags, setByFilter, matchedBy, withIds, kindMatches, Chooses};
+ghost use Rattle.store.specs.Tables.{idWidth, mostElements, RowsStand, elementInRow, elementsIn};
+ghost use Rattle.request.specs.Choice.{flagOf, setFlags, setByFilter, matchedBy, withIds, kindMatches, Chooses};
 ghost use Rattle.request.specs.Index.{indexMarks, indexHeads, indexLinks, Indexed};
 ghost use Rattle.request.specs.declared.choice.Matched.the-variants.{WithId};
 use crate::filter::ALL;
@@ -24,7 +25,9 @@ use objects::reading::Reading;
 use objects::reading::ReadingId;
 use store::element::Key;
 use store::element::key_of;
-use store::table::key_at;
+use store::table::MOST_ELEMENTS;
+use store::table::element_in_row;
+use store::table::id_in_row;
 use store::table::mark_of;
 use store::table::same_key;
 
@@ -38,21 +41,22 @@ pub enum Matched {
     WithId(Key),
 }
 
-// Whether the element of row i is matched. A row is six numbers, the third its type; an id is three.
+// Whether the element of row i is matched.
 fn is_matched(m: Matched, rows: &[u64], ids: &[u64], i: usize) -> bool
-    requires { ⌜ (i * 6 + 6 ≤ length (now rows)) × (i * 3 + 3 ≤ length (now ids)) ⌝ }
-    ensures { λ r. ⌜ r ≡ matchedBy m (elementOf (now (rows .entry)) (now (ids .entry)) i) ⌝ }
+    requires { ⌜ RowsStand (now rows) (now ids) (i + 1) ⌝ }
+    ensures { λ r. ⌜ r ≡ matchedBy m (elementInRow (now (rows .entry)) (now (ids .entry)) i) ⌝ }
 {
+    let x = element_in_row(rows, ids, i);
     match m {
         Matched::All => true,
-        Matched::OfType(t) => rows[i * 6 + 2] == t,
-        Matched::WithId(k) => same_key(key_at(ids, i * 3), k),
+        Matched::OfType(t) => x.kind == t,
+        Matched::WithId(k) => same_key(x.id, k),
     }
 }
 
 // One go through the elements: the flags of those that are matched are set.
 fn set_matched(m: Matched, rows: &[u64], ids: &[u64], n: usize, flags: &mut [u8], to: u8)
-    requires { ⌜ (n * 6 ≤ length (now rows)) × (n * 3 ≤ length (now ids)) × (n ≤ length (now flags)) ⌝ }
+    requires { ⌜ RowsStand (now rows) (now ids) n × (n ≤ length (now flags)) ⌝ }
     ensures { λ _. ⌜ now (flags .exit) ≡ setFlags (matchedBy m) to (elementsIn (now (rows .entry)) (now (ids .entry)) n) (now (flags .entry)) ⌝ }
 {
     let mut i = 0;
@@ -68,7 +72,7 @@ fn set_matched(m: Matched, rows: &[u64], ids: &[u64], n: usize, flags: &mut [u8]
 // last element of each mark, and `links` the one before each element that has the same mark, both counted from 1, and 0 where there is
 // none. Nothing is written where `links` has no room for all.
 fn index_ids(ids: &[u64], n: usize, heads: &mut [u16], links: &mut [u16])
-    requires { ⌜ (n * 3 ≤ length (now ids)) × (indexMarks ≤ length (now heads)) × (length (now links) ≤ 256) ⌝ }
+    requires { ⌜ (n * idWidth ≤ length (now ids)) × (indexMarks ≤ length (now heads)) × (length (now links) ≤ mostElements) ⌝ }
     ensures { λ _. ⌜ (now (heads .exit) ≡ indexHeads (now (heads .entry)) (now (links .entry)) (now (ids .entry)) n) × (now (links .exit) ≡ indexLinks (now (heads .entry)) (now (links .entry)) (now (ids .entry)) n) ⌝ }
 {
     if links.len() < n {
@@ -76,7 +80,7 @@ fn index_ids(ids: &[u64], n: usize, heads: &mut [u16], links: &mut [u16])
     }
     let mut i = 0;
     while i < n {
-        let mark = mark_of(key_at(ids, i * 3), INDEX_MARKS);
+        let mark = mark_of(id_in_row(ids, i), INDEX_MARKS);
         links[i] = heads[mark];
         heads[mark] = (i + 1) as u16;
         i += 1;
@@ -95,7 +99,7 @@ fn set_key(
     flags: &mut [u8],
     to: u8,
 )
-    requires { ⌜ (n * 6 ≤ length (now rows)) × (n * 3 ≤ length (now ids)) × (n ≤ length (now flags)) × Indexed (now heads) (now links) (now ids) n ⌝ }
+    requires { ⌜ RowsStand (now rows) (now ids) n × (n ≤ length (now flags)) × Indexed (now heads) (now links) (now ids) n ⌝ }
     ensures { λ _. ⌜ now (flags .exit) ≡ setFlags (matchedBy (WithId k)) to (elementsIn (now (rows .entry)) (now (ids .entry)) n) (now (flags .entry)) ⌝ }
 {
     if links.len() < n {
@@ -123,7 +127,7 @@ fn set_id(
     flags: &mut [u8],
     to: u8,
 )
-    requires { ⌜ (n * 6 ≤ length (now rows)) × (n * 3 ≤ length (now ids)) × (n ≤ length (now flags)) × Indexed (now heads) (now links) (now ids) n ⌝ }
+    requires { ⌜ RowsStand (now rows) (now ids) n × (n ≤ length (now flags)) × Indexed (now heads) (now links) (now ids) n ⌝ }
     ensures { λ _. ⌜ now (flags .exit) ≡ setFlags (withIds (keyIn c)) to (elementsIn (now (rows .entry)) (now (ids .entry)) n) (now (flags .entry)) ⌝ }
 {
     match c {
@@ -158,7 +162,7 @@ fn set_with_ids(
     flags: &mut [u8],
     to: u8,
 ) -> Reading
-    requires { ⌜ (n * 6 ≤ length (now rows)) × (n * 3 ≤ length (now ids)) × (n ≤ length (now flags)) × Indexed (now heads) (now links) (now ids) n ⌝ }
+    requires { ⌜ RowsStand (now rows) (now ids) n × (n ≤ length (now flags)) × Indexed (now heads) (now links) (now ids) n ⌝ }
     ensures { λ r. ⌜ (r ≡ idsField (now (d .entry))) × (now (flags .exit) ≡ setFlags (withIds (keysIn (now (d .entry)))) to (elementsIn (now (rows .entry)) (now (ids .entry)) n) (now (flags .entry))) ⌝ }
 {
     let mut at = one_number(d);
@@ -191,7 +195,7 @@ fn put_kind(
     flags: &mut [u8],
     to: u8,
 ) -> Reading
-    requires { ⌜ (n * 6 ≤ length (now rows)) × (n * 3 ≤ length (now ids)) × (n ≤ length (now flags)) × Indexed (now heads) (now links) (now ids) n ⌝ }
+    requires { ⌜ RowsStand (now rows) (now ids) n × (n ≤ length (now flags)) × Indexed (now heads) (now links) (now ids) n ⌝ }
     ensures { λ r. ⌜ (r ≡ kindPart (now (s .entry)) kind c) × (now (flags .exit) ≡ setFlags (kindMatches (now (s .entry)) kind c) to (elementsIn (now (rows .entry)) (now (ids .entry)) n) (now (flags .entry))) ⌝ }
 {
     if kind == ALL {
@@ -233,7 +237,7 @@ fn put_filter(
     links: &[u16],
     flags: &mut [u8],
 ) -> Reading
-    requires { ⌜ (n * 6 ≤ length (now rows)) × (n * 3 ≤ length (now ids)) × (n ≤ length (now flags)) × Indexed (now heads) (now links) (now ids) n ⌝ }
+    requires { ⌜ RowsStand (now rows) (now ids) n × (n ≤ length (now flags)) × Indexed (now heads) (now links) (now ids) n ⌝ }
     ensures { λ r. ⌜ (r ≡ filterAt (now (s .entry)) c) × (now (flags .exit) ≡ setByFilter (filterRead (now (s .entry)) c) (elementsIn (now (rows .entry)) (now (ids .entry)) n) (now (flags .entry))) ⌝ }
 {
     let o = c.start(s, SUB_REQUEST, FILTER, true, true);
@@ -256,7 +260,7 @@ pub fn choose(
     n: usize,
     flags: &mut [u8],
 )
-    requires { ⌜ (n * 6 ≤ length (now rows)) × (n * 3 ≤ length (now ids)) × (n ≤ length (now flags)) ⌝ }
+    requires { ⌜ RowsStand (now rows) (now ids) n × (n ≤ length (now flags)) ⌝ }
     ensures { λ _. ⌜ Chooses (now (s .entry)) c count (now (rows .entry)) (now (ids .entry)) n (now (flags .entry)) (now (flags .exit)) ⌝ }
 {
     set_matched(Matched::All, rows, ids, n, flags, 1);
@@ -264,7 +268,7 @@ pub fn choose(
         return;
     }
     let mut heads = [0u16; INDEX_MARKS as usize];
-    let mut links = [0u16; 256];
+    let mut links = [0u16; MOST_ELEMENTS];
     index_ids(ids, n, &mut heads, &mut links);
     let mut at = c;
     let mut i = 0;

@@ -20,6 +20,7 @@ use Rattle.objects.specs.declared.header.Header.the-variants as header
 use Rattle.objects.specs.declared.reading.Reading.{Reading}
 use Rattle.objects.specs.declared.reading.Reading.the-variants as reading
 use Rattle.store.specs.Element.{sameKey, elementAt, dataOf, idsIn, serialsIn}
+use Rattle.store.specs.Tables.{mostElements}
 use Rattle.store.specs.Store.{packageStart, Walk, walked, closing, onElement, walkFrom, packageWalk, finished, storeWalk, Stands}
 use Rattle.store.specs.Chain.{Chain, Fresh, Tiles}
 use Rattle.store.specs.declared.element.Key.{Key}
@@ -203,10 +204,10 @@ chain-walked (suc left) s done (x ∷ xs) at v e q u c l h =
     ∙ rw (append-assoc done (x ∷ []) xs)
 
 pub package-walked : (outer : ℕ) (s : List ℕ) (c : Reading) (first v : ℕ) (xs : List Element) (e q u : ℕ)
-    → packageStart outer s c ≡ reading.At first v → Chain s [] first xs e → length xs ≤ 256 → endHere s 0x15 (reading.At e 0) ≡ reading.At q u
+    → packageStart outer s c ≡ reading.At first v → Chain s [] first xs e → length xs ≤ mostElements → endHere s 0x15 (reading.At e 0) ≡ reading.At q u
     → packageWalk outer s c ≡ walked xs (reading.At q u)
 package-walked outer s c first v xs e q u h chain l ends =
-    ap (walkFrom 256 s []) h ∙ chain-walked 256 s [] xs first v e q u chain l ends
+    ap (walkFrom mostElements s []) h ∙ chain-walked mostElements s [] xs first v e q u chain l ends
 
 -- ---- a package that is read
 
@@ -264,11 +265,11 @@ package-ended outer s c at v b r (reading.Refused q) h k = absurd k
 package-begun : (outer : ℕ) (s : List ℕ) (c d : Reading) → packageStart outer s c ≡ d → Stands (packageWalk outer s c .last) → PackageRead outer s c
 unfolding nextIs endHere
 package-begun outer s c (reading.At at v) b h =
-    let w : packageWalk outer s c ≡ walkFrom 256 s [] (reading.At at v) = ap (walkFrom 256 s []) b in
-    let r : Read s [] at (packageWalk outer s c) = rw w (walk-read 256 s [] at v (rw w at h)) in
+    let w : packageWalk outer s c ≡ walkFrom mostElements s [] (reading.At at v) = ap (walkFrom mostElements s []) b in
+    let r : Read s [] at (packageWalk outer s c) = rw w (walk-read mostElements s [] at v (rw w at h)) in
     package-ended outer s c at v b r (packageWalk outer s c .last) refl h
 package-begun outer s c (reading.Refused q) b h =
-    let w : packageWalk outer s c ≡ walked [] (reading.Refused q) = ap (walkFrom 256 s []) b ∙ walk-ends 256 s [] (reading.Refused q) refl in
+    let w : packageWalk outer s c ≡ walked [] (reading.Refused q) = ap (walkFrom mostElements s []) b ∙ walk-ends mostElements s [] (reading.Refused q) refl in
     absurd (rw w at h)
 
 pub package-read : (outer : ℕ) (s : List ℕ) (c : Reading) → Stands (packageWalk outer s c .last) → PackageRead outer s c

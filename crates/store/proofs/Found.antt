@@ -4,36 +4,38 @@ use mathlib.Core.Path.{_≡_, refl}
 use mathlib.Core.List.{List, [], _∷_, _++_, map, append-assoc}
 use Prim.Native.Nat.{ℕ, zero, suc, _+_, _*_, _≤_, _<_}
 use native.Mathlib.Omega.{arith}
-use lib.ListN.{length, getD, length-append}
+use lib.ListN.{length, drop, length-append, length-drop}
 use lib.Seq.{getD-append-add}
 use lib.Dec.{ltb}
 use Rattle.laws.proofs.Cases.{pick-all, impossible}
 use Rattle.numbers.specs.Refusals.{faultAt, longestInput}
+use Rattle.numbers.specs.declared.refusal.Refusal.{Refusal}
 use Rattle.objects.specs.Steps.{nothingOpen, nextIs}
 use Rattle.objects.specs.declared.reading.Reading.{Reading}
 use Rattle.objects.specs.declared.reading.Reading.the-variants as reading
 use Rattle.store.specs.Element.{elementAt}
-use Rattle.store.specs.Tables.{rowOf, flat, rowsOf}
-use Rattle.store.specs.Store.{Walk, onElement, walkFrom, packageStart, packageWalk, storeWalk, storedOf, storeAnswer}
+use Rattle.store.specs.Tables.{rowWidth, idWidth, mostElements, rowNumbers, RowsStand, rowOf, idOf, flat, rowsOf, idsOf, elementInRow}
+use Rattle.store.specs.Store.{Walk, onElement, walkFrom, packageStart, packageWalk, storeWalk, storedOf, storeAnswer, laidRows, laidIds}
 use Rattle.store.specs.Accessor.{elementIn, foundOn, foundIn}
 use Rattle.store.specs.declared.element.Element.{Element}
 use Rattle.store.specs.declared.element.ReadElement.{ReadElement}
 use Rattle.store.specs.declared.element.ReadElement.the-variants as element
-use Rattle.numbers.specs.declared.refusal.Refusal.{Refusal}
 use Rattle.store.specs.declared.package.Stored.the-variants as stored
 use Rattle.store.specs.declared.accessor.Found.the-variants.{At, Refused}
+use Rattle.store.proofs.Rows.{length-flat}
 
-pub found-row : (done : List Element) (t : List ℕ) (i : ℕ) → i < length done
-    → elementIn done i ≡ At (getD (rowsOf done ++ t) (i * 6) 0) (getD (rowsOf done ++ t) (i * 6 + 1) 0)
-unfolding elementIn flat
-found-row [] t i h = absurd (omega arith)
-found-row (x ∷ done) t zero h = refl
-found-row (x ∷ done) t (suc i) h =
+-- whatever stands in the table of ids
+pub found-row : (done : List Element) (t ids : List ℕ) (i : ℕ) → i < length done
+    → elementIn done i ≡ At (elementInRow (rowsOf done ++ t) ids i .place) (elementInRow (rowsOf done ++ t) ids i .length)
+unfolding elementIn elementInRow flat
+found-row [] t ids i h = absurd (omega arith)
+found-row (x ∷ done) t ids zero h = refl
+found-row (x ∷ done) t ids (suc i) h =
     let e : (rowOf x ++ rowsOf done) ++ t ≡ rowOf x ++ (rowsOf done ++ t) = append-assoc (rowOf x) (rowsOf done) t in
-    let a : suc i * 6 ≡ 6 + i * 6 = omega arith in
-    let b : 6 + i * 6 + 1 ≡ 6 + (i * 6 + 1) = omega arith in
-    rw (e, a, b, getD-append-add (rowOf x) (rowsOf done ++ t) (i * 6) 0, getD-append-add (rowOf x) (rowsOf done ++ t) (i * 6 + 1) 0)
-    (found-row done t i (omega arith))
+    let a : suc i * rowWidth ≡ rowWidth + i * rowWidth = omega arith in
+    let b : rowWidth + i * rowWidth + 1 ≡ rowWidth + (i * rowWidth + 1) = omega arith in
+    rw (e, a, b, getD-append-add (rowOf x) (rowsOf done ++ t) (i * rowWidth) 0, getD-append-add (rowOf x) (rowsOf done ++ t) (i * rowWidth + 1) 0)
+    (found-row done t ids i (omega arith))
 
 pub found-none : (done : List Element) (i : ℕ) → length done ≤ i → elementIn done i ≡ Refused (faultAt 9 0)
 unfolding elementIn
@@ -41,7 +43,7 @@ found-none [] i h = refl
 found-none (x ∷ done) zero h = absurd (omega arith)
 found-none (x ∷ done) (suc i) h = found-none done i (omega arith)
 
--- ---- at most 256 elements
+-- ---- at most so many elements
 
 on-most : (go : List Element → Reading → Walk) (done : List Element) (r : ReadElement) (most : ℕ) → length done ≤ most
     → ((x : Element) (c : Reading) → length (go (done ++ (x ∷ [])) c .elements) ≤ most) → length (onElement go done r .elements) ≤ most
@@ -60,14 +62,37 @@ walk-most (suc left) s done c =
     (λ x d. let l = length-append done (x ∷ []) in let m = walk-most left s (done ++ (x ∷ [])) d in omega arith))
     (λ e. omega arith)
 
-pub package-most : (outer : ℕ) (s : List ℕ) (c : Reading) → length (packageWalk outer s c .elements) ≤ 256
-package-most outer s c = let m = walk-most 256 s [] (packageStart outer s c) in omega arith
+pub package-most : (outer : ℕ) (s : List ℕ) (c : Reading) → length (packageWalk outer s c .elements) ≤ mostElements
+package-most outer s c = let m = walk-most mostElements s [] (packageStart outer s c) in omega arith
 
-pub store-most : (s : List ℕ) → length (storeWalk s .elements) ≤ 256
+pub store-most : (s : List ℕ) → length (storeWalk s .elements) ≤ mostElements
 unfolding storeWalk
 store-most s =
-    pick-all (λ (w : Walk). length (w .elements) ≤ 256) (ltb longestInput (length s)) _ _ (λ e. omega arith)
+    pick-all (λ (w : Walk). length (w .elements) ≤ mostElements) (ltb longestInput (length s)) _ _ (λ e. omega arith)
     (λ e. package-most nothingOpen s (reading.At 0 0))
+
+-- ---- the tables are as long as they were
+
+pub length-rows : (es : List Element) → length (rowsOf es) ≡ length es * rowWidth
+length-rows es = length-flat rowOf rowWidth (λ x. refl) es
+
+pub length-ids : (es : List Element) → length (idsOf es) ≡ length es * idWidth
+length-ids es = length-flat (λ x. idOf (x .id)) idWidth (λ x. refl) es
+
+pub laid-long : (w : Walk) (rows ids rows′ ids′ : List ℕ) → length (w .elements) ≤ mostElements → length rows ≡ rowNumbers
+    → length ids ≡ mostElements * idWidth
+    → rows′ ≡ laidRows w rows
+    → ids′ ≡ laidIds w ids
+    → (rowNumbers ≡ length rows′) × (mostElements * idWidth ≡ length ids′)
+laid-long w rows ids rows′ ids′ m l g x y =
+    let els = w .elements in (
+      rw x (omega (arith, length-append (rowsOf els) (drop (length els * rowWidth) rows), length-rows els, length-drop (length els * rowWidth) rows)),
+      rw y (omega (arith, length-append (idsOf els) (drop (length els * idWidth) ids), length-ids els, length-drop (length els * idWidth) ids)),
+    )
+
+-- and have room for each of the elements
+pub full-rows : (rows ids : List ℕ) (n : ℕ) → rowNumbers ≡ length rows → mostElements * idWidth ≡ length ids → n ≤ mostElements → RowsStand rows ids n
+full-rows rows ids n a b m = record { row-room = omega arith; id-room = omega arith }
 
 -- ---- what the answer says of the walk
 

@@ -1,5 +1,6 @@
 pub mod Stores
 pub mod Rows
+pub mod Elements
 pub mod Fields
 pub mod Walks
 pub mod Found

@@ -19,6 +19,7 @@ use Rattle.objects.specs.declared.reading.Reading.the-variants.{At}
 use Rattle.objects.proofs.Written.{behind, reads-then, reads-skip, finish-written}
 use Rattle.objects.proofs.ObjectsWritten.{reads-start-of-length, reads-end}
 use Rattle.store.specs.Element.{sameKey, elementAt}
+use Rattle.store.specs.Tables.{mostElements}
 use Rattle.store.specs.Store.{packageStart, Walk, walked, packageWalk, storeWalk}
 use Rattle.store.specs.Chain.{Chain}
 use Rattle.store.specs.Written.{Content, writtenElement, writtenElements, packageFront, packageBytes, AllFit, elementOf, elementsFrom}
@@ -104,7 +105,7 @@ module _ (outer : ℕ) (s : List ℕ) (at u : ℕ) (cs : List Content) (t : List
       let b = length-append (writtenElements cs) (endBytes 0x15) in
       omega arith
 
-  pub package-reads : length cs ≤ 256 → AllFit 14 cs → once sameKey (map (λ (c : Content). c .id) cs) ≡ true
+  pub package-reads : length cs ≤ mostElements → AllFit 14 cs → once sameKey (map (λ (c : Content). c .id) cs) ≡ true
       → once sameKey (map (λ (c : Content). c .serial) cs) ≡ true
       → packageWalk outer s (At at u) ≡ walked (elementsFrom (at + length packageFront) cs) (At (at + length (packageBytes cs)) 0)
   package-reads l f a b =
@@ -115,7 +116,7 @@ module _ (outer : ℕ) (s : List ℕ) (at u : ℕ) (cs : List Content) (t : List
 
 -- ---- the store
 
-pub package-walk : (cs : List Content) → length cs ≤ 256 → AllFit 14 cs → once sameKey (map (λ (c : Content). c .id) cs) ≡ true
+pub package-walk : (cs : List Content) → length cs ≤ mostElements → AllFit 14 cs → once sameKey (map (λ (c : Content). c .id) cs) ≡ true
     → once sameKey (map (λ (c : Content). c .serial) cs) ≡ true → length (packageBytes cs) ≤ longestInput
     → storeWalk (packageBytes cs) ≡ walked (elementsFrom (length packageFront) cs) (At (length (packageBytes cs)) 0)
 unfolding storeWalk
@@ -123,7 +124,7 @@ package-walk cs l f a b m =
     let w = package-reads nothingOpen (packageBytes cs) 0 0 cs [] (sym (append-nil (packageBytes cs))) l f a b in
     rw (le-ltb _ _ m, w, zero-add (length packageFront), zero-add (length (packageBytes cs)), finish-written (packageBytes cs) (length (packageBytes cs)) 0 (drop-length (packageBytes cs)))
 
-pub package-written : (cs : List Content) → length cs ≤ 256 → AllFit 14 cs → once sameKey (map (λ (c : Content). c .id) cs) ≡ true
+pub package-written : (cs : List Content) → length cs ≤ mostElements → AllFit 14 cs → once sameKey (map (λ (c : Content). c .id) cs) ≡ true
     → once sameKey (map (λ (c : Content). c .serial) cs) ≡ true → length (packageBytes cs) ≤ longestInput
     → (storeWalk (packageBytes cs) .elements ≡ elementsFrom (length packageFront) cs)
     × (storeWalk (packageBytes cs) .last ≡ At (length (packageBytes cs)) 0)

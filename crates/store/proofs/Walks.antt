@@ -7,7 +7,7 @@ use Prim.Native.Nat.{ℕ, zero, suc, _-_, _+_, _*_, _≤_}
 use native.Mathlib.Numerals.{add-one}
 use native.Mathlib.Omega.{arith}
 use lib.ListN.{length, getD, take, drop, length-append, set}
-use lib.Seq.{getD-append-add, getD-set-same, getD-set-other}
+use lib.Seq.{getD-set-same, getD-set-other}
 use borrow.Author.Tests.{lt-ltb, le-ltb}
 use Rattle.numbers.specs.declared.refusal.Refusal.{Refusal}
 use Rattle.objects.specs.Steps.{_▹_, startOfLength, startHere, endHere, nextIs, finish, Good}
@@ -18,7 +18,7 @@ use Rattle.laws.specs.Once.{seen}
 use Rattle.laws.proofs.Cases.{by-bool, by-lt, by-eq, impossible}
 use Rattle.laws.proofs.Twice.{seen-append}
 use Rattle.store.specs.Element.{sameKey, elementAt, idsIn, serialsIn}
-use Rattle.store.specs.Tables.{markOf, keyMarks, Marked, Lent, keyAt, idKeys, serialKeys, rowOf, idOf, flat, rowsOf, idsOf}
+use Rattle.store.specs.Tables.{markOf, keyMarks, Marked, RowsStand, Lent, rowWidth, idWidth, mostElements, idKeys, serialKeys, rowOf, idOf, flat, rowsOf, idsOf}
 use Rattle.store.specs.Store.{packageStart, Walk, walked, onElement, walkFrom, packagedOf, storedOf, PackageTo}
 use Rattle.store.specs.declared.element.Key.{Key}
 use Rattle.store.specs.declared.element.Element.{Element}
@@ -27,6 +27,7 @@ use Rattle.store.specs.declared.element.ReadElement.the-variants as elem
 use Rattle.store.specs.declared.package.Packaged.{Packaged}
 use Rattle.store.specs.declared.package.Packaged.the-variants as packaged
 use Rattle.store.specs.declared.package.Stored.the-variants as stored
+use Rattle.store.proofs.Elements.{key-stands}
 use Rattle.store.proofs.Rows.{put-more, keys-flat, same-mark, mark-lt}
 use Rattle.store.proofs.Fields.{element-within}
 
@@ -35,40 +36,32 @@ use Rattle.store.proofs.Fields.{element-within}
 abbrev pub idRow : Element → List ℕ
 idRow x = idOf (x .id)
 
-row-wide : (x : Element) → length (rowOf x) ≡ 6
+row-wide : (x : Element) → length (rowOf x) ≡ rowWidth
 row-wide x = refl
 
-id-wide : (x : Element) → length (idRow x) ≡ 3
+id-wide : (x : Element) → length (idRow x) ≡ idWidth
 id-wide x = refl
-
-key-stands : (k : Key) (pre t : List ℕ) (l : List ℕ) (offset : ℕ) → getD l offset 0 ≡ k .low → getD l (offset + 1) 0 ≡ k .high → getD l (offset + 2) 0 ≡ k .number
-    → keyAt (pre ++ l) (length pre + offset) ≡ k
-unfolding keyAt
-key-stands k pre t l offset a b c =
-    let e : length pre + offset + 1 ≡ length pre + (offset + 1) = omega arith in
-    let f : length pre + offset + 2 ≡ length pre + (offset + 2) = omega arith in
-    rw (e, f, getD-append-add pre l offset 0, getD-append-add pre l (offset + 1) 0, getD-append-add pre l (offset + 2) 0, a, b, c)
 
 pub serials-held : (done : List Element) (t : List ℕ) → serialKeys (rowsOf done ++ t) (length done) ≡ map (λ (x : Element). x .serial) done
 serials-held done t =
-    keys-flat rowOf 6 row-wide (λ x. x .serial) 3 (λ x pre u. key-stands (x .serial) pre u (rowOf x ++ u) 3 refl refl refl) done t
+    keys-flat rowOf rowWidth row-wide (λ x. x .serial) 3 (λ x pre u. key-stands (x .serial) pre (rowOf x ++ u) (length pre + 3) 3 refl refl refl refl) done t
 
 pub ids-held : (done : List Element) (t : List ℕ) → idKeys (idsOf done ++ t) (length done) ≡ map (λ (x : Element). x .id) done
 ids-held done t =
-    keys-flat idRow 3 id-wide (λ x. x .id) 0 (λ x pre u. key-stands (x .id) pre u (idRow x ++ u) 0 refl refl refl) done t
+    keys-flat idRow idWidth id-wide (λ x. x .id) 0 (λ x pre u. key-stands (x .id) pre (idRow x ++ u) (length pre + 0) 0 refl refl refl refl) done t
 
 -- ---- what holds whenever the loop's test is reached, on a walk that began at c
 
 pub record Held (s : List ℕ) (c : Reading) (rows₀ ids₀ rows rowmarks ids idmarks : List ℕ) (at : Reading) (n : ℕ) : Type 0 where
   pub done : List Element
   pub many : length done ≡ n
-  pub most : n ≤ 256
+  pub most : n ≤ mostElements
   pub good : Good s at
-  pub rows-hold : rows ≡ rowsOf done ++ drop (n * 6) rows₀
-  pub ids-hold : ids ≡ idsOf done ++ drop (n * 3) ids₀
+  pub rows-hold : rows ≡ rowsOf done ++ drop (n * rowWidth) rows₀
+  pub ids-hold : ids ≡ idsOf done ++ drop (n * idWidth) ids₀
   pub serials-marked : Marked rowmarks (serialsIn done)
   pub ids-marked : Marked idmarks (idsIn done)
-  pub walk : walkFrom 256 s [] c ≡ walkFrom (256 - n) s done at
+  pub walk : walkFrom mostElements s [] c ≡ walkFrom (mostElements - n) s done at
 
 pub good-package : (outer : ℕ) (s : List ℕ) (c : Reading) → Good s c → Good s (packageStart outer s c)
 unfolding packageStart
@@ -129,21 +122,20 @@ walk-element left s done c e r q = rw (e, q)
 module _ {s : List ℕ} {c : Reading} {rows₀ ids₀ rows rowmarks ids idmarks : List ℕ} {at : Reading} {n : ℕ}
     (h : Held s c rows₀ ids₀ rows rowmarks ids idmarks at n) where
   abbrev told : Walk
-  told = walkFrom 256 s [] c
+  told = walkFrom mostElements s [] c
 
   -- the keys that the tables hold are those of the elements
   held-serials : serialKeys rows n ≡ map (λ (x : Element). x .serial) (h .done)
-  held-serials = rw (h .rows-hold, ← h .many) (serials-held (h .done) (drop (length (h .done) * 6) rows₀))
+  held-serials = rw (h .rows-hold, ← h .many) (serials-held (h .done) (drop (length (h .done) * rowWidth) rows₀))
 
   held-ids : idKeys ids n ≡ map (λ (x : Element). x .id) (h .done)
-  held-ids = rw (h .ids-hold, ← h .many) (ids-held (h .done) (drop (length (h .done) * 3) ids₀))
+  held-ids = rw (h .ids-hold, ← h .many) (ids-held (h .done) (drop (length (h .done) * idWidth) ids₀))
 
   -- what is lent to the reading of the next element
-  pub held-lent : n * 6 ≤ length rows → n * 3 ≤ length ids → keyMarks ≤ length rowmarks → keyMarks ≤ length idmarks → Lent rows rowmarks ids idmarks n
-  held-lent a b d e =
+  pub held-lent : RowsStand rows ids n → keyMarks ≤ length rowmarks → keyMarks ≤ length idmarks → Lent rows rowmarks ids idmarks n
+  held-lent a d e =
       record {
-        row-room = a;
-        id-room = b;
+        stand = a;
         serial-mark-room = d;
         id-mark-room = e;
         serials-marked = rw held-serials (h .serials-marked);
@@ -156,27 +148,27 @@ module _ {s : List ℕ} {c : Reading} {rows₀ ids₀ rows rowmarks ids idmarks 
 
   -- no more elements
   pub held-end : nextIs s 0x01 at ≡ false → told ≡ walked (h .done) (at ▹ endHere s 0x15)
-  held-end e = h .walk ∙ walk-ends (256 - n) s (h .done) at e
+  held-end e = h .walk ∙ walk-ends (mostElements - n) s (h .done) at e
 
   -- one too many
-  pub held-over : nextIs s 0x01 at ≡ true → n ≡ 256 → told ≡ walked (h .done) (startHere s 0x15 0x01 true false at)
-  held-over e q = let z : 256 - n ≡ 0 = omega arith in h .walk ∙ rw z (walk-over s (h .done) at e)
+  pub held-over : nextIs s 0x01 at ≡ true → n ≡ mostElements → told ≡ walked (h .done) (startHere s 0x15 0x01 true false at)
+  held-over e q = let z : mostElements - n ≡ 0 = omega arith in h .walk ∙ rw z (walk-over s (h .done) at e)
 
   -- an element at fault
-  pub held-refused : nextIs s 0x01 at ≡ true → (n ≡ 256 → ⊥) → (r : Refusal) → elementAt 14 (idKeys ids n) (serialKeys rows n) s at ≡ element.Refused r
+  pub held-refused : nextIs s 0x01 at ≡ true → (n ≡ mostElements → ⊥) → (r : Refusal) → elementAt 14 (idKeys ids n) (serialKeys rows n) s at ≡ element.Refused r
       → told ≡ walked (h .done) (Refused r)
   held-refused e d r q =
-      let z : 256 - n ≡ suc (256 - (n + 1)) = let m = h .most in omega arith in
+      let z : mostElements - n ≡ suc (mostElements - (n + 1)) = let m = h .most in omega arith in
       let f = rw (held-ids, held-serials) at q in
-      h .walk ∙ rw z (walk-element (256 - (n + 1)) s (h .done) at e (element.Refused r) f)
+      h .walk ∙ rw z (walk-element (mostElements - (n + 1)) s (h .done) at e (element.Refused r) f)
 
   -- an element more
-  pub held-more : nextIs s 0x01 at ≡ true → (n ≡ 256 → ⊥) → keyMarks ≤ length rowmarks → keyMarks ≤ length idmarks → (x : Element) → elementAt 14 (idKeys ids n) (serialKeys rows n) s at ≡ element.Is x
-      → Held s c rows₀ ids₀ (take (n * 6) rows ++ (rowOf x ++ drop (n * 6 + 6) rows)) (set rowmarks (markOf keyMarks (x .serial)) 1)
-      (take (n * 3) ids ++ (idOf (x .id) ++ drop (n * 3 + 3) ids)) (set idmarks (markOf keyMarks (x .id)) 1)
+  pub held-more : nextIs s 0x01 at ≡ true → (n ≡ mostElements → ⊥) → keyMarks ≤ length rowmarks → keyMarks ≤ length idmarks → (x : Element) → elementAt 14 (idKeys ids n) (serialKeys rows n) s at ≡ element.Is x
+      → Held s c rows₀ ids₀ (take (n * rowWidth) rows ++ (rowOf x ++ drop (n * rowWidth + rowWidth) rows)) (set rowmarks (markOf keyMarks (x .serial)) 1)
+      (take (n * idWidth) ids ++ (idOf (x .id) ++ drop (n * idWidth + idWidth) ids)) (set idmarks (markOf keyMarks (x .id)) 1)
       (At (x .place + x .length) 0) (n + 1)
   held-more e d lr li x q =
-      let z : 256 - n ≡ suc (256 - (n + 1)) = let m = h .most in omega arith in
+      let z : mostElements - n ≡ suc (mostElements - (n + 1)) = let m = h .most in omega arith in
       let f = rw (held-ids, held-serials) at q in
       let w = element-within 14 (idKeys ids n) (serialKeys rows n) s at x q (h .good) in
       record {
@@ -184,11 +176,11 @@ module _ {s : List ℕ} {c : Reading} {rows₀ ids₀ rows rowmarks ids idmarks 
         many = length-append (h .done) (x ∷ []) ∙ (let m = h .many in omega arith);
         most = (let m = h .most in omega arith);
         good = w .1;
-        rows-hold = rw add-one (put-more rowOf 6 row-wide (h .done) x rows rows₀ n (h .many) (h .rows-hold));
-        ids-hold = rw add-one (put-more idRow 3 id-wide (h .done) x ids ids₀ n (h .many) (h .ids-hold));
+        rows-hold = rw add-one (put-more rowOf rowWidth row-wide (h .done) x rows rows₀ n (h .many) (h .rows-hold));
+        ids-hold = rw add-one (put-more idRow idWidth id-wide (h .done) x ids ids₀ n (h .many) (h .ids-hold));
         serials-marked = rw (map-append (λ (y : Element). y .serial) (h .done) (x ∷ [])) (marked-more rowmarks (serialsIn (h .done)) (x .serial) lr (h .serials-marked));
         ids-marked = rw (map-append (λ (y : Element). y .id) (h .done) (x ∷ [])) (marked-more idmarks (idsIn (h .done)) (x .id) li (h .ids-marked));
-        walk = h .walk ∙ rw z (walk-element (256 - (n + 1)) s (h .done) at e (element.Is x) f);
+        walk = h .walk ∙ rw z (walk-element (mostElements - (n + 1)) s (h .done) at e (element.Is x) f);
       }
 
 pub packaged-refused : (n : ℕ) (r : Refusal) → packaged.Refused r ≡ packagedOf n (Refused r)

@@ -1,9 +1,10 @@
--- For read_package, read_store, find_element, element_bytes and lay_part, wrong answers that their promises rule out, each
+-- For read_package, read_store, find_element, element_bytes, lay_part and element_in_row, wrong answers that their promises rule out, each
 -- tried on a named input.
 -- Assumes nothing.
 use mathlib.Core.Path.{_≡_, refl, ap}
-use Prim.Native.Nat.{ℕ, _≤_}
-use mathlib.Core.List.{List, [], _∷_}
+use mathlib.Core.Bool.{true}
+use Prim.Native.Nat.{ℕ, _+_, _≤_}
+use mathlib.Core.List.{List, [], _∷_, map}
 use lib.ListN.{length, getD}
 use native.Mathlib.Omega.{arith}
 use Rattle.laws.specs.Bytes.{le, bytes}
@@ -12,6 +13,7 @@ use Rattle.laws.specs.Once.{once, seen}
 use Rattle.laws.specs.Placed.{Lays}
 use Rattle.laws.proofs.Cases.{impossible}
 use Rattle.numbers.specs.Refusals.{Told, longestInput, faultAt}
+use Rattle.numbers.specs.declared.refusal.Refusal.{Refusal}
 use Rattle.numbers.specs.Compact.{compactBytes, formOf, formFrom, sizeOf}
 use Rattle.numbers.specs.Guid.{guidBytes, taggedBytes}
 use Rattle.numbers.specs.ExtendedGuid.{extendedGuidBytes, namedBytes, shortBytes}
@@ -19,9 +21,11 @@ use Rattle.numbers.specs.Serial.{serialBytes}
 use Rattle.objects.specs.Header.{startBytes, endBytes, startOf, endOf, sized, headerOf, headerAt, lengthAt}
 use Rattle.objects.specs.Steps.{placeOf, startHere, lengthIs, startOfLength, skip, endHere, nextIs, finish}
 use Rattle.store.specs.Store.{packageStart, Walk, walkFrom, packageWalk, storeWalk, packagedOf, storedOf, PackageTo, WalkedTo}
-use Rattle.store.specs.Tables.{flat}
+use Rattle.store.specs.Element.{sameKey}
+use Rattle.store.specs.Tables.{mostElements, keyAt, flat, elementInRow}
 use Rattle.store.specs.Written.{Content, AllFit, fieldBytes, writtenElement, writtenElements, packageFront, packageBytes, elementsFrom}
 use Rattle.store.specs.Accessor.{elementIn, foundIn, FindsElement, elementBytes}
+use Rattle.store.specs.declared.element.Element.{Element}
 use Rattle.store.specs.declared.accessor.Found.the-variants as found
 use Rattle.store.specs.declared.package.Packaged.the-variants as packaged
 use Rattle.store.specs.declared.package.Stored.the-variants as stored
@@ -146,3 +150,36 @@ byte-behind h = impossible (cc (h .1))
 
 front-answered : Lays 1 (5 ∷ []) (7 ∷ 8 ∷ 9 ∷ []) 1 (7 ∷ 5 ∷ 9 ∷ []) → ⊥
 front-answered h = let z = h .0 in omega arith
+
+-- ---- element_in_row, of one row 1 to 6 and the ids 7 to 9 and 10 to 12: its length for its place; the id of the other row
+
+abbrev element-of : ℕ → ℕ → ℕ → Element
+element-of place low number =
+    record {
+      place = place;
+      length = 2;
+      kind = 3;
+      id = record { low = low; high = low + 1; number = number };
+      serial = record { low = 4; high = 5; number = 6 };
+    }
+
+abbrev in-row : Element
+in-row = elementInRow (1 ∷ 2 ∷ 3 ∷ 4 ∷ 5 ∷ 6 ∷ []) (7 ∷ 8 ∷ 9 ∷ 10 ∷ 11 ∷ 12 ∷ []) 0
+
+columns-turned : element-of 2 7 9 ≡ in-row → ⊥
+unfolding elementInRow keyAt
+columns-turned h = let z : _≡_ {A = ℕ} 2 1 = ap (λ (x : Element). x .place) h in omega arith
+
+other-row : element-of 1 10 12 ≡ in-row → ⊥
+unfolding elementInRow keyAt
+other-row h = let z : _≡_ {A = ℕ} 12 9 = ap (λ (x : Element). x .id .number) h in omega arith
+
+-- ---- a store of as many elements as may be is not refused
+
+full-refused : (cs : List Content) → length cs ≡ mostElements → AllFit 14 cs → once sameKey (map (λ (c : Content). c .id) cs) ≡ true
+    → once sameKey (map (λ (c : Content). c .serial) cs) ≡ true
+    → length (packageBytes cs) ≤ longestInput
+    → (r : Refusal) (rows ids : List ℕ) → WalkedTo (storeWalk (packageBytes cs)) (stored.Refused r) rows rows ids ids
+    → ⊥
+unfolding storedOf
+full-refused cs l fit i s few r rows ids h = let e = rw (package-written cs (omega arith) fit i s few .1) at (h .0) in impossible (cc)

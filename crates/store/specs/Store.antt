@@ -14,7 +14,7 @@ use Rattle.objects.specs.Steps.{_▹_, nothingOpen, startOfLength, startHere, s
 use Rattle.objects.specs.declared.reading.Reading.{Reading}
 use Rattle.objects.specs.declared.reading.Reading.the-variants.{At, Refused}
 use Rattle.store.specs.Element.{idsIn, serialsIn, elementAt}
-use Rattle.store.specs.Tables.{rowsOf, idsOf}
+use Rattle.store.specs.Tables.{rowWidth, idWidth, mostElements, rowsOf, idsOf}
 use Rattle.store.specs.declared.element.Element.{Element}
 use Rattle.store.specs.declared.element.ReadElement.{ReadElement}
 use Rattle.store.specs.declared.element.ReadElement.the-variants as element
@@ -56,7 +56,7 @@ walkFrom (suc left) s done c =
 
 -- 9, "over 256 elements"
 abbrev pub packageWalk : ℕ → List ℕ → Reading → Walk
-packageWalk outer s c = walkFrom 256 s [] (packageStart outer s c)
+packageWalk outer s c = walkFrom mostElements s [] (packageStart outer s c)
 
 -- "After the last end any byte is 5"
 abbrev pub finished : List ℕ → Walk → Walk
@@ -91,10 +91,10 @@ storeAnswer w = storedOf (length (w .elements)) (w .last)
 
 -- the rows of the elements that were read, and behind them the table's own numbers
 abbrev pub laidRows : Walk → List ℕ → List ℕ
-laidRows w t = rowsOf (w .elements) ++ drop (length (w .elements) * 6) t
+laidRows w t = rowsOf (w .elements) ++ drop (length (w .elements) * rowWidth) t
 
 abbrev pub laidIds : Walk → List ℕ → List ℕ
-laidIds w t = idsOf (w .elements) ++ drop (length (w .elements) * 3) t
+laidIds w t = idsOf (w .elements) ++ drop (length (w .elements) * idWidth) t
 
 -- what reading promises: the answer, and both tables at exit
 abbrev pub PackageTo : Walk → Packaged → List ℕ → List ℕ → List ℕ → List ℕ → Type 0

@@ -1,4 +1,6 @@
--- The working tables: what a row and an id are as numbers, and the keys that stand in a table.
+-- The working tables of a store, and all that hangs on their layout: how many numbers a row and an id have, how many elements there may
+-- be, what a row and an id are as numbers, and the elements and keys that stand in the tables. Whoever gives a row another column or
+-- another order changes this page.
 -- Assumes nothing.
 use mathlib.Core.Path.{_≡_}
 use mathlib.Core.Bool.{false}
@@ -10,6 +12,30 @@ use Rattle.store.specs.Element.{sameKey}
 use Rattle.store.specs.declared.element.Key.{Key}
 use Rattle.store.specs.declared.element.Element.{Element}
 
+-- ---- widths and limits
+
+-- "(place, length, type, serial's GUID as two little-endian numbers, serial's number)", and the three numbers of an id
+abbrev pub rowWidth : ℕ
+rowWidth = 6
+
+abbrev pub idWidth : ℕ
+idWidth = 3
+
+-- 9, "over 256 elements"
+abbrev pub mostElements : ℕ
+mostElements = 256
+
+-- "1,536 numbers": a table with room for the rows of all of them
+abbrev pub rowNumbers : ℕ
+rowNumbers = 1536
+
+-- the rows and ids of n elements stand in these tables
+pub record RowsStand (rows ids : List ℕ) (n : ℕ) : Type 0 where
+  pub row-room : n * rowWidth ≤ length rows
+  pub id-room : n * idWidth ≤ length ids
+
+-- ---- keys
+
 -- three numbers at a place
 unfoldable pub keyAt : List ℕ → ℕ → Key
 keyAt t at = record { low = getD t at 0; high = getD t (at + 1) 0; number = getD t (at + 2) 0 }
@@ -20,10 +46,10 @@ keysAt t at width zero = []
 keysAt t at width (suc n) = keyAt t at ∷ keysAt t (at + width) width n
 
 abbrev pub idKeys : List ℕ → ℕ → List Key
-idKeys t n = keysAt t 0 3 n
+idKeys t n = keysAt t 0 idWidth n
 
 abbrev pub serialKeys : List ℕ → ℕ → List Key
-serialKeys t n = keysAt t 3 6 n
+serialKeys t n = keysAt t 3 rowWidth n
 
 -- ---- marks, so that most keys need no search: a key whose mark is not set was not seen
 
@@ -40,8 +66,7 @@ Marked marks keys = (k : Key) → getD marks (markOf keyMarks k) 0 ≡ 0 → see
 
 -- both tables and both runs of marks, with n rows in them
 pub record Lent (rows serialMarks ids idMarks : List ℕ) (n : ℕ) : Type 0 where
-  pub row-room : n * 6 ≤ length rows
-  pub id-room : n * 3 ≤ length ids
+  pub stand : RowsStand rows ids n
   pub serial-mark-room : keyMarks ≤ length serialMarks
   pub id-mark-room : keyMarks ≤ length idMarks
   pub serials-marked : Marked serialMarks (serialKeys rows n)
@@ -66,3 +91,28 @@ rowsOf done = flat rowOf done
 
 abbrev pub idsOf : List Element → List ℕ
 idsOf done = flat (λ x. idOf (x .id)) done
+
+-- ---- the elements that stand there
+
+-- the id of row i
+abbrev pub idInRow : List ℕ → ℕ → Key
+idInRow ids i = keyAt ids (i * idWidth)
+
+-- the element of row i
+unfoldable pub elementInRow : List ℕ → List ℕ → ℕ → Element
+elementInRow rows ids i =
+    record {
+      place = getD rows (i * rowWidth) 0;
+      length = getD rows (i * rowWidth + 1) 0;
+      kind = getD rows (i * rowWidth + 2) 0;
+      id = idInRow ids i;
+      serial = keyAt rows (i * rowWidth + 3);
+    }
+
+-- n of them, from row i on
+unfoldable pub elementsInRows : List ℕ → List ℕ → ℕ → ℕ → List Element
+elementsInRows rows ids i zero = []
+elementsInRows rows ids i (suc n) = elementInRow rows ids i ∷ elementsInRows rows ids (suc i) n
+
+abbrev pub elementsIn : List ℕ → List ℕ → ℕ → List Element
+elementsIn rows ids n = elementsInRows rows ids 0 n

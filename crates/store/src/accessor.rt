@@ -1,10 +1,11 @@
 // One element of a lent store by its position: where it stands, and its own bytes as a part of the store.
 ghost use mathlib.Core.Path.{_≡_};
 ghost use Rattle.store.specs.Accessor.{FindsElement, elementBytes};
-use crate::package::ID_NUMBERS;
-use crate::package::ROW_NUMBERS;
 use crate::package::Stored;
 use crate::package::read_store;
+use crate::table::ID_NUMBERS;
+use crate::table::ROW_NUMBERS;
+use crate::table::element_in_row;
 use numbers::refusal::Refusal;
 use numbers::refusal::at_place;
 use objects::layout::part;
@@ -28,8 +29,8 @@ pub fn find_element(s: &[u8], position: usize) -> Found
             if n <= position {
                 return Found::Refused(at_place(9, 0));
             }
-            let at = position * 6;
-            Found::At(rows[at] as usize, rows[at + 1] as usize)
+            let x = element_in_row(&rows, &ids, position);
+            Found::At(x.place, x.length)
         }
     }
 }

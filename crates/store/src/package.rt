@@ -3,12 +3,16 @@
 ghost use mathlib.Core.Path.{_≡_};
 ghost use mathlib.Core.List.{[]};
 ghost use Rattle.objects.specs.Steps.{Good};
+ghost use Rattle.store.specs.Tables.{mostElements};
 ghost use Rattle.store.specs.Store.{packageStart, packagedOf, storedOf, walkFrom, packageWalk, storeWalk, PackageTo, WalkedTo};
 use crate::element::ELEMENT;
 use crate::element::PACKAGE;
 use crate::element::ReadElement;
 use crate::element::read_element;
+use crate::table::ID_NUMBERS;
 use crate::table::KEY_MARKS;
+use crate::table::MOST_ELEMENTS;
+use crate::table::ROW_NUMBERS;
 use crate::table::put_id;
 use crate::table::put_mark;
 use crate::table::put_row;
@@ -18,15 +22,8 @@ use numbers::refusal::over_long;
 use objects::layout::NOTHING;
 use objects::reading::Reading;
 
-// At most so many elements, and so many levels inside one.
-pub const MOST_ELEMENTS: usize = 256;
-
+// So many levels are left inside an element.
 pub const LEVELS_INSIDE: usize = 14;
-
-// The numbers of the working tables: six for the row of an element, three for its id.
-pub const ROW_NUMBERS: usize = 1536;
-
-pub const ID_NUMBERS: usize = 768;
 
 // How many elements a package holds, and the place behind its end.
 pub enum Packaged {
@@ -78,7 +75,7 @@ fn walk(
     idmarks: &mut [u8; KEY_MARKS as usize],
 ) -> Packaged
     requires { ⌜ Good (now s) c ⌝ }
-    ensures { λ r. ⌜ PackageTo (walkFrom 256 (now (s .entry)) [] c) r (now (rows .entry)) (now (rows .exit)) (now (ids .entry)) (now (ids .exit)) ⌝ }
+    ensures { λ r. ⌜ PackageTo (walkFrom mostElements (now (s .entry)) [] c) r (now (rows .entry)) (now (rows .exit)) (now (ids .entry)) (now (ids .exit)) ⌝ }
 {
     let mut at = c;
     let mut n = 0;

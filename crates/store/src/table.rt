@@ -1,14 +1,25 @@
 // The working tables of a store: rows of six numbers (place, length, type, the serial's GUID as two little-endian numbers,
-// the serial's number) and ids of three (the GUID as two numbers, the number).
+// the serial's number) and ids of three (the GUID as two numbers, the number). No other file knows their columns.
 ghost use mathlib.Core.Path.{_≡_};
 ghost use mathlib.Core.List.{_++_};
 ghost use Prim.Native.Nat.{_+_, _*_, _≤_, _<_};
 ghost use lib.ListN.{length, take, drop, set};
 ghost use Rattle.laws.specs.Once.{seen};
 ghost use Rattle.store.specs.Element.{sameKey};
-ghost use Rattle.store.specs.Tables.{keyAt, keysAt, rowOf, idOf, markOf, keyMarks, Marked};
+ghost use Rattle.store.specs.Tables.{rowWidth, idWidth, RowsStand, keyAt, keysAt, rowOf, idOf, idInRow, elementInRow, markOf, keyMarks, Marked};
 use crate::element::Element;
 use crate::element::Key;
+
+// At most so many elements; how many numbers a row and an id have; and the numbers of tables with room for all.
+pub const MOST_ELEMENTS: usize = 256;
+
+pub const ROW_WIDTH: usize = 6;
+
+pub const ID_WIDTH: usize = 3;
+
+pub const ROW_NUMBERS: usize = 1536;
+
+pub const ID_NUMBERS: usize = 768;
 
 // Among how many the keys of a store have their marks.
 pub const KEY_MARKS: u64 = 4096;
@@ -90,10 +101,10 @@ fn search_key(t: &[u64], offset: usize, width: usize, n: usize, k: Key) -> bool
 
 // The row of an element behind n rows.
 pub(crate) fn put_row(t: &mut [u64], n: usize, x: Element)
-    requires { ⌜ n * 6 + 6 ≤ length (now t) ⌝ }
-    ensures { λ _. ⌜ now (t .exit) ≡ take (n * 6) (now (t .entry)) ++ (rowOf x ++ drop (n * 6 + 6) (now (t .entry))) ⌝ }
+    requires { ⌜ n * rowWidth + rowWidth ≤ length (now t) ⌝ }
+    ensures { λ _. ⌜ now (t .exit) ≡ take (n * rowWidth) (now (t .entry)) ++ (rowOf x ++ drop (n * rowWidth + rowWidth) (now (t .entry))) ⌝ }
 {
-    let at = n * 6;
+    let at = n * ROW_WIDTH;
     let serial = x.serial;
     t[at] = x.place as u64;
     t[at + 1] = x.length as u64;
@@ -105,11 +116,34 @@ pub(crate) fn put_row(t: &mut [u64], n: usize, x: Element)
 
 // An id behind n ids.
 pub(crate) fn put_id(t: &mut [u64], n: usize, k: Key)
-    requires { ⌜ n * 3 + 3 ≤ length (now t) ⌝ }
-    ensures { λ _. ⌜ now (t .exit) ≡ take (n * 3) (now (t .entry)) ++ (idOf k ++ drop (n * 3 + 3) (now (t .entry))) ⌝ }
+    requires { ⌜ n * idWidth + idWidth ≤ length (now t) ⌝ }
+    ensures { λ _. ⌜ now (t .exit) ≡ take (n * idWidth) (now (t .entry)) ++ (idOf k ++ drop (n * idWidth + idWidth) (now (t .entry))) ⌝ }
 {
-    let at = n * 3;
+    let at = n * ID_WIDTH;
     t[at] = k.low;
     t[at + 1] = k.high;
     t[at + 2] = k.number;
+}
+
+// The id of row i.
+pub fn id_in_row(ids: &[u64], i: usize) -> Key
+    requires { ⌜ i * idWidth + idWidth ≤ length (now ids) ⌝ }
+    ensures { λ r. ⌜ r ≡ idInRow (now (ids .entry)) i ⌝ }
+{
+    key_at(ids, i * ID_WIDTH)
+}
+
+// The element of row i. Ruled out (proofs/WrongAnswers): its columns turned, the length for the place; the id of another row.
+pub fn element_in_row(rows: &[u64], ids: &[u64], i: usize) -> Element
+    requires { ⌜ RowsStand (now rows) (now ids) (i + 1) ⌝ }
+    ensures { λ r. ⌜ r ≡ elementInRow (now (rows .entry)) (now (ids .entry)) i ⌝ }
+{
+    let at = i * ROW_WIDTH;
+    Element {
+        place: rows[at] as usize,
+        length: rows[at + 1] as usize,
+        kind: rows[at + 2],
+        id: id_in_row(ids, i),
+        serial: key_at(rows, at + 3),
+    }
 }

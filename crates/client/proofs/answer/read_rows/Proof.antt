@@ -5,7 +5,7 @@ use borrow.Author.Tests.{lt-ltb, le-ltb}
 use Rattle.objects.specs.Steps.{valued}
 use Rattle.objects.specs.declared.reading.Reading.the-variants.{Refused}
 use Rattle.client.specs.Read.{packageIn, answerEnd, answerOn, answerIn}
-use Rattle.client.specs.Accessor.{rowsReceived}
+use Rattle.client.specs.Accessor.{rowsReceived, idsReceived}
 use Rattle.client.proofs.AnswerWithin.{good-response-start}
 use Rattle.client.proofs.AnswerRest.{rest-fault, package-refused, package-holds}
 use borrow.Author.Needs.{needs}
@@ -16,8 +16,8 @@ at-place-requires : tie.Need-at-place-requires
 at-place-requires c κs = search needs
 
 returns : tie.Need-returns
-unfolding answerIn answerEnd answerOn rowsReceived
-returns c = rw (lt-ltb _ _ (c .before .if1 .taken), c .at-place .ensures) (refl, refl)
+unfolding answerIn answerEnd answerOn rowsReceived idsReceived
+returns c = rw (lt-ltb _ _ (c .before .if1 .taken), c .at-place .ensures) (refl, refl, refl)
 
 response-start-requires : tie.Need-response-start-requires
 response-start-requires c κs = search needs
@@ -41,23 +41,23 @@ read-rest-requires : tie.Need-read-rest-requires
 read-rest-requires c κs = search needs
 
 returns-2 : tie.Need-returns-2
-unfolding answerIn answerEnd answerOn valued rowsReceived
+unfolding answerIn answerEnd answerOn valued rowsReceived idsReceived
 returns-2 c =
     let k = c .before .before .before in
     let s = k .before .before .before .before .before .before .before .before .args .s .now in
     let h = rw (k .before .before .before .before .before .response-start .ensures) at (k .read-package .ensures) in
     let q : packageIn s .last ≡ Refused _ = package-refused _ _ _ (sym (h .0) ∙ c .before .r .given .1) in
-    rw (le-ltb _ _ (k .before .before .before .before .before .before .if1 .left)) (rw (q, rest-fault s (c .before .r .given .0 .0)), h .1)
+    rw (le-ltb _ _ (k .before .before .before .before .before .before .if1 .left)) (rw (q, rest-fault s (c .before .r .given .0 .0)), h .1, h .2)
 
 returns-3 : tie.Need-returns-3
-unfolding answerIn answerEnd rowsReceived
+unfolding answerIn answerEnd rowsReceived idsReceived
 returns-3 c =
     let k = c .before .before .before .before in
     let s = k .before .before .before .before .before .before .before .before .args .s .now in
     let h = rw (k .before .before .before .before .before .response-start .ensures) at (k .read-package .ensures) in
     let q = package-holds _ _ _ _ (sym (h .0) ∙ c .before .before .n .given .1) in
     rw (le-ltb _ _ (k .before .before .before .before .before .before .if1 .left))
-    (rw (c .read-rest .ensures, k .before .before .before .place .ensures, k .before .before .before .before .package-start .ensures, k .before .before .before .before .before .response-start .ensures, q .0, q .1), h .1)
+    (rw (c .read-rest .ensures, k .before .before .before .place .ensures, k .before .before .before .before .package-start .ensures, k .before .before .before .before .before .response-start .ensures, q .0, q .1), h .1, h .2)
 
 pub read-rows-spec : {M : Type 1} → statement M
 read-rows-spec =

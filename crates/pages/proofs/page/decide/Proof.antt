@@ -9,7 +9,8 @@ use borrow.Author.Tests.{not-true, not-false}
 use Rattle.talk.specs.declared.range.Range.{Range}
 use Rattle.ranges.specs.RangeTable.{rangesAt}
 use Rattle.store.specs.KnowledgeWritten.{rangesBytes}
-use Rattle.request.specs.Choice.{elementOf}
+use Rattle.store.specs.Tables.{mostElements}
+use Rattle.store.proofs.Elements.{rows-up-to}
 use Rattle.pages.specs.Tables.{chosenIn}
 use Rattle.pages.specs.declared.page.Page.{Page}
 use Rattle.pages.proofs.Stops.{sendable-ranges}
@@ -38,7 +39,7 @@ loop-holds c =
     let s = c .before .before .before .before .before .before .before in
     let a = s .args in
     let z : a .count - 0 ≡ a .count = omega arith in
-    rw (c .new .ensures, c .before .ranges-length .ensures .0, z, ← chosen-start (a .rows .now) (a .ids .now) (a .n) (a .flags .now)) (omega arith, under-start (chosenIn (a .rows .now) (a .ids .now) (a .n) (a .flags .now)) (rangesAt (a .t .now) 0 (a .count)) (a .t .now) (a .b) (a .count) (s .pre .4) refl)
+    rw (c .new .ensures, c .before .ranges-length .ensures .0, z, ← chosen-start (a .rows .now) (a .ids .now) (a .n) (a .flags .now)) (omega arith, under-start (chosenIn (a .rows .now) (a .ids .now) (a .n) (a .flags .now)) (rangesAt (a .t .now) 0 (a .count)) (a .t .now) (a .b) (a .count) (s .pre .0 .carried) refl)
 
 shared-slice-read-if2 : tie.Need-shared-slice-read-if2 Inv-loop μ-loop
 shared-slice-read-if2 c = search needs
@@ -64,11 +65,13 @@ loop-again c =
     let p = l .loop .p in
     let u = l .loop .inv .1 in
     let i : p .place < a .n = c .before .before .before .if1 .taken in
-    let flagged : a .n ≤ length (a .flags .now) = s .pre .3 in
+    let flagged : a .n ≤ length (a .flags .now) = s .pre .0 .flagged in
     rw (c .pass .ensures) (omega arith, under-pass u (chosen-not (a .rows .now) (a .ids .now) (a .n) (a .flags .now) (p .place) i (omega arith) (c .before .if2 .taken)))
 
-element-at-requires : tie.Need-element-at-requires Inv-loop μ-loop
-element-at-requires c κs = search needs
+element-in-row-requires : tie.Need-element-in-row-requires Inv-loop μ-loop
+element-in-row-requires c κs =
+    let l = c .before .before .before .before in
+    rows-up-to (l .before .before .before .before .before .before .before .before .pre .0 .stand) _ (omega arith)
 
 serial-range-requires : tie.Need-serial-range-requires Inv-loop μ-loop
 serial-range-requires c κs = search needs
@@ -81,13 +84,12 @@ price-of-requires c κs =
     let p = l .loop .p in
     let u = l .loop .inv .1 in
     let cap : p .ranges ≤ a .b .most = u .carried in
-    let most : a .b .most ≤ 512 = s .pre .5 in
+    let most : a .b .most ≤ 512 = s .pre .0 .most-carried in
     let long : length (l .loop .t) ≡ length (a .t .now) = u .same-length in
-    let room : 2048 ≤ length (a .t .now) = s .pre .6 in
-    (omega arith, omega arith, u .spelled ∙ ap (λ (r : List Range). length (rangesBytes r)) (sym (u .held)), rw (u .held) (normal-with (take (p .count) _) _ (s .pre .9)))
+    let room : 2048 ≤ length (a .t .now) = s .pre .0 .room in
+    (omega arith, omega arith, u .spelled ∙ ap (λ (r : List Range). length (rangesBytes r)) (sym (u .held)), rw (u .held) (normal-with (take (p .count) _) _ (s .pre .0 .normal)))
 
 add-stored : tie.Need-add-stored Inv-loop μ-loop
-unfolding elementOf
 add-stored c =
     let l = c .before .before .before .before .before .before .before .before .before .before in
     let s = l .before .before .before .before .before .before .before .before in
@@ -96,15 +98,14 @@ add-stored c =
     let u = l .loop .inv .1 in
     let k = c .before .before in
     let e = k .before .before .before in
-    let x = e .element-at .result in
+    let x = e .element-in-row .result in
     let i : p .place < a .n = e .before .before .before .if1 .taken in
-    let few-elements : a .n ≤ 256 = s .pre .0 in
-    let light : x .length ≤ 2 ^ 24 = rw (e .element-at .ensures) (s .pre .8 (p .place) i) in
+    let few-elements : a .n ≤ mostElements = s .pre .0 .few in
+    let light : x .length ≤ 2 ^ 24 = rw (e .element-in-row .ensures) (s .pre .0 .short (p .place) i) in
     let small : p .bytes ≤ 2 ^ 24 * p .place = u .small in
     omega arith
 
 whole-of-requires : tie.Need-whole-of-requires Inv-loop μ-loop
-unfolding elementOf
 whole-of-requires c κs =
     let l = c .before .before .before .before .before .before .before .before .before .before in
     let s = l .before .before .before .before .before .before .before .before in
@@ -113,17 +114,17 @@ whole-of-requires c κs =
     let u = l .loop .inv .1 in
     let k = c .before .before in
     let e = k .before .before .before in
-    let x = e .element-at .result in
+    let x = e .element-in-row .result in
     let i : p .place < a .n = e .before .before .before .if1 .taken in
-    let flagged : a .n ≤ length (a .flags .now) = s .pre .3 in
-    let v = under-same u (chosen-one (a .rows .now) (a .ids .now) (a .n) (a .flags .now) (p .place) i (omega arith) (e .before .if2 .left) (e .element-at .ensures)) in
+    let flagged : a .n ≤ length (a .flags .now) = s .pre .0 .flagged in
+    let v = under-same u (chosen-one (a .rows .now) (a .ids .now) (a .n) (a .flags .now) (p .place) i (omega arith) (e .before .if2 .left) (e .element-in-row .ensures)) in
     let priced = rw (k .before .serial-range .ensures) at (k .price-of .ensures) in
-    let few-elements : a .n ≤ 256 = s .pre .0 in
-    let light : x .length ≤ 2 ^ 24 = rw (e .element-at .ensures) (s .pre .8 (p .place) i) in
+    let few-elements : a .n ≤ mostElements = s .pre .0 .few in
+    let light : x .length ≤ 2 ^ 24 = rw (e .element-in-row .ensures) (s .pre .0 .short (p .place) i) in
     let small : p .bytes ≤ 2 ^ 24 * p .place = u .small in
-    let fixed : a .b .fixed ≤ 2 ^ 32 = s .pre .7 in
+    let fixed : a .b .fixed ≤ 2 ^ 32 = s .pre .1 in
     let cap : p .ranges ≤ a .b .most = u .carried in
-    let most : a .b .most ≤ 512 = s .pre .5 in
+    let most : a .b .most ≤ 512 = s .pre .0 .most-carried in
     omega (arith, price-most v priced)
 
 add-is-sendable : tie.Need-add-is-sendable Inv-loop μ-loop
@@ -136,7 +137,7 @@ add-is-sendable c =
     let k = c .before .before .before .before in
     let e = k .before .before .before in
     let i : p .place < a .n = e .before .before .before .if1 .taken in
-    let few-elements : a .n ≤ 256 = s .pre .0 in
+    let few-elements : a .n ≤ mostElements = s .pre .0 .few in
     let few : p .count ≤ p .place = u .few in
     omega arith
 
@@ -153,11 +154,11 @@ stop-requires c κs =
     let k = c .before .before .before .before .before .before in
     let e = k .before .before .before in
     let i : p .place < a .n = e .before .before .before .if1 .taken in
-    let few-elements : a .n ≤ 256 = s .pre .0 in
+    let few-elements : a .n ≤ mostElements = s .pre .0 .few in
     let small : p .bytes ≤ 2 ^ 24 * p .place = u .small in
-    let fixed : a .b .fixed ≤ 2 ^ 32 = s .pre .7 in
+    let fixed : a .b .fixed ≤ 2 ^ 32 = s .pre .1 in
     let cap : p .ranges ≤ a .b .most = u .carried in
-    let most : a .b .most ≤ 512 = s .pre .5 in
+    let most : a .b .most ≤ 512 = s .pre .0 .most-carried in
     let spelled : p .spelled ≤ 36 * p .ranges = spelled-most u in
     omega arith
 
@@ -174,14 +175,13 @@ returns c =
     let k = c .before .before .before .before .before .before .before in
     let e = k .before .before .before in
     let i : p .place < a .n = e .before .before .before .if1 .taken in
-    let flagged : a .n ≤ length (a .flags .now) = s .pre .3 in
-    let v = under-same u (chosen-one (a .rows .now) (a .ids .now) (a .n) (a .flags .now) (p .place) i (omega arith) (e .before .if2 .left) (e .element-at .ensures)) in
+    let flagged : a .n ≤ length (a .flags .now) = s .pre .0 .flagged in
+    let v = under-same u (chosen-one (a .rows .now) (a .ids .now) (a .n) (a .flags .now) (p .place) i (omega arith) (e .before .if2 .left) (e .element-in-row .ensures)) in
     let priced = rw (k .before .serial-range .ensures) at (k .price-of .ensures) in
     let f = rw (c .before .before .before .before .whole-of .ensures) at (sym (c .before .before .is-sendable .ensures) ∙ not-true (c .before .before .is-sendable .result) (c .before .if3 .taken)) in
     under-stop v priced f (rw (c .before .before .before .before .whole-of .ensures) at (c .stop .ensures))
 
 take-requires : tie.Need-take-requires Inv-loop μ-loop
-unfolding elementOf
 take-requires c κs =
     let l = c .before .before .before .before .before .before .before .before .before .before .before .before .before .before .before in
     let s = l .before .before .before .before .before .before .before .before in
@@ -190,17 +190,17 @@ take-requires c κs =
     let u = l .loop .inv .1 in
     let k = c .before .before .before .before .before .before .before in
     let e = k .before .before .before in
-    let x = e .element-at .result in
+    let x = e .element-in-row .result in
     let q = k .price-of .result in
     let i : p .place < a .n = e .before .before .before .if1 .taken in
-    let few-elements : a .n ≤ 256 = s .pre .0 in
-    let light : x .length ≤ 2 ^ 24 = rw (e .element-at .ensures) (s .pre .8 (p .place) i) in
+    let few-elements : a .n ≤ mostElements = s .pre .0 .few in
+    let light : x .length ≤ 2 ^ 24 = rw (e .element-in-row .ensures) (s .pre .0 .short (p .place) i) in
     let small : p .bytes ≤ 2 ^ 24 * p .place = u .small in
     let few : p .count ≤ p .place = u .few in
     let cap : p .ranges ≤ a .b .most = u .carried in
-    let most : a .b .most ≤ 512 = s .pre .5 in
+    let most : a .b .most ≤ 512 = s .pre .0 .most-carried in
     let long : length (l .loop .t) ≡ length (a .t .now) = u .same-length in
-    let room : 2048 ≤ length (a .t .now) = s .pre .6 in
+    let room : 2048 ≤ length (a .t .now) = s .pre .0 .room in
     let f = rw (c .before .before .before .before .whole-of .ensures) at (sym (c .before .before .is-sendable .ensures) ∙ not-false (c .before .before .is-sendable .result) (c .before .if3 .left)) in
     let g : q .ranges ≤ a .b .most = sendable-ranges (a .b .most) (a .b .limit) (a .b .room) (p .count + 1) (p .bytes + x .length) (q .ranges) _ f in
     let priced = rw (k .before .serial-range .ensures) at (k .price-of .ensures) in
@@ -219,7 +219,6 @@ loop-less-2 c =
     omega arith
 
 loop-again-2 : tie.Need-loop-again-2 Inv-loop μ-loop
-unfolding elementOf
 loop-again-2 c =
     let l = c .before .before .before .before .before .before .before .before .before .before .before .before .before .before .before .before .before .before in
     let s = l .before .before .before .before .before .before .before .before in
@@ -228,14 +227,14 @@ loop-again-2 c =
     let u = l .loop .inv .1 in
     let k = c .before .before .before .before .before .before .before .before .before .before in
     let e = k .before .before .before in
-    let x = e .element-at .result in
+    let x = e .element-in-row .result in
     let i : p .place < a .n = e .before .before .before .if1 .taken in
-    let flagged : a .n ≤ length (a .flags .now) = s .pre .3 in
-    let v = under-same u (chosen-one (a .rows .now) (a .ids .now) (a .n) (a .flags .now) (p .place) i (omega arith) (e .before .if2 .left) (e .element-at .ensures)) in
+    let flagged : a .n ≤ length (a .flags .now) = s .pre .0 .flagged in
+    let v = under-same u (chosen-one (a .rows .now) (a .ids .now) (a .n) (a .flags .now) (p .place) i (omega arith) (e .before .if2 .left) (e .element-in-row .ensures)) in
     let priced = rw (k .before .serial-range .ensures) at (k .price-of .ensures) in
-    let light : x .length ≤ 2 ^ 24 = rw (e .element-at .ensures) (s .pre .8 (p .place) i) in
-    let most : a .b .most ≤ 512 = s .pre .5 in
-    let room : 2048 ≤ length (a .t .now) = s .pre .6 in
+    let light : x .length ≤ 2 ^ 24 = rw (e .element-in-row .ensures) (s .pre .0 .short (p .place) i) in
+    let most : a .b .most ≤ 512 = s .pre .0 .most-carried in
+    let room : 2048 ≤ length (a .t .now) = s .pre .0 .room in
     let d = c .before .before in
     let f = rw (d .before .before .before .before .before .whole-of .ensures) at (sym (d .before .before .before .is-sendable .ensures) ∙ not-false (d .before .before .before .is-sendable .result) (d .before .before .if3 .left)) in
     rw (d .take .ensures .0) (omega arith, under-take v priced (d .take .last .1 .0) (omega arith) light (d .take .ensures .1) f)
@@ -247,12 +246,12 @@ end-requires c κs =
     let a = s .args in
     let p = l .loop .p in
     let u = l .loop .inv .1 in
-    let few-elements : a .n ≤ 256 = s .pre .0 in
+    let few-elements : a .n ≤ mostElements = s .pre .0 .few in
     let small : p .bytes ≤ 2 ^ 24 * p .place = u .small in
-    let fixed : a .b .fixed ≤ 2 ^ 32 = s .pre .7 in
+    let fixed : a .b .fixed ≤ 2 ^ 32 = s .pre .1 in
     let inside : p .place ≤ a .n = l .loop .inv .0 in
     let cap : p .ranges ≤ a .b .most = u .carried in
-    let most : a .b .most ≤ 512 = s .pre .5 in
+    let most : a .b .most ≤ 512 = s .pre .0 .most-carried in
     let spelled : p .spelled ≤ 36 * p .ranges = spelled-most u in
     omega arith
 
@@ -281,7 +280,7 @@ decide-spec =
     pass-requires
     loop-less
     loop-again
-    element-at-requires
+    element-in-row-requires
     serial-range-requires
     price-of-requires
     add-stored

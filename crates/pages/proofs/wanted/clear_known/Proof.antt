@@ -7,7 +7,9 @@ use native.Mathlib.Omega.{arith}
 use lib.ListN.{length, length-set}
 use borrow.Author.Needs.{needs}
 use Rattle.ranges.specs.RangeTable.{rangesAt}
-use Rattle.request.specs.Choice.{elementsIn, setFlags}
+use Rattle.store.specs.Tables.{elementsIn}
+use Rattle.store.proofs.Elements.{rows-up-to}
+use Rattle.request.specs.Choice.{setFlags}
 use Rattle.request.proofs.Setting.{Setting, setting-start, setting-matched, setting-passed, setting-end}
 use Rattle.pages.specs.Choice.{isKnown}
 use Rattle.pages.proofs.wanted.clear_known.Statement.{statement}
@@ -23,8 +25,8 @@ abbrev μ-loop : tie.MeasureT-loop
 loop-holds : tie.Need-loop-holds Inv-loop μ-loop
 loop-holds c = (refl, setting-start _ _ _ _ _ _ (omega arith))
 
-element-at-requires : tie.Need-element-at-requires Inv-loop μ-loop
-element-at-requires c κs = (omega arith, omega arith)
+element-in-row-requires : tie.Need-element-in-row-requires Inv-loop μ-loop
+element-in-row-requires c κs = rows-up-to (c .before .before .before .before .before .before .pre .0) _ (omega arith)
 
 knows-element-requires : tie.Need-knows-element-requires Inv-loop μ-loop
 knows-element-requires c κs = search needs
@@ -42,7 +44,7 @@ loop-again : tie.Need-loop-again Inv-loop μ-loop
 loop-again c =
     let l = c .before .before .before .before in
     let h = c .before .before .before .loop-test .taken in
-    let e = rw (c .before .before .element-at .ensures) at (sym (c .before .knows-element .ensures)) in
+    let e = rw (c .before .before .element-in-row .ensures) at (sym (c .before .knows-element .ensures)) in
     ⊎-elim
     (λ w. (ap length (w .1) ∙ length-set (l .loop .flags) (l .loop .i) 0 ∙ l .loop .inv .0, rw (w .1) (setting-matched (l .loop .inv .1) h (e ∙ w .0 .taken))))
     (λ w. (ap length (w .1) ∙ l .loop .inv .0, rw (w .1) (setting-passed (l .loop .inv .1) h (e ∙ w .0 .left))))
@@ -61,7 +63,7 @@ clear-known-spec =
     Inv-loop
     μ-loop
     loop-holds
-    element-at-requires
+    element-in-row-requires
     knows-element-requires
     slice-write-flags
     add-i

@@ -9,33 +9,32 @@ use lib.Dec.{eqb}
 use borrow.Author.Tests.{eq-eqb, ne-eqb}
 use Rattle.laws.specs.Pick.{pick}
 use Rattle.numbers.specs.declared.extended_guid.ExtendedGuid.the-variants.{Null, Named}
-use Rattle.store.specs.Tables.{keyAt}
+use Rattle.store.specs.Tables.{elementInRow, elementsInRows, elementsIn}
 use Rattle.store.specs.Written.{guidOf}
 use Rattle.store.specs.declared.element.Element.{Element}
-use Rattle.request.specs.Choice.{elementOf, elementsFrom, elementsIn}
-use Rattle.request.proofs.Elements.{elements-turn, elements-end}
+use Rattle.store.proofs.Elements.{rows-up-to, elements-turn, elements-end}
 use Rattle.pages.specs.Choice.{storageIndex}
 use Rattle.pages.proofs.wanted.storage_index.Statement.{statement}
 use Rattle.pages.proofs.wanted.storage_index.Tie as tie
 
 -- ---- the index of the elements from row i on
 
-index-start : (rows ids : List ℕ) (n : ℕ) → storageIndex (elementsIn rows ids n) ≡ storageIndex (elementsFrom rows ids 0 (n - 0))
+index-start : (rows ids : List ℕ) (n : ℕ) → storageIndex (elementsIn rows ids n) ≡ storageIndex (elementsInRows rows ids 0 (n - 0))
 index-start rows ids n = let e : n - 0 ≡ n = omega arith in rw e
 
-index-turn : (rows ids : List ℕ) (i n : ℕ) (x : Element) → i < n → x ≡ elementOf rows ids i
-    → storageIndex (elementsFrom rows ids i (n - i)) ≡ pick (eqb (x .kind) 1) (Named (guidOf (x .id)) (x .id .number)) (storageIndex (elementsFrom rows ids (i + 1) (n - (i + 1))))
+index-turn : (rows ids : List ℕ) (i n : ℕ) (x : Element) → i < n → x ≡ elementInRow rows ids i
+    → storageIndex (elementsInRows rows ids i (n - i)) ≡ pick (eqb (x .kind) 1) (Named (guidOf (x .id)) (x .id .number)) (storageIndex (elementsInRows rows ids (i + 1) (n - (i + 1))))
 unfolding storageIndex
 index-turn rows ids i n x h e = rw (elements-turn rows ids i n h, ← e, add-one i)
 
-index-none : (rows ids : List ℕ) (i n : ℕ) → n ≤ i → storageIndex (elementsFrom rows ids i (n - i)) ≡ Null
+index-none : (rows ids : List ℕ) (i n : ℕ) → n ≤ i → storageIndex (elementsInRows rows ids i (n - i)) ≡ Null
 unfolding storageIndex
 index-none rows ids i n h = rw (elements-end rows ids i n h)
 
 -- ---- the answers
 
 abbrev Inv-loop : tie.InvT-loop
-Inv-loop rows ids n i₀ i = (i ≤ n) × (storageIndex (elementsIn rows ids n) ≡ storageIndex (elementsFrom rows ids i (n - i)))
+Inv-loop rows ids n i₀ i = (i ≤ n) × (storageIndex (elementsIn rows ids n) ≡ storageIndex (elementsInRows rows ids i (n - i)))
 
 abbrev μ-loop : tie.MeasureT-loop
 μ-loop rows ids n i₀ i = n - i
@@ -43,22 +42,21 @@ abbrev μ-loop : tie.MeasureT-loop
 loop-holds : tie.Need-loop-holds Inv-loop μ-loop
 loop-holds c = (omega arith, index-start _ _ _)
 
-element-at-requires : tie.Need-element-at-requires Inv-loop μ-loop
-element-at-requires c κs = (omega arith, omega arith)
+element-in-row-requires : tie.Need-element-in-row-requires Inv-loop μ-loop
+element-in-row-requires c κs = rows-up-to (c .before .before .before .before .pre .0) _ (omega arith)
 
 named-requires : tie.Need-named-requires Inv-loop μ-loop
-unfolding elementOf keyAt
 named-requires c κs =
     let l = c .before .before .before .before in
     let s = l .before .before .before in
-    rw (c .before .before .element-at .ensures) (s .pre .2 (l .loop .i) (omega arith))
+    rw (c .before .before .element-in-row .ensures) (s .pre .1 (l .loop .i) (omega arith))
 
 returns : tie.Need-returns Inv-loop μ-loop
 returns c =
     let x = c .before .before .before in
     let l = x .before .before in
     let a = l .before .before .before .args in
-    c .named .ensures ∙ sym (l .loop .inv .1 ∙ index-turn (a .rows .now) (a .ids .now) (l .loop .i) (a .n) (x .element-at .result) (x .before .loop-test .taken) (x .element-at .ensures) ∙ rw (eq-eqb _ _ (c .before .if1 .taken)))
+    c .named .ensures ∙ sym (l .loop .inv .1 ∙ index-turn (a .rows .now) (a .ids .now) (l .loop .i) (a .n) (x .element-in-row .result) (x .before .loop-test .taken) (x .element-in-row .ensures) ∙ rw (eq-eqb _ _ (c .before .if1 .taken)))
 
 add-i : tie.Need-add-i Inv-loop μ-loop
 add-i c = omega arith
@@ -71,7 +69,7 @@ loop-again c =
     let x = c .before .before in
     let l = x .before .before in
     let a = l .before .before .before .args in
-    (omega arith, l .loop .inv .1 ∙ index-turn (a .rows .now) (a .ids .now) (l .loop .i) (a .n) (x .element-at .result) (x .before .loop-test .taken) (x .element-at .ensures) ∙ rw (ne-eqb _ _ (c .if1 .left)))
+    (omega arith, l .loop .inv .1 ∙ index-turn (a .rows .now) (a .ids .now) (l .loop .i) (a .n) (x .element-in-row .result) (x .before .loop-test .taken) (x .element-in-row .ensures) ∙ rw (ne-eqb _ _ (c .if1 .left)))
 
 returns-2 : tie.Need-returns-2 Inv-loop μ-loop
 returns-2 c =
@@ -86,7 +84,7 @@ storage-index-spec =
     Inv-loop
     μ-loop
     loop-holds
-    element-at-requires
+    element-in-row-requires
     named-requires
     returns
     add-i

@@ -5,7 +5,7 @@ use Prim.Native.Nat.{_+_, _-_}
 use native.Mathlib.Omega.{arith}
 use lib.ListN.{length, take}
 use Rattle.laws.specs.Placed.{laid, Lays}
-use Rattle.request.specs.Choice.{elementOf}
+use Rattle.store.specs.Tables.{elementInRow}
 use Rattle.pages.specs.Written.{storedBytes, elementsBytes}
 use Rattle.pages.specs.Tables.{chosenIn}
 use Rattle.pages.proofs.Laying.{Laying, laying-start, laying-passed, laying-fits, laying-taken, laying-done, laying-end}
@@ -44,8 +44,8 @@ loop-again c =
     let l = c .before .before .before .before in
     (l .loop .inv .0, laying-passed (omega arith) (l .loop .inv .1) (omega arith) (c .if2 .taken))
 
-element-at-requires : tie.Need-element-at-requires Inv-loop μ-loop
-element-at-requires c κs = omega arith
+element-in-row-requires : tie.Need-element-in-row-requires Inv-loop μ-loop
+element-in-row-requires c κs = omega arith
 
 part-requires : tie.Need-part-requires Inv-loop μ-loop
 part-requires c κs = tt
@@ -57,7 +57,7 @@ lay-part-requires c κs =
     let j = x .before in
     let l = j .before .before .before .before in
     let a = l .before .before .before .before .before .before .args in
-    let e : c .part .result .now ≡ storedBytes (a .store .now) (elementOf (a .rows .now) (a .ids .now) (l .loop .i)) = rw (x .element-at .ensures) at (c .part .ensures) in
+    let e : c .part .result .now ≡ storedBytes (a .store .now) (elementInRow (a .rows .now) (a .ids .now) (l .loop .i)) = rw (x .element-in-row .ensures) at (c .part .ensures) in
     rw e (laying-fits (omega arith) (l .loop .inv .1) (omega arith) (j .if2 .left) (j .before .before .if1 .left))
 
 sub-left : tie.Need-sub-left Inv-loop μ-loop
@@ -78,10 +78,10 @@ loop-again-2 c =
     let l = j .before .before .before .before in
     let s = l .before .before .before .before .before .before in
     let a = s .args in
-    let w = storedBytes (a .store .now) (elementOf (a .rows .now) (a .ids .now) (l .loop .i)) in
-    let e : y .before .part .result .now ≡ w = rw (x .element-at .ensures) at (y .before .part .ensures) in
+    let w = storedBytes (a .store .now) (elementInRow (a .rows .now) (a .ids .now) (l .loop .i)) in
+    let e : y .before .part .result .now ≡ w = rw (x .element-in-row .ensures) at (y .before .part .ensures) in
     let f : Lays (l .loop .p) w (l .loop .out) (y .lay-part .result) (y .lay-part .last .0) = rw e at (y .lay-part .ensures) in
-    (omega arith, laying-taken (s .pre .2) (l .loop .inv .1) (y .lay-part .result) (y .lay-part .last .0) (j .before .before .before .loop-test .taken) (j .if2 .left) (j .before .before .if1 .left) (omega arith) f)
+    (omega arith, laying-taken (s .pre .1) (l .loop .inv .1) (y .lay-part .result) (y .lay-part .last .0) (j .before .before .before .loop-test .taken) (j .if2 .left) (j .before .before .if1 .left) (omega arith) f)
 
 same-length-2 : tie.Need-same-length-2 Inv-loop μ-loop
 same-length-2 c = c .before .loop .inv .0
@@ -102,7 +102,7 @@ lay-elements-spec =
     add-i
     loop-less
     loop-again
-    element-at-requires
+    element-in-row-requires
     part-requires
     lay-part-requires
     sub-left

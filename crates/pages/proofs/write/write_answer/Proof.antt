@@ -16,26 +16,26 @@ use Rattle.pages.proofs.write.write_answer.Tie as tie
 lay-front-requires : tie.Need-lay-front-requires
 lay-front-requires c κs =
     let s = c .before .before .before .before .before .before .before in
-    let h = answer-room _ _ _ _ _ _ _ (s .pre .5) in
+    let h = answer-room _ _ _ _ _ _ _ (s .pre .fits) in
     omega (arith, length-front)
 
 lay-elements-requires : tie.Need-lay-elements-requires
 lay-elements-requires c κs =
     let s = c .before .before .before .before .before .before .before .before .before .before .before in
-    let h = answer-room _ _ _ _ _ _ _ (s .pre .5) in
-    (s .pre .0, s .pre .1, s .pre .2, omega (arith, length-front))
+    let h = answer-room _ _ _ _ _ _ _ (s .pre .fits) in
+    (s .pre .stand, s .pre .flagged, omega (arith, length-front))
 
 lay-middle-requires : tie.Need-lay-middle-requires
 lay-middle-requires c κs =
     let s = c .before .before .before .before .before .before .before .before .before .before .before .before .before .before .before in
-    let h = answer-room _ _ _ _ _ _ _ (s .pre .5) in
+    let h = answer-room _ _ _ _ _ _ _ (s .pre .fits) in
     omega (arith, length-front)
 
 lay-knowledge-requires : tie.Need-lay-knowledge-requires
 lay-knowledge-requires c κs =
     let s = c .before .before .before .before .before .before .before .before .before .before .before .before .before .before .before .before .before .before .before in
-    let h = answer-room _ _ _ _ _ _ _ (s .pre .5) in
-    (s .pre .4, omega (arith, length-front))
+    let h = answer-room _ _ _ _ _ _ _ (s .pre .fits) in
+    (s .pre .ranges-stand, omega (arith, length-front))
 
 lay-back-requires : tie.Need-lay-back-requires
 lay-back-requires c κs =
@@ -44,7 +44,7 @@ lay-back-requires c κs =
     let v = x .before .before .before .before in
     let u = v .before .before .before .before in
     let s = u .before .before .before .before .before .before .before .before in
-    let h = answer-room _ _ _ _ _ _ _ (s .pre .5) in
+    let h = answer-room _ _ _ _ _ _ _ (s .pre .fits) in
     omega (arith, h, u .lay-front .ensures .0, v .lay-elements .ensures .0, x .lay-middle .ensures .0, y .lay-knowledge .ensures .0, length-front, length-back)
 
 same-length : tie.Need-same-length
@@ -68,7 +68,7 @@ returns c =
     let f = length-append k b in
     let i = length-front in
     let j = length-back in
-    let h = answer-room _ _ _ _ _ _ _ (s .pre .5) in
+    let h = answer-room _ _ _ _ _ _ _ (s .pre .fits) in
     rw (answer-parts (a .store .now) (a .page .id) (a .page .index) (take (a .page .count) (chosenIn (a .rows .now) (a .ids .now) (a .n) (a .flags .now))) (a .page .partial) (rangesAt (a .table .now) 0 (a .page .ranges)))
     (lays-then 0 answerFront (w ++ (m ++ (k ++ b))) (a .out .now) (u .lay-front .result) (u .lay-front .last .0) (z .lay-back .result) (z .lay-back .last .0) (omega arith) (u .lay-front .ensures)
     (lays-then (u .lay-front .result) w (m ++ (k ++ b)) (u .lay-front .last .0) (v .lay-elements .result) (v .lay-elements .last .0) (z .lay-back .result) (z .lay-back .last .0) (omega arith) (v .lay-elements .ensures)

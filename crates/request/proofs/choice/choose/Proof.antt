@@ -6,7 +6,7 @@ use native.Mathlib.Omega.{arith}
 use borrow.Author.Needs.{needs}
 use lib.ListN.{length, getD-replicate}
 use Rattle.request.specs.Meaning.{filtersRead}
-use Rattle.request.specs.Choice.{elementsIn}
+use Rattle.store.specs.Tables.{elementsIn}
 use Rattle.request.specs.Index.{indexMarks}
 use Rattle.request.proofs.Putting.{Putting, putting-start, putting-more, putting-end, putting-all}
 use Rattle.request.proofs.Choosing.{setByAll}
@@ -60,9 +60,9 @@ put-filter-requires c κs =
     let j = l .before .before .before in
     let m = j .before .before .before .before .before .before in
     let b = m .before .before .before .before .before .before in
-    let h : b .args .n ≤ length (l .loop .flags) = rw (l .loop .inv .0 ∙ m .set-matched .kept .1 .1 .1 .1 .0) (b .pre .2) in
+    let h : b .args .n ≤ length (l .loop .flags) = rw (l .loop .inv .0 ∙ m .set-matched .kept .1 .1 .1 .1 .0) (b .pre .1) in
     let x = j .index-ids .ensures in
-    (b .pre .0, b .pre .1, h, rw (x .0, x .1) (indexed _ _ _ (λ mark low. getD-replicate indexMarks mark 0 0 low) (omega arith) _))
+    (b .pre .0, h, rw (x .0, x .1) (indexed _ _ _ (λ mark low. getD-replicate indexMarks mark 0 0 low) (omega arith) _))
 
 add-i : tie.Need-add-i Inv-loop μ-loop
 add-i c = omega arith

@@ -26,11 +26,8 @@ loop-holds : tie.Need-loop-holds Inv-loop μ-loop
 unfolding headsWith linksWith
 loop-holds c = (omega arith, refl, refl, refl, refl)
 
-mul-key-at : tie.Need-mul-key-at Inv-loop μ-loop
-mul-key-at c = omega arith
-
-key-at-requires : tie.Need-key-at-requires Inv-loop μ-loop
-key-at-requires c κs = omega arith
+id-in-row-requires : tie.Need-id-in-row-requires Inv-loop μ-loop
+id-in-row-requires c κs = omega arith
 
 mark-of-requires : tie.Need-mark-of-requires Inv-loop μ-loop
 mark-of-requires c κs = search needs
@@ -75,7 +72,7 @@ loop-again c =
     let k = c .before .before in
     let l = k .before .before in
     let m = c .before .mark-of .ensures in
-    let e = m .0 ∙ ap (markOf indexMarks) (k .key-at .ensures) in (
+    let e = m .0 ∙ ap (markOf indexMarks) (k .id-in-row .ensures) in (
       omega arith,
       length-set (l .loop .heads) _ _ ∙ l .loop .inv .1,
       length-set (l .loop .links) _ _ ∙ l .loop .inv .2,
@@ -102,8 +99,7 @@ index-ids-spec =
     μ-loop
     returns
     loop-holds
-    mul-key-at
-    key-at-requires
+    id-in-row-requires
     mark-of-requires
     mul-links
     slice-read-links

@@ -3,7 +3,7 @@
 use mathlib.Core.Path.{_∙_}
 use Rattle.request.specs.Filter.{filterOpened, filterAt}
 use Rattle.request.specs.Meaning.{filterRead}
-use Rattle.request.specs.Choice.{elementsIn}
+use Rattle.store.specs.Tables.{elementsIn}
 use Rattle.request.proofs.Inside.{good-filter-fields}
 use Rattle.request.proofs.Putting.{filter-of-kind}
 use borrow.Author.Needs.{needs}

@@ -2,7 +2,7 @@
 -- Assumes nothing.
 use mathlib.Core.Path.{_∙_}
 use Rattle.request.specs.Filter.{idsPart}
-use Rattle.request.specs.Choice.{elementsIn}
+use Rattle.store.specs.Tables.{elementsIn}
 use Rattle.request.proofs.Inside.{good-ids-field}
 use Rattle.request.proofs.Putting.{kind-all, kind-type, kind-ids, kind-other}
 use borrow.Author.Needs.{needs}

@@ -7,8 +7,10 @@ use Prim.Native.Nat.{_-_}
 use native.Mathlib.Omega.{arith}
 use borrow.Author.Needs.{needs}
 use lib.ListN.{length, length-set}
-use Rattle.request.specs.Choice.{elementsIn, setFlags, matchedBy}
+use Rattle.store.specs.Tables.{elementsIn}
+use Rattle.request.specs.Choice.{setFlags, matchedBy}
 use Rattle.request.specs.declared.choice.Matched.the-variants.{WithId}
+use Rattle.store.proofs.Elements.{rows-up-to}
 use Rattle.request.proofs.Following.{Following, following-start, following-matched, following-passed, following-less, following-end}
 use Rattle.request.proofs.choice.set_key.Statement.{statement}
 use Rattle.request.proofs.choice.set_key.Tie as tie
@@ -39,7 +41,7 @@ mul-left c = search needs
 shared-slice-read-left : tie.Need-shared-slice-read-left Inv-loop μ-loop
 shared-slice-read-left c =
     let m = c .before .mark-of .ensures .1 in
-    let r = c .before .before .before .before .before .before .before .before .pre .3 .room in
+    let r = c .before .before .before .before .before .before .before .before .pre .2 .room in
     omega arith
 
 cast-left : tie.Need-cast-left Inv-loop μ-loop
@@ -49,15 +51,16 @@ loop-holds : tie.Need-loop-holds Inv-loop μ-loop
 loop-holds c =
     let i = c .before .before in
     let b = i .before .before .before .before .before .before in
-    (refl, following-start (b .pre .3 .linked (i .if1 .left)) _ _ _ _ _ (c .before .mark-of .ensures .0))
+    (refl, following-start (b .pre .2 .linked (i .if1 .left)) _ _ _ _ _ (c .before .mark-of .ensures .0))
 
 sub-i : tie.Need-sub-i Inv-loop μ-loop
 sub-i c = omega arith
 
 is-matched-requires : tie.Need-is-matched-requires Inv-loop μ-loop
 is-matched-requires c κs =
-    let l = c .before .loop .inv .1 .within in
-    (omega arith, omega arith)
+    let l = c .before in
+    let w = l .loop .inv .1 .within in
+    rows-up-to (l .before .before .before .before .before .before .before .before .before .pre .0) _ (omega arith)
 
 slice-write-flags : tie.Need-slice-write-flags Inv-loop μ-loop
 slice-write-flags c =
@@ -81,14 +84,14 @@ loop-less c =
     let l = c .before .before .before .before in
     let i = l .before .before .before in
     let b = i .before .before .before .before .before .before in
-    following-less (b .pre .3 .linked (i .if1 .left)) _ _ _ (l .loop .inv .1) _ (omega arith)
+    following-less (b .pre .2 .linked (i .if1 .left)) _ _ _ (l .loop .inv .1) _ (omega arith)
 
 loop-again : tie.Need-loop-again Inv-loop μ-loop
 loop-again c =
     let l = c .before .before .before .before in
     let i = l .before .before .before in
     let b = i .before .before .before .before .before .before in
-    let w = b .pre .3 .linked (i .if1 .left) in
+    let w = b .pre .2 .linked (i .if1 .left) in
     let e = sym (c .before .before .is-matched .ensures) in
     ⊎-elim
     (λ x. (ap length (x .1) ∙ length-set (l .loop .flags) _ _ ∙ l .loop .inv .0, rw (x .1) (following-matched w _ _ _ (l .loop .inv .1) _ (omega arith) (e ∙ x .0 .taken))))

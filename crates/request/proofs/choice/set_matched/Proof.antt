@@ -5,7 +5,9 @@ use mathlib.Core.Logic.{⊎-elim}
 use Prim.Native.Nat.{_-_}
 use native.Mathlib.Omega.{arith}
 use lib.ListN.{length, length-set}
-use Rattle.request.specs.Choice.{elementsIn, setFlags, matchedBy}
+use Rattle.store.specs.Tables.{elementsIn}
+use Rattle.request.specs.Choice.{setFlags, matchedBy}
+use Rattle.store.proofs.Elements.{rows-up-to}
 use Rattle.request.proofs.Setting.{Setting, setting-start, setting-matched, setting-passed, setting-end}
 use Rattle.request.proofs.choice.set_matched.Statement.{statement}
 use Rattle.request.proofs.choice.set_matched.Tie as tie
@@ -21,7 +23,7 @@ loop-holds : tie.Need-loop-holds Inv-loop μ-loop
 loop-holds c = (refl, setting-start _ _ _ _ _ _ (omega arith))
 
 is-matched-requires : tie.Need-is-matched-requires Inv-loop μ-loop
-is-matched-requires c κs = (omega arith, omega arith)
+is-matched-requires c κs = rows-up-to (c .before .before .before .before .before .pre .0) _ (omega arith)
 
 slice-write-flags : tie.Need-slice-write-flags Inv-loop μ-loop
 slice-write-flags c = omega arith

@@ -7,7 +7,8 @@ use native.Mathlib.Omega.{arith}
 use borrow.Author.Needs.{needs}
 use lib.ListN.{length}
 use Rattle.request.specs.Meaning.{keysIn}
-use Rattle.request.specs.Choice.{elementsIn, setFlags, withIds}
+use Rattle.store.specs.Tables.{elementsIn}
+use Rattle.request.specs.Choice.{setFlags, withIds}
 use Rattle.request.proofs.Putting.{SettingIds, ids-start, ids-more, ids-over, ids-end}
 use Rattle.request.proofs.choice.set_with_ids.Statement.{statement}
 use Rattle.request.proofs.choice.set_with_ids.Tie as tie
@@ -56,7 +57,7 @@ set-id-requires c κs =
     let l = c .before .before .before .before .before in
     let e = l .loop .inv .0 in
     let b = l .before .before .before .before .before .before .before .before .before in
-    (omega arith, omega arith, omega arith, b .pre .3)
+    (b .pre .0, omega arith, b .pre .2)
 
 add-i : tie.Need-add-i Inv-loop μ-loop
 add-i c = omega arith

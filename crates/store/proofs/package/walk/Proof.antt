@@ -5,6 +5,7 @@ use mathlib.Core.Path.{sym, ap, _∙_}
 use Prim.Native.Nat.{_-_, _≤_, _<_}
 use native.Mathlib.Omega.{arith}
 use borrow.Author.Needs.{needs}
+use Rattle.store.specs.Tables.{mostElements}
 use Rattle.store.specs.Store.{packagedOf}
 use Rattle.store.proofs.Fields.{element-within}
 use Rattle.store.proofs.Walks.{Held, held-start, held-lent, held-answer, held-over, held-refused, held-more, held-end, packaged-refused}
@@ -13,10 +14,10 @@ use Rattle.store.proofs.package.walk.Tie as tie
 
 abbrev Inv-loop : tie.InvT-loop
 Inv-loop s rows₀ rowmarks₀ ids₀ idmarks₀ at₀ n₀ rows rowmarks ids idmarks at n =
-    (n ≤ 256) × Held s at₀ rows₀ ids₀ rows rowmarks ids idmarks at n
+    (n ≤ mostElements) × Held s at₀ rows₀ ids₀ rows rowmarks ids idmarks at n
 
 abbrev μ-loop : tie.MeasureT-loop
-μ-loop s rows₀ rowmarks₀ ids₀ idmarks₀ at₀ n₀ rows rowmarks ids idmarks at n = 256 - n
+μ-loop s rows₀ rowmarks₀ ids₀ idmarks₀ at₀ n₀ rows rowmarks ids idmarks at n = mostElements - n
 
 loop-holds : tie.Need-loop-holds Inv-loop μ-loop
 loop-holds c =
@@ -40,11 +41,11 @@ returns c =
     held-answer (l .loop .inv .1) _ _ (held-over (l .loop .inv .1) e (c .before .before .if2 .taken)) (c .packaged-if-fine .ensures ∙ ap (packagedOf (l .loop .n)) (c .before .start .ensures))
 
 -- there is room for one more
-room : (c : tie.Else2 Inv-loop μ-loop) → c .before .before .before .loop .n < 256
+room : (c : tie.Else2 Inv-loop μ-loop) → c .before .before .before .loop .n < mostElements
 room c = omega arith
 
 read-element-requires : tie.Need-read-element-requires Inv-loop μ-loop
-read-element-requires c κs = let l = c .before .before .before .before .before .before .before .before .before .before .before in held-lent (l .loop .inv .1) (omega arith) (omega arith) (omega arith) (omega arith)
+read-element-requires c κs = let l = c .before .before .before .before .before .before .before .before .before .before .before in held-lent (l .loop .inv .1) (record { row-room = omega arith; id-room = omega arith }) (omega arith) (omega arith)
 
 enum-known-r : tie.Need-enum-known-r Inv-loop μ-loop
 enum-known-r c = search needs

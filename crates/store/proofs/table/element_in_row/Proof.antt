@@ -1,9 +1,9 @@
--- `wanted::element_at` meets its contract.
+-- `table::element_in_row` meets its contract.
 -- Assumes nothing.
-use Rattle.request.specs.Choice.{elementOf}
+use Rattle.store.specs.Tables.{elementInRow}
 use borrow.Author.Needs.{needs}
-use Rattle.pages.proofs.wanted.element_at.Statement.{statement}
-use Rattle.pages.proofs.wanted.element_at.Tie as tie
+use Rattle.store.proofs.table.element_in_row.Statement.{statement}
+use Rattle.store.proofs.table.element_in_row.Tie as tie
 
 mul-at : tie.Need-mul-at
 mul-at c = search needs
@@ -32,24 +32,21 @@ mul-t15 c = search needs
 shared-slice-read-t17 : tie.Need-shared-slice-read-t17
 shared-slice-read-t17 c = search needs
 
-mul-key-at : tie.Need-mul-key-at
-mul-key-at c = search needs
-
-key-at-requires : tie.Need-key-at-requires
-key-at-requires c κs = search needs
+id-in-row-requires : tie.Need-id-in-row-requires
+id-in-row-requires c κs = search needs
 
 add-key-at : tie.Need-add-key-at
 add-key-at c = search needs
 
-key-at-requires-2 : tie.Need-key-at-requires-2
-key-at-requires-2 c κs = search needs
+key-at-requires : tie.Need-key-at-requires
+key-at-requires c κs = search needs
 
 returns : tie.Need-returns
-unfolding elementOf
-returns c = rw (c .key-at2 .ensures, c .before .key-at .ensures)
+unfolding elementInRow
+returns c = rw (c .key-at .ensures, c .before .id-in-row .ensures)
 
-pub element-at-spec : {M : Type 1} → statement M
-element-at-spec =
+pub element-in-row-spec : {M : Type 1} → statement M
+element-in-row-spec =
     tie.close
     (tie.spec
     mul-at
@@ -61,8 +58,7 @@ element-at-spec =
     add-t14
     mul-t15
     shared-slice-read-t17
-    mul-key-at
-    key-at-requires
+    id-in-row-requires
     add-key-at
-    key-at-requires-2
+    key-at-requires
     returns)
