@@ -8,8 +8,8 @@ use objects::reading::Reading;
 use request::choice::choose;
 use request::message::Request;
 use request::message::read_request;
-use store::knowledge::MOST_RANGES;
-use store::knowledge::RANGE_NUMBERS;
+use store::knowledge::MOST_SAID;
+use store::knowledge::SAID_NUMBERS;
 use store::package::Stored;
 use store::package::read_store;
 use store::table::ID_NUMBERS;
@@ -25,9 +25,9 @@ fn asked(
     place: usize,
     count: u64,
     n: usize,
-    t: &[u64; RANGE_NUMBERS],
+    t: &[u64; SAID_NUMBERS],
 ) {
-    if MOST_RANGES < n {
+    if MOST_SAID < n {
         return say::touched();
     }
     if !knowledges::kept(s, t) {
@@ -43,7 +43,7 @@ fn asked(
 
 // `request HEX`
 pub fn message(s: &[u8]) {
-    let mut t = [UNTOUCHED; RANGE_NUMBERS];
+    let mut t = [UNTOUCHED; SAID_NUMBERS];
     match read_request(s, &mut t) {
         Request::Asked(id, limit, place, count, n) => asked(s, id, limit, place, count, n, &t),
         Request::Refused(r) => knowledges::refused(s, r, &t),
@@ -74,7 +74,7 @@ fn left_in(
 
 // The request, whose filters are then put to the elements of a store that was read.
 fn chosen_of(s: &[u8], rows: &[u64; ROW_NUMBERS], ids: &[u64; ID_NUMBERS], n: usize) {
-    let mut t = [UNTOUCHED; RANGE_NUMBERS];
+    let mut t = [UNTOUCHED; SAID_NUMBERS];
     match read_request(s, &mut t) {
         Request::Asked(_, _, place, count, _) => left_in(s, place, count, rows, ids, n),
         Request::Refused(r) => knowledges::refused(s, r, &t),

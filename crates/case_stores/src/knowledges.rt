@@ -13,9 +13,9 @@ use numbers::guid::Guid;
 use numbers::refusal::Refusal;
 use objects::reading::Reading;
 use ranges::is_known;
-use store::knowledge::MOST_RANGES;
-use store::knowledge::RANGE_NUMBERS;
+use store::knowledge::MOST_SAID;
 use store::knowledge::ReadKnowledge;
+use store::knowledge::SAID_NUMBERS;
 use store::knowledge::read_knowledge;
 use store::knowledge_write::write_knowledge;
 
@@ -41,15 +41,15 @@ fn ranges_in(s: &[u8]) -> usize
     ensures { λ r. ⌜ r ≤ 512 ⌝ }
 {
     let n = s.len() / LEAST_RANGE;
-    if MOST_RANGES < n {
-        return MOST_RANGES;
+    if MOST_SAID < n {
+        return MOST_SAID;
     }
     n
 }
 
 // Whether no number was changed behind the rows of as many ranges as the bytes of s have room for. Before that a row may be left
 // from before it was joined with another.
-pub fn kept(s: &[u8], t: &[u64; RANGE_NUMBERS]) -> bool {
+pub fn kept(s: &[u8], t: &[u64; SAID_NUMBERS]) -> bool {
     let end = ranges_in(s) * 4;
     let all = &t[..];
     untouched(&all[end..])
@@ -57,8 +57,8 @@ pub fn kept(s: &[u8], t: &[u64; RANGE_NUMBERS]) -> bool {
 
 // The place behind the knowledge, and its rows; or that numbers were changed behind what its ranges can reach. More ranges than a
 // knowledge may hold count as that.
-fn held(s: &[u8], place: usize, n: usize, t: &[u64; RANGE_NUMBERS]) {
-    if MOST_RANGES < n {
+fn held(s: &[u8], place: usize, n: usize, t: &[u64; SAID_NUMBERS]) {
+    if MOST_SAID < n {
         return say::touched();
     }
     if !kept(s, t) {
@@ -70,7 +70,7 @@ fn held(s: &[u8], place: usize, n: usize, t: &[u64; RANGE_NUMBERS]) {
 }
 
 // A refusal; or that numbers were changed behind what its ranges can reach.
-pub fn refused(s: &[u8], r: Refusal, t: &[u64; RANGE_NUMBERS]) {
+pub fn refused(s: &[u8], r: Refusal, t: &[u64; SAID_NUMBERS]) {
     if !kept(s, t) {
         return say::touched();
     }
@@ -78,7 +78,7 @@ pub fn refused(s: &[u8], r: Refusal, t: &[u64; RANGE_NUMBERS]) {
 }
 
 // The knowledge at the front of s.
-fn read(s: &[u8], t: &mut [u64; RANGE_NUMBERS]) -> ReadKnowledge
+fn read(s: &[u8], t: &mut [u64; SAID_NUMBERS]) -> ReadKnowledge
     ensures { λ r. ⌜ ReadsKnowledge (knowledgeAt 12 0x42 (now (s .entry)) (now (t .entry)) (At 0 0)) r (now (t .exit)) ⌝ }
 {
     read_knowledge(s, Reading::At(0, 0), SUB_REQUEST, LEVELS, t)
@@ -86,7 +86,7 @@ fn read(s: &[u8], t: &mut [u64; RANGE_NUMBERS]) -> ReadKnowledge
 
 // `knowledge HEX`
 pub fn rows(s: &[u8]) {
-    let mut t = [UNTOUCHED; RANGE_NUMBERS];
+    let mut t = [UNTOUCHED; SAID_NUMBERS];
     match read(s, &mut t) {
         ReadKnowledge::Holds(place, n) => held(s, place, n, &t),
         ReadKnowledge::Refused(r) => refused(s, r, &t),
@@ -100,10 +100,10 @@ fn output_space() -> [u8; 20000] {
 }
 
 // The knowledge of n rows, written to the first bytes of out; or that numbers were changed behind what its ranges can reach.
-fn written(s: &[u8], t: &[u64; RANGE_NUMBERS], n: usize, out: &mut [u8], room: usize)
+fn written(s: &[u8], t: &[u64; SAID_NUMBERS], n: usize, out: &mut [u8], room: usize)
     requires { ⌜ room ≤ length (now out) ⌝ }
 {
-    if MOST_RANGES < n {
+    if MOST_SAID < n {
         return say::touched();
     }
     if !kept(s, t) {
@@ -117,7 +117,7 @@ fn written(s: &[u8], t: &[u64; RANGE_NUMBERS], n: usize, out: &mut [u8], room: u
 fn read_and_written(s: &[u8], out: &mut [u8], room: usize)
     requires { ⌜ room ≤ length (now out) ⌝ }
 {
-    let mut t = [UNTOUCHED; RANGE_NUMBERS];
+    let mut t = [UNTOUCHED; SAID_NUMBERS];
     match read(s, &mut t) {
         ReadKnowledge::Holds(_, n) => written(s, &t, n, out, room),
         ReadKnowledge::Refused(r) => refused(s, r, &t),
@@ -142,10 +142,10 @@ fn known_is(n: u64) {
 }
 
 // Whether the number is known under the GUID; or that numbers were changed behind what its ranges can reach.
-fn asked(s: &[u8], t: &[u64; RANGE_NUMBERS], n: usize, g: Guid, number: u64)
+fn asked(s: &[u8], t: &[u64; SAID_NUMBERS], n: usize, g: Guid, number: u64)
     requires { ⌜ Normal (rangesAt (now t) 0 n) ⌝ }
 {
-    if MOST_RANGES < n {
+    if MOST_SAID < n {
         return say::touched();
     }
     if !kept(s, t) {
@@ -159,7 +159,7 @@ fn asked(s: &[u8], t: &[u64; RANGE_NUMBERS], n: usize, g: Guid, number: u64)
 
 // The knowledge at the front of s, asked for one number.
 fn read_and_asked(s: &[u8], g: Guid, number: u64) {
-    let mut t = [UNTOUCHED; RANGE_NUMBERS];
+    let mut t = [UNTOUCHED; SAID_NUMBERS];
     match read(s, &mut t) {
         ReadKnowledge::Holds(_, n) => asked(s, &t, n, g, number),
         ReadKnowledge::Refused(r) => refused(s, r, &t),

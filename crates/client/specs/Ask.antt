@@ -14,7 +14,7 @@ use Rattle.numbers.specs.declared.refusal.Wrote.the-variants as wrote
 use Rattle.objects.specs.Steps.{_▹_, then, valued, startHere, finish}
 use Rattle.objects.specs.declared.reading.Reading.{Reading}
 use Rattle.objects.specs.declared.reading.Reading.the-variants.{At, Refused}
-use Rattle.store.specs.Knowledge.{Knowing, knowing, knowledgeAt}
+use Rattle.store.specs.Knowledge.{mostSaid, Knowing, knowing, knowledgeAt}
 use Rattle.request.specs.Filter.{filtersFrom}
 use Rattle.request.specs.Message.{inRequest}
 use Rattle.client.specs.AskWritten.{askBytes}
@@ -32,7 +32,7 @@ filtersGiven f = pick (ltb longestInput (length f)) (Refused overLong) (At 0 0 �
 -- ---- the knowledge, which is all of the second input: one object, or no byte
 
 unfoldable pub knowledgeOf : List ℕ → Knowing
-knowledgeOf k = pick (eqb (length k) 0) (knowing [] [] 512 (At 0 0)) (knowledgeAt 12 0x42 k [] (At 0 0))
+knowledgeOf k = pick (eqb (length k) 0) (knowing [] [] mostSaid (At 0 0)) (knowledgeAt 12 0x42 k [] (At 0 0))
 
 -- "After the last end any byte is 5"
 unfoldable pub knowledgeGiven : List ℕ → Reading

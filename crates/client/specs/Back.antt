@@ -13,6 +13,7 @@ use Rattle.objects.specs.declared.reading.Reading.the-variants.{At}
 use Rattle.talk.specs.Ranges.{Normal, AllFit}
 use Rattle.talk.specs.declared.range.Range.{Range}
 use Rattle.store.specs.Element.{elementAt}
+use Rattle.store.specs.Knowledge.{mostSaid}
 use Rattle.store.specs.KnowledgeWritten.{knowledgeBytes}
 use Rattle.store.specs.declared.accessor.Found.the-variants as found
 use Rattle.store.specs.declared.element.Key.{Key}
@@ -75,7 +76,7 @@ pub record ReadsBack (s : List ℕ) (id : ℕ) (index : ExtendedGuid) (page : Li
   -- which are a normal list that can be written again
   pub normal : Normal l
   pub fit : AllFit l
-  pub most : length l ≤ 512
+  pub most : length l ≤ mostSaid
 
 -- ---- a request
 

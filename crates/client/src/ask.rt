@@ -27,7 +27,7 @@ use request::message::SIGNATURE;
 use request::message::USER_AGENT;
 use request::message::in_request;
 use request::message::on_knowledge;
-use store::knowledge::RANGE_NUMBERS;
+use store::knowledge::SAID_NUMBERS;
 use store::knowledge::read_knowledge;
 use store::lay::lay_byte;
 use store::lay::lay_end;
@@ -76,7 +76,7 @@ fn knowledge_given(k: &[u8]) -> Reading
     if k.len() == 0 {
         return Reading::At(0, 0);
     }
-    let mut table = [0u64; RANGE_NUMBERS];
+    let mut table = [0u64; SAID_NUMBERS];
     let read = read_knowledge(
         k,
         Reading::At(0, 0),

@@ -30,8 +30,8 @@ use objects::reading::Reading;
 use request::choice::choose;
 use request::message::Request;
 use request::message::read_request;
-use store::knowledge::MOST_RANGES;
-use store::knowledge::RANGE_NUMBERS;
+use store::knowledge::MOST_SAID;
+use store::knowledge::SAID_NUMBERS;
 use store::package::Stored;
 use store::package::read_store;
 use store::table::ID_NUMBERS;
@@ -87,7 +87,7 @@ fn bounds_of(a: Asked, index: ExtendedGuid, room: usize) -> Bounds
     ensures { λ r. ⌜ (r ≡ boundsFor a index room) × (r .fixed ≤ 69) ⌝ }
 {
     Bounds {
-        most: MOST_RANGES,
+        most: MOST_SAID,
         limit: a.limit,
         fixed: fixed_length(a.id, index),
         room,
@@ -196,7 +196,7 @@ fn answer_request(
     requires { ⌜ StoreHeld (now store) (now elements) (now ids) n × (rowNumbers ≤ length (now rows)) × (2048 ≤ length (now ranges)) ⌝ }
     ensures { λ r. ⌜ Gives (onRequest (now (store .entry)) (storeWalk (now (store .entry)) .elements) (now (request .entry)) (length (now (out .entry))) (requestIn (now (request .entry)) [])) r (now (rows .entry)) (now (rows .exit)) (now (ranges .entry)) (now (ranges .exit)) (now (out .entry)) (now (out .exit)) ⌝ }
 {
-    let mut known = [0u64; RANGE_NUMBERS];
+    let mut known = [0u64; SAID_NUMBERS];
     match read_request(request, &mut known) {
         Request::Refused(r) => Answered::Refused(r),
         Request::Asked(id, limit, place, count, k) => {

@@ -8,26 +8,34 @@ use lib.ListN.{length, drop, getD}
 use lib.Dec.{leb}
 use Rattle.laws.specs.Pick.{pick}
 use Rattle.numbers.specs.Refusals.{Told, gives}
-use Rattle.talk.specs.Ranges.{isBefore, absorb}
+use Rattle.talk.specs.Ranges.{isBefore, absorb, Normal}
 use Rattle.talk.specs.declared.range.Range.{Range}
 use Rattle.ranges.specs.declared.Added.{Added}
 use Rattle.ranges.specs.declared.Added.the-variants.{Rows, Full}
 use Rattle.ranges.specs.declared.Gathered.{Gathered}
 
+-- how many numbers a row has: the range's GUID as two, from, to
+abbrev pub rangeWidth : ℕ
+rangeWidth = 4
+
 -- row k
 abbrev pub rangeAt : List ℕ → ℕ → Range
 rangeAt t k =
     record {
-      upper = getD t (k * 4) 0;
-      lower = getD t (k * 4 + 1) 0;
-      from = getD t (k * 4 + 2) 0;
-      to = getD t (k * 4 + 3) 0;
+      upper = getD t (k * rangeWidth) 0;
+      lower = getD t (k * rangeWidth + 1) 0;
+      from = getD t (k * rangeWidth + 2) 0;
+      to = getD t (k * rangeWidth + 3) 0;
     }
 
 -- n rows from row k on
 unfoldable pub rangesAt : List ℕ → ℕ → ℕ → List Range
 rangesAt t k zero = []
 rangesAt t k (suc n) = rangeAt t k ∷ rangesAt t (suc k) n
+
+-- the first n rows stand in the table, and are in normal form
+abbrev pub RangesStand : List ℕ → ℕ → Type 0
+RangesStand t n = (n * rangeWidth ≤ length t) × Normal (rangesAt t 0 n)
 
 abbrev pub rangeNumbers : Range → List ℕ
 rangeNumbers x = x .upper ∷ x .lower ∷ x .from ∷ x .to ∷ []
@@ -50,14 +58,14 @@ Gathers t count i x r =
 
 -- the rows of a list, and behind them the table's own numbers
 abbrev pub laidRanges : List Range → List ℕ → List ℕ
-laidRanges l t = numbersOf l ++ drop (length l * 4) t
+laidRanges l t = numbersOf l ++ drop (length l * rangeWidth) t
 
 -- what is answered where the rows are to be these, and what the table then holds: without room it is as it was
 abbrev pub addedTo : List ℕ → List Range → Added
-addedTo t l = pick (leb (length l * 4) (length t)) (Rows (length l)) Full
+addedTo t l = pick (leb (length l * rangeWidth) (length t)) (Rows (length l)) Full
 
 abbrev pub laidIn : List ℕ → List Range → List ℕ
-laidIn t l = pick (leb (length l * 4) (length t)) (laidRanges l t) t
+laidIn t l = pick (leb (length l * rangeWidth) (length t)) (laidRanges l t) t
 
 -- the number of rows then; nothing where there is no room
 abbrev pub tellAdded : Added → Told

@@ -4,12 +4,15 @@ ghost use mathlib.Core.Path.{_≡_};
 ghost use mathlib.Core.List.{_++_, _∷_};
 ghost use Prim.Native.Nat.{_+_, _-_, _*_, _≤_, min, max};
 ghost use lib.ListN.{length, take, drop};
-ghost use Rattle.talk.specs.Ranges.{isBefore, joined, insert, within, Normal};
-ghost use Rattle.ranges.specs.RangeTable.{rangeAt, rangesAt, rangeNumbers, numbersOf, addedTo, laidIn, FirstNotBefore, Gathers};
+ghost use Rattle.talk.specs.Ranges.{isBefore, joined, insert, within};
+ghost use Rattle.ranges.specs.RangeTable.{rangeWidth, rangeAt, rangesAt, RangesStand, rangeNumbers, numbersOf, addedTo, laidIn, FirstNotBefore, Gathers};
 ghost use Rattle.ranges.specs.Ranged.{rangeOf, knows};
 use numbers::guid::Guid;
 use numbers::guid::swap;
 use talk::range::Range;
+
+// How many numbers a row has.
+pub const RANGE_WIDTH: usize = 4;
 
 // The number that nothing follows.
 pub const LAST: u64 = 18446744073709551615;
@@ -80,10 +83,10 @@ fn join(a: Range, b: Range) -> Range
 
 // Row k.
 pub fn range_at(t: &[u64], k: usize) -> Range
-    requires { ⌜ k * 4 + 4 ≤ length (now t) ⌝ }
+    requires { ⌜ k * rangeWidth + rangeWidth ≤ length (now t) ⌝ }
     ensures { λ r. ⌜ r ≡ rangeAt (now (t .entry)) k ⌝ }
 {
-    let at = k * 4;
+    let at = k * RANGE_WIDTH;
     Range {
         upper: t[at],
         lower: t[at + 1],
@@ -94,10 +97,10 @@ pub fn range_at(t: &[u64], k: usize) -> Range
 
 // Row k is written.
 fn put_range(t: &mut [u64], k: usize, x: Range)
-    requires { ⌜ k * 4 + 4 ≤ length (now t) ⌝ }
-    ensures { λ _. ⌜ now (t .exit) ≡ take (k * 4) (now (t .entry)) ++ (rangeNumbers x ++ drop (k * 4 + 4) (now (t .entry))) ⌝ }
+    requires { ⌜ k * rangeWidth + rangeWidth ≤ length (now t) ⌝ }
+    ensures { λ _. ⌜ now (t .exit) ≡ take (k * rangeWidth) (now (t .entry)) ++ (rangeNumbers x ++ drop (k * rangeWidth + rangeWidth) (now (t .entry))) ⌝ }
 {
-    let at = k * 4;
+    let at = k * RANGE_WIDTH;
     t[at] = x.upper;
     t[at + 1] = x.lower;
     t[at + 2] = x.from;
@@ -107,7 +110,7 @@ fn put_range(t: &mut [u64], k: usize, x: Range)
 // How many rows lie wholly before x: found by halving, as the rows are in order. The last row is looked at first, so that what
 // comes in order costs one comparison.
 pub fn rows_before(t: &[u64], count: usize, x: Range) -> usize
-    requires { ⌜ (count * 4 ≤ length (now t)) × Normal (rangesAt (now t) 0 count) ⌝ }
+    requires { ⌜ RangesStand (now t) count ⌝ }
     ensures { λ i. ⌜ FirstNotBefore (now (t .entry)) count x i ⌝ }
 {
     if count == 0 {
@@ -132,7 +135,7 @@ pub fn rows_before(t: &[u64], count: usize, x: Range) -> usize
 
 // x joined with the rows from i on that it meets.
 pub fn gather(t: &[u64], count: usize, i: usize, x: Range) -> Gathered
-    requires { ⌜ (i ≤ count) × (count * 4 ≤ length (now t)) ⌝ }
+    requires { ⌜ (i ≤ count) × (count * rangeWidth ≤ length (now t)) ⌝ }
     ensures { λ r. ⌜ Gathers (now (t .entry)) count i x r ⌝ }
 {
     let mut y = x;
@@ -150,8 +153,8 @@ pub fn gather(t: &[u64], count: usize, i: usize, x: Range) -> Gathered
 
 // x as row i, and behind it the rows that were j to count: rows move up or down, each read before it is written over.
 pub fn shift(t: &mut [u64], i: usize, j: usize, count: usize, x: Range)
-    requires { ⌜ (i ≤ j) × (j ≤ count) × (count * 4 ≤ length (now t)) × (i * 4 + 4 + (count - j) * 4 ≤ length (now t)) ⌝ }
-    ensures { λ _. ⌜ now (t .exit) ≡ take (i * 4) (now (t .entry)) ++ (numbersOf (x ∷ rangesAt (now (t .entry)) j (count - j)) ++ drop (i * 4 + 4 + (count - j) * 4) (now (t .entry))) ⌝ }
+    requires { ⌜ (i ≤ j) × (j ≤ count) × (count * rangeWidth ≤ length (now t)) × (i * rangeWidth + rangeWidth + (count - j) * rangeWidth ≤ length (now t)) ⌝ }
+    ensures { λ _. ⌜ now (t .exit) ≡ take (i * rangeWidth) (now (t .entry)) ++ (numbersOf (x ∷ rangesAt (now (t .entry)) j (count - j)) ++ drop (i * rangeWidth + rangeWidth + (count - j) * rangeWidth) (now (t .entry))) ⌝ }
 {
     // One row for another: the rows behind it stand.
     if j == i + 1 {
@@ -175,7 +178,7 @@ pub fn shift(t: &mut [u64], i: usize, j: usize, count: usize, x: Range)
 // table is as it was. Ruled out (proofs/KnowledgeWrongAnswers of `store`): two rows for ranges that touch; what stands behind the rows
 // put to 0.
 pub fn add_range(t: &mut [u64], count: usize, x: Range) -> Added
-    requires { ⌜ (count * 4 ≤ length (now t)) × Normal (rangesAt (now t) 0 count) ⌝ }
+    requires { ⌜ RangesStand (now t) count ⌝ }
     ensures { λ r. ⌜ (r ≡ addedTo (now (t .entry)) (insert x (rangesAt (now (t .entry)) 0 count))) × (now (t .exit) ≡ laidIn (now (t .entry)) (insert x (rangesAt (now (t .entry)) 0 count))) ⌝ }
 {
     let i = rows_before(t, count, x);
@@ -184,7 +187,7 @@ pub fn add_range(t: &mut [u64], count: usize, x: Range) -> Added
     let j = g.next;
     let moved = count - j;
     let new = i + 1 + moved;
-    if t.len() / 4 < new {
+    if t.len() / RANGE_WIDTH < new {
         return Added::Full;
     }
     shift(t, i, j, count, y);
@@ -210,7 +213,7 @@ fn is_within(x: Range, upper: u64, lower: u64, n: u64) -> bool
 // Whether one of the first `count` rows holds n under the GUID: only the first that does not lie before it can. Ruled out
 // (proofs/KnowledgeWrongAnswers of `store`): 5 known by a row of 1 to 4, which it touches; 4 not known by it.
 pub fn is_known(t: &[u64], count: usize, g: Guid, n: u64) -> bool
-    requires { ⌜ (count * 4 ≤ length (now t)) × Normal (rangesAt (now t) 0 count) ⌝ }
+    requires { ⌜ RangesStand (now t) count ⌝ }
     ensures { λ r. ⌜ r ≡ knows (rangesAt (now (t .entry)) 0 count) g n ⌝ }
 {
     let x = range_of(g, n, n);

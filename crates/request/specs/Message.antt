@@ -15,7 +15,7 @@ use Rattle.objects.specs.declared.reading.Reading.{Reading}
 use Rattle.objects.specs.declared.reading.Reading.the-variants.{At, Refused}
 use Rattle.talk.specs.Ranges.{Normal}
 use Rattle.ranges.specs.RangeTable.{rangesAt}
-use Rattle.store.specs.Knowledge.{Knowing, knowing, knowledgeAt}
+use Rattle.store.specs.Knowledge.{mostSaid, Knowing, knowing, knowledgeAt}
 use Rattle.store.specs.declared.knowledge.ReadKnowledge.{ReadKnowledge}
 use Rattle.store.specs.declared.knowledge.ReadKnowledge.the-variants as read
 use Rattle.request.specs.Filter.{oneNumber, filtersFrom}
@@ -61,7 +61,7 @@ constraint s c =
 
 -- "knowledge": into the working table; twelve levels are left inside a specialized knowledge of another kind
 unfoldable pub knowledgePart : List ℕ → List ℕ → Reading → Knowing
-knowledgePart s t c = pick (nextIs s 0x10 c) (knowledgeAt 12 0x42 s t c) (knowing [] t 512 c)
+knowledgePart s t c = pick (nextIs s 0x10 c) (knowledgeAt 12 0x42 s t c) (knowing [] t mostSaid c)
 
 -- "package, passed over": fourteen levels are left inside it
 unfoldable pub packagePart : List ℕ → Reading → Reading
@@ -94,7 +94,7 @@ ended s c = c ▹ endHere s 0x42 ▹ packagePart s ▹ endHere s 0x40 ▹ finish
 
 -- "An over-long input gives 1 before its other faults": then nothing is known; else what the knowledge tells
 unfoldable pub requestKnowing : List ℕ → List ℕ → Knowing
-requestKnowing s t = pick (ltb longestInput (length s)) (knowing [] t 512 (Refused overLong)) (knowledgePart s t (filtered s))
+requestKnowing s t = pick (ltb longestInput (length s)) (knowing [] t mostSaid (Refused overLong)) (knowledgePart s t (filtered s))
 
 -- ---- what reading answers: a fault of the request is one of the second input
 

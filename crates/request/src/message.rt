@@ -12,8 +12,8 @@ use objects::layout::NOTHING;
 use objects::reading::Reading;
 use store::element::PACKAGE;
 use store::knowledge::KNOWLEDGE;
-use store::knowledge::RANGE_NUMBERS;
 use store::knowledge::ReadKnowledge;
+use store::knowledge::SAID_NUMBERS;
 use store::knowledge::read_knowledge;
 
 // The types of the objects.
@@ -170,7 +170,7 @@ fn rows_known(k: ReadKnowledge) -> usize
 }
 
 // The knowledge, which may be absent: then nothing is known.
-fn knowledge_part(s: &[u8], c: Reading, table: &mut [u64; RANGE_NUMBERS]) -> ReadKnowledge
+fn knowledge_part(s: &[u8], c: Reading, table: &mut [u64; SAID_NUMBERS]) -> ReadKnowledge
     ensures { λ r. ⌜ ReadsKnowledge (knowledgePart (now (s .entry)) (now (table .entry)) c) r (now (table .exit)) ⌝ }
 {
     if c.next_is(s, KNOWLEDGE) {
@@ -203,7 +203,7 @@ fn answer(c: Reading, id: u64, limit: u64, place: usize, count: u64, rows: usize
 
 // The request, with its knowledge in the table: after a refusal the ranges before the fault. Ruled out (proofs/WrongAnswers):
 // of no bytes, 7 for the version that is not there, and a fault of the first input; of the shortest request, a limit of 0.
-pub fn read_request(s: &[u8], table: &mut [u64; RANGE_NUMBERS]) -> Request
+pub fn read_request(s: &[u8], table: &mut [u64; SAID_NUMBERS]) -> Request
     ensures { λ r. ⌜ ReadsRequest (now (s .entry)) (now (table .entry)) r (now (table .exit)) ⌝ }
 {
     if LONGEST_INPUT < s.len() {

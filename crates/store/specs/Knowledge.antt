@@ -3,7 +3,7 @@
 -- read from left to right, and each range goes into the list as it is read; a fault ends the reading with the ranges before it.
 -- Assumes nothing.
 use mathlib.Core.Path.{_≡_}
-use Prim.Native.Nat.{ℕ, zero, suc, _+_, _-_, _≤_}
+use Prim.Native.Nat.{ℕ, zero, suc, _+_, _-_, _*_, _≤_}
 use mathlib.Core.Bool.{Bool, true, false}
 use mathlib.Core.List.{List, [], _∷_}
 use lib.ListN.{length}
@@ -25,7 +25,7 @@ use Rattle.objects.specs.declared.reading.ReadingSerial.the-variants as serial�
 use Rattle.talk.specs.Ranges.{insert, Normal}
 use Rattle.talk.specs.declared.range.Range.{Range}
 use Rattle.ranges.specs.Ranged.{rangeOf}
-use Rattle.ranges.specs.RangeTable.{rangesAt, laidRanges}
+use Rattle.ranges.specs.RangeTable.{rangeWidth, rangesAt, laidRanges}
 use Rattle.store.specs.declared.item.Item.{Item}
 use Rattle.store.specs.declared.item.Item.the-variants as item
 use Rattle.store.specs.declared.item.RangeFields.{RangeFields}
@@ -113,6 +113,13 @@ united (item.Refused r) l = l
 
 -- ---- what is known so far
 
+-- "over .. 512 ranges and entries": what a knowledge may say in all, and the numbers of a table that has a row for each
+abbrev pub mostSaid : ℕ
+mostSaid = 512
+
+abbrev pub saidNumbers : ℕ
+saidNumbers = mostSaid * rangeWidth
+
 pub record Knowing : Type 0 where
   pub ranges : List Range
   pub table : List ℕ  -- the working table that holds them
@@ -183,9 +190,9 @@ unreached = knowing [] [] 0 (Refused (faultAt 0 0))
 unfoldable pub knowledgeFrom : ℕ → List ℕ → Knowing → Knowing
 knowledgeFrom depth s k = iterate (λ m. knowledgeTurn depth s m) (λ m. toGo s (m .last)) unreached k
 
--- "over .. 512 ranges and entries"; the knowledge has no fields, and stands inside an open object of type `outer`
+-- at most `mostSaid` ranges and entries; the knowledge has no fields, and stands inside an open object of type `outer`
 unfoldable pub knowledgeAt : ℕ → ℕ → List ℕ → List ℕ → Reading → Knowing
-knowledgeAt depth outer s t c = knowledgeFrom depth s (knowing [] t 512 (startOfLength s outer 0x10 true true 0 c))
+knowledgeAt depth outer s t c = knowledgeFrom depth s (knowing [] t mostSaid (startOfLength s outer 0x10 true true 0 c))
 
 -- ---- what reading answers, and what the working table then holds
 
@@ -200,7 +207,7 @@ pub record KnownIs (k : Knowing) (r : Known) (t : List ℕ) : Type 0 where
   pub last : r .last ≡ k .last
   pub table : t ≡ k .table
   pub held : rangesAt t 0 (r .rows) ≡ k .ranges
-  pub room : r .rows + r .left ≤ 512
+  pub room : r .rows + r .left ≤ mostSaid
   pub normal : Normal (k .ranges)
 
 -- what reading promises: the answer, and the table at exit, whose first rows are the ranges, in normal form

@@ -3,8 +3,8 @@ ghost use mathlib.Core.Path.{_≡_};
 ghost use Prim.Native.Nat.{_+_, _*_, _≤_};
 ghost use lib.ListN.{length};
 ghost use Rattle.talk.specs.Ranges.{Normal};
-ghost use Rattle.ranges.specs.RangeTable.{rangesAt, laidRanges};
-ghost use Rattle.store.specs.Knowledge.{knowing, united, itemsFrom, isCell, cellFrom, specializedFrom, knowledgeAt, knowledgeAnswer, KnownIs, ReadsKnowledge};
+ghost use Rattle.ranges.specs.RangeTable.{rangeWidth, rangesAt, laidRanges};
+ghost use Rattle.store.specs.Knowledge.{united, mostSaid, knowing, itemsFrom, isCell, cellFrom, specializedFrom, knowledgeAt, knowledgeAnswer, KnownIs, ReadsKnowledge};
 use crate::item::CELL;
 use crate::item::Item;
 use crate::item::item_kind;
@@ -14,6 +14,7 @@ use numbers::refusal::Refusal;
 use objects::reading::Reading;
 use objects::reading::ReadingGuid;
 use ranges::Added;
+use ranges::RANGE_WIDTH;
 use ranges::add_range;
 
 // The types of the objects.
@@ -26,11 +27,11 @@ pub const CELL_LOW: u64 = 0x44140761327A35F6;
 
 pub const CELL_HIGH: u64 = 0x4D7A6600E9518696;
 
-// At most so many ranges and entries.
-pub const MOST_RANGES: usize = 512;
+// A knowledge says at most so many ranges and entries.
+pub const MOST_SAID: usize = 512;
 
-// The numbers of the working table: four for each range.
-pub const RANGE_NUMBERS: usize = 2048;
+// The numbers of a working table that has a row for each.
+pub const SAID_NUMBERS: usize = MOST_SAID * RANGE_WIDTH;
 
 // How many rows the table has, how many ranges and entries may still come, and where the reading stands.
 pub struct Known {
@@ -47,7 +48,7 @@ pub enum ReadKnowledge {
 
 // The rows with what an item adds.
 fn unite(table: &mut [u64], rows: usize, item: Item) -> usize
-    requires { ⌜ (rows * 4 + 4 ≤ length (now table)) × Normal (rangesAt (now table) 0 rows) ⌝ }
+    requires { ⌜ (rows * rangeWidth + rangeWidth ≤ length (now table)) × Normal (rangesAt (now table) 0 rows) ⌝ }
     ensures { λ r. ⌜ (r ≡ length (united item (rangesAt (now (table .entry)) 0 rows))) × (now (table .exit) ≡ laidRanges (united item (rangesAt (now (table .entry)) 0 rows)) (now (table .entry))) ⌝ }
 {
     match item {
@@ -65,11 +66,11 @@ fn unite(table: &mut [u64], rows: usize, item: Item) -> usize
 fn read_items(
     s: &[u8],
     c: Reading,
-    table: &mut [u64; RANGE_NUMBERS],
+    table: &mut [u64; SAID_NUMBERS],
     rows: usize,
     allowed: usize,
 ) -> Known
-    requires { ⌜ (rows + allowed ≤ 512) × Normal (rangesAt (now table) 0 rows) ⌝ }
+    requires { ⌜ (rows + allowed ≤ mostSaid) × Normal (rangesAt (now table) 0 rows) ⌝ }
     ensures { λ r. ⌜ KnownIs (itemsFrom allowed (now (s .entry)) (rangesAt (now (table .entry)) 0 rows) (now (table .entry)) c) r (now (table .exit)) ⌝ }
 {
     let mut at = c;
@@ -115,11 +116,11 @@ fn is_cell(c: ReadingGuid) -> bool
 fn read_cell(
     s: &[u8],
     c: Reading,
-    table: &mut [u64; RANGE_NUMBERS],
+    table: &mut [u64; SAID_NUMBERS],
     rows: usize,
     left: usize,
 ) -> Known
-    requires { ⌜ (rows + left ≤ 512) × Normal (rangesAt (now table) 0 rows) ⌝ }
+    requires { ⌜ (rows + left ≤ mostSaid) × Normal (rangesAt (now table) 0 rows) ⌝ }
     ensures { λ r. ⌜ KnownIs (cellFrom (now (s .entry)) (knowing (rangesAt (now (table .entry)) 0 rows) (now (table .entry)) left c) c) r (now (table .exit)) ⌝ }
 {
     let o = c.start_of_length(s, SPECIALIZED, CELL, true, true, 0);
@@ -137,11 +138,11 @@ fn read_specialized(
     s: &[u8],
     c: Reading,
     depth: usize,
-    table: &mut [u64; RANGE_NUMBERS],
+    table: &mut [u64; SAID_NUMBERS],
     rows: usize,
     left: usize,
 ) -> Known
-    requires { ⌜ (rows + left ≤ 512) × Normal (rangesAt (now table) 0 rows) ⌝ }
+    requires { ⌜ (rows + left ≤ mostSaid) × Normal (rangesAt (now table) 0 rows) ⌝ }
     ensures { λ r. ⌜ KnownIs (specializedFrom depth (now (s .entry)) (knowing (rangesAt (now (table .entry)) 0 rows) (now (table .entry)) left c)) r (now (table .exit)) ⌝ }
 {
     let o = c.start_of_length(s, KNOWLEDGE, SPECIALIZED, true, true, 16);
@@ -175,13 +176,13 @@ pub fn read_knowledge(
     c: Reading,
     outer: u64,
     depth: usize,
-    table: &mut [u64; RANGE_NUMBERS],
+    table: &mut [u64; SAID_NUMBERS],
 ) -> ReadKnowledge
     ensures { λ r. ⌜ ReadsKnowledge (knowledgeAt depth outer (now (s .entry)) (now (table .entry)) c) r (now (table .exit)) ⌝ }
 {
     let mut at = c.start_of_length(s, outer, KNOWLEDGE, true, true, 0);
     let mut n = 0;
-    let mut left = MOST_RANGES;
+    let mut left = MOST_SAID;
     while at.next_is(s, SPECIALIZED) {
         let k = read_specialized(s, at, depth, table, n, left);
         n = k.rows;

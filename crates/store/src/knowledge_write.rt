@@ -8,7 +8,8 @@ ghost use lib.ListN.{length, drop};
 ghost use Rattle.laws.specs.Placed.{Lays};
 ghost use Rattle.numbers.specs.Calls.{Writes};
 ghost use Rattle.objects.specs.Header.{startBytes};
-ghost use Rattle.ranges.specs.RangeTable.{rangesAt};
+ghost use Rattle.ranges.specs.RangeTable.{rangeWidth, rangesAt};
+ghost use Rattle.store.specs.Knowledge.{mostSaid};
 ghost use Rattle.store.specs.KnowledgeWritten.{guidOf, rangeData, rangeBytes, rangesBytes, cellFront, cellBack, knowledgeBytes};
 use crate::item::CELL;
 use crate::item::SHORT_RANGE;
@@ -39,7 +40,7 @@ pub fn range_length(x: Range) -> usize
 
 // How many bytes the ranges of the rows from `first` up to `rows` take.
 pub fn ranges_length(table: &[u64], first: usize, rows: usize) -> usize
-    requires { ⌜ (first ≤ rows) × (rows ≤ 512) × (rows * 4 ≤ length (now table)) ⌝ }
+    requires { ⌜ (first ≤ rows) × (rows ≤ mostSaid) × (rows * rangeWidth ≤ length (now table)) ⌝ }
     ensures { λ r. ⌜ (r ≡ length (rangesBytes (rangesAt (now (table .entry)) first (rows - first)))) × (r ≤ rows * 36) ⌝ }
 {
     let mut n = 0;
@@ -54,8 +55,8 @@ pub fn ranges_length(table: &[u64], first: usize, rows: usize) -> usize
 // How many bytes the knowledge of the first rows takes. Ruled out (proofs/KnowledgeWrongAnswers): 28 for no row, as without
 // a range there is no cell knowledge; 44 for one short range, its four bytes of ends not counted.
 fn knowledge_length(table: &[u64], rows: usize) -> usize
-    requires { ⌜ (rows ≤ 512) × (rows * 4 ≤ length (now table)) ⌝ }
-    ensures { λ r. ⌜ (r ≡ length (knowledgeBytes (rangesAt (now (table .entry)) 0 rows))) × (r ≤ 18460) ⌝ }
+    requires { ⌜ (rows ≤ mostSaid) × (rows * rangeWidth ≤ length (now table)) ⌝ }
+    ensures { λ r. ⌜ (r ≡ length (knowledgeBytes (rangesAt (now (table .entry)) 0 rows))) × (r ≤ 28 + mostSaid * 36) ⌝ }
 {
     if rows == 0 {
         return 3;
@@ -104,7 +105,7 @@ fn lay_range(out: &mut [u8], at: usize, x: Range) -> usize
 
 // The ranges of the first rows, one behind the other.
 fn lay_ranges(out: &mut [u8], at: usize, table: &[u64], rows: usize) -> usize
-    requires { ⌜ (rows * 4 ≤ length (now table)) × (at + length (rangesBytes (rangesAt (now table) 0 rows)) ≤ length (now out)) ⌝ }
+    requires { ⌜ (rows * rangeWidth ≤ length (now table)) × (at + length (rangesBytes (rangesAt (now table) 0 rows)) ≤ length (now out)) ⌝ }
     ensures { λ r. ⌜ Lays at (rangesBytes (rangesAt (now (table .entry)) 0 rows)) (now (out .entry)) r (now (out .exit)) ⌝ }
 {
     let mut p = at;
@@ -143,7 +144,7 @@ fn lay_back(out: &mut [u8], at: usize) -> usize
 
 // The knowledge of the first rows at a place.
 pub fn lay_knowledge(out: &mut [u8], at: usize, table: &[u64], rows: usize) -> usize
-    requires { ⌜ (rows * 4 ≤ length (now table)) × (at + length (knowledgeBytes (rangesAt (now table) 0 rows)) ≤ length (now out)) ⌝ }
+    requires { ⌜ (rows * rangeWidth ≤ length (now table)) × (at + length (knowledgeBytes (rangesAt (now table) 0 rows)) ≤ length (now out)) ⌝ }
     ensures { λ r. ⌜ Lays at (knowledgeBytes (rangesAt (now (table .entry)) 0 rows)) (now (out .entry)) r (now (out .exit)) ⌝ }
 {
     if rows == 0 {
@@ -157,7 +158,7 @@ pub fn lay_knowledge(out: &mut [u8], at: usize, table: &[u64], rows: usize) -> u
 
 // The knowledge of the first rows at the front of out.
 fn put_knowledge(out: &mut [u8], table: &[u64], rows: usize)
-    requires { ⌜ (rows * 4 ≤ length (now table)) × (length (knowledgeBytes (rangesAt (now table) 0 rows)) ≤ length (now out)) ⌝ }
+    requires { ⌜ (rows * rangeWidth ≤ length (now table)) × (length (knowledgeBytes (rangesAt (now table) 0 rows)) ≤ length (now out)) ⌝ }
     ensures { λ _. ⌜ now (out .exit) ≡ knowledgeBytes (rangesAt (now (table .entry)) 0 rows) ++ drop (length (knowledgeBytes (rangesAt (now (table .entry)) 0 rows))) (now (out .entry)) ⌝ }
 {
     lay_knowledge(out, 0, table, rows);
@@ -166,7 +167,7 @@ fn put_knowledge(out: &mut [u8], table: &[u64], rows: usize)
 // The knowledge of the first rows. Ruled out (proofs/KnowledgeWrongAnswers): a needed length of 2 for no row, as its end
 // counts; a range's GUID with its bytes in the order of the row's little-endian numbers.
 pub fn write_knowledge(out: &mut [u8], table: &[u64], rows: usize) -> Wrote
-    requires { ⌜ (rows ≤ 512) × (rows * 4 ≤ length (now table)) ⌝ }
+    requires { ⌜ (rows ≤ mostSaid) × (rows * rangeWidth ≤ length (now table)) ⌝ }
     ensures { λ r. ⌜ Writes (knowledgeBytes (rangesAt (now (table .entry)) 0 rows)) (now (out .entry)) r (now (out .exit)) ⌝ }
 {
     let needed = knowledge_length(table, rows);
