@@ -4,7 +4,7 @@ ghost use lib.ListN.{length};
 ghost use Rattle.talk.specs.Ranges.{Normal};
 ghost use Rattle.objects.specs.declared.reading.Reading.the-variants.{At};
 ghost use Rattle.ranges.specs.RangeTable.{rangesAt};
-ghost use Rattle.store.specs.Knowledge.{knowledgeAt, ReadsKnowledge};
+ghost use Rattle.store.specs.Knowledge.{mostSaid, knowledgeAt, ReadsKnowledge};
 use crate::stores::UNTOUCHED;
 use crate::stores::untouched;
 use case_words::say;
@@ -79,9 +79,9 @@ pub fn refused(s: &[u8], r: Refusal, t: &[u64; SAID_NUMBERS]) {
 
 // The knowledge at the front of s.
 fn read(s: &[u8], t: &mut [u64; SAID_NUMBERS]) -> ReadKnowledge
-    ensures { λ r. ⌜ ReadsKnowledge (knowledgeAt 12 0x42 (now (s .entry)) (now (t .entry)) (At 0 0)) r (now (t .exit)) ⌝ }
+    ensures { λ r. ⌜ ReadsKnowledge (knowledgeAt mostSaid 12 0x42 (now (s .entry)) (now (t .entry)) (At 0 0)) r (now (t .exit)) ⌝ }
 {
-    read_knowledge(s, Reading::At(0, 0), SUB_REQUEST, LEVELS, t)
+    read_knowledge(s, Reading::At(0, 0), SUB_REQUEST, LEVELS, MOST_SAID, t)
 }
 
 // `knowledge HEX`

@@ -25,6 +25,7 @@ use Rattle.objects.proofs.ObjectsWritten.{reads-start, reads-start-of-length, r
 use Rattle.talk.specs.Each.{Each}
 use Rattle.talk.specs.Ranges.{Normal, AllFit}
 use Rattle.talk.specs.declared.range.Range.{Range}
+use Rattle.store.specs.Knowledge.{mostSaid}
 use Rattle.store.specs.Accessor.{elementIn, bytesAt}
 use Rattle.store.specs.Chain.{Chain, Fresh}
 use Rattle.store.specs.Element.{sameKey, idsIn, serialsIn, elementAt}
@@ -256,7 +257,7 @@ ends-read w at u h =
 module _ (s : List ℕ) (id : ℕ) (index : ExtendedGuid) (page : List Element) (partial : Bool) (l : List Range) (w : List ℕ)
     (is : w ≡ answerBytes s id index page partial l) (stand : Each (StandsIn s) page) (ids : Fresh (λ x. x .id) [] page)
     (serials : Fresh (λ x. x .serial) [] page) (few : length page ≤ 256) (id-fits : id < 2 ^ 64) (index-fits : ExtendedGuidFits index)
-    (normal : Normal l) (fit : AllFit l) (most : length l ≤ 512) (short : length w ≤ longestAnswer) where
+    (normal : Normal l) (fit : AllFit l) (most : length l ≤ mostSaid) (short : length w ≤ longestAnswer) where
   -- the parts, one behind the other
   abbrev elementsPart : List ℕ
   elementsPart = elementsBytes s page
@@ -334,7 +335,7 @@ module _ (s : List ℕ) (id : ℕ) (index : ExtendedGuid) (page : List Element) 
 
   ranges-back : (knowledgeIn w (At place (partialByte partial)) .ranges ≡ l) × (knowledgeIn w (At place (partialByte partial)) .last ≡ At (place + length knowledgePart) 0)
   unfolding knowledgeIn
-  ranges-back = knowledge-back 13 0x41 l w [] place (partialByte partial) endsBytes normal fit most knowledge-stands
+  ranges-back = knowledge-back mostSaid 13 0x41 l w [] place (partialByte partial) endsBytes normal fit most knowledge-stands
 
   known-end : knowledgeEnd w (At past 0) ≡ At (place + length knowledgePart) 0
   unfolding valued

@@ -14,6 +14,7 @@ use Rattle.objects.specs.Steps.{placeOf, valued, startHere, runHere, closedAt, 
 use Rattle.objects.specs.declared.reading.Reading.{Reading}
 use Rattle.objects.specs.declared.reading.Reading.the-variants.{At, Refused}
 use Rattle.objects.proofs.Forward.{Past, behind-place}
+use Rattle.store.specs.Knowledge.{mostSaid}
 use Rattle.store.specs.Accessor.{elementIn}
 use Rattle.store.specs.Store.{packagedOf, laidRows, laidIds}
 use Rattle.store.specs.declared.accessor.Found.the-variants as found
@@ -29,7 +30,7 @@ use Rattle.client.specs.declared.answer.ReadAnswer.the-variants as answe
 
 pub rest-fault : (s : List ℕ) (r : Refusal) → restOf s (Refused r) ≡ Refused r
 unfolding restOf endsOf endHere finish subResponse changes startHere runHere closedAt knowledgeIn valued
-rest-fault s r = rw (carries-knowledge 13 0x41 [] .fault s r)
+rest-fault s r = rw (carries-knowledge mostSaid 13 0x41 [] .fault s r)
 
 -- ---- the knowledge's length
 
@@ -49,7 +50,7 @@ unfolding restOf knowledgeIn placeOf
 knowledge-forward s c e v h =
     let a = ends-reached s (knowledgeEnd s c) e v h in
     let b = valued-reached (knowledgeIn s (markAt s c) .last) (a .0) (a .1) (a .2) in
-    let p = knowledge-past 13 0x41 (placeOf (markAt s c)) s [] (markAt s c) (behind-place (markAt s c)) in
+    let p = knowledge-past mostSaid 13 0x41 (placeOf (markAt s c)) s [] (markAt s c) (behind-place (markAt s c)) in
     let q : Past s (placeOf (markAt s c)) (At (a .0) (b .0)) = subst (Past s (placeOf (markAt s c))) (b .1) p in
     rw (a .2) (omega arith)
 

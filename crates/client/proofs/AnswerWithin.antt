@@ -13,6 +13,7 @@ use Rattle.objects.specs.declared.reading.Reading.{Reading}
 use Rattle.objects.specs.declared.reading.Reading.the-variants.{At}
 use Rattle.objects.proofs.Keep.{good-front, good-fixed, good-need, good-place, good-valued, good-number, good-number-is, good-id, good-start, good-closed, good-end, good-finish}
 use Rattle.request.proofs.Places.{good-versions}
+use Rattle.store.specs.Knowledge.{mostSaid}
 use Rattle.store.proofs.Places.{package-good}
 use Rattle.store.proofs.KnowledgeHeld.{knowledge-good}
 use Rattle.pages.specs.Written.{answerSignature}
@@ -60,7 +61,7 @@ good-changes s c g =
 
 good-knowledge-in : (s : List ℕ) (c : Reading) → Good s c → Good s (knowledgeIn s c .last)
 unfolding knowledgeIn
-good-knowledge-in s c g = knowledge-good 13 0x41 s [] c g
+good-knowledge-in s c g = knowledge-good mostSaid 13 0x41 s [] c g
 
 good-ends : (s : List ℕ) (c : Reading) → Good s c → Good s (endsOf s c)
 unfolding endsOf

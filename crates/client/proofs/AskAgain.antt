@@ -16,7 +16,7 @@ use Rattle.objects.specs.declared.reading.Reading.the-variants.{At}
 use Rattle.objects.proofs.Written.{finish-written}
 use Rattle.talk.specs.Ranges.{Normal, AllFit}
 use Rattle.talk.specs.declared.range.Range.{Range}
-use Rattle.store.specs.Knowledge.{knowledgeAt}
+use Rattle.store.specs.Knowledge.{mostSaid, knowledgeAt}
 use Rattle.store.specs.KnowledgeWritten.{rangesBytes, cellFront, cellBack, knowledgeBytes}
 use Rattle.store.proofs.KnowledgeLengths.{length-front, length-back}
 use Rattle.store.proofs.KnowledgeBack.{knowledge-back}
@@ -36,7 +36,7 @@ knowledge-size (x ∷ xs) =
     let m = bytes-most (x ∷ xs) in
     (omega (arith, a, b, length-front, length-back), omega (arith, a, b, m, length-front, length-back))
 
-module _ (l : List Range) (n : Normal l) (f : AllFit l) (m : length l ≤ 512) where
+module _ (l : List Range) (n : Normal l) (f : AllFit l) (m : length l ≤ mostSaid) where
   abbrev sent : List ℕ
   sent = knowledgeBytes l
 
@@ -46,8 +46,8 @@ module _ (l : List Range) (n : Normal l) (f : AllFit l) (m : length l ≤ 512) w
   some : length sent ≡ 0 → ⊥
   some e = let z = knowledge-size l in omega arith
 
-  told : (knowledgeAt 12 0x42 sent [] (At 0 0) .ranges ≡ l) × (knowledgeAt 12 0x42 sent [] (At 0 0) .last ≡ At (length sent) 0)
-  told = rw zero-add at (knowledge-back 12 0x42 l sent [] 0 0 [] n f m (sym (append-nil sent)))
+  told : (knowledgeAt mostSaid 12 0x42 sent [] (At 0 0) .ranges ≡ l) × (knowledgeAt mostSaid 12 0x42 sent [] (At 0 0) .last ≡ At (length sent) 0)
+  told = rw zero-add at (knowledge-back mostSaid 12 0x42 l sent [] 0 0 [] n f m (sym (append-nil sent)))
 
   pub knowledge-sent-back : (knowledgeGiven sent ≡ At (length sent) 0) × (knowledgeOf sent .ranges ≡ l)
   unfolding knowledgeOf valued

@@ -20,7 +20,7 @@ use Rattle.objects.specs.declared.reading.Reading.{Reading}
 use Rattle.objects.specs.declared.reading.Reading.the-variants.{At, Refused}
 use Rattle.objects.proofs.Keep.{good-front}
 use Rattle.objects.proofs.StepsCarry.{opened-from}
-use Rattle.store.specs.Knowledge.{knowledgeAt}
+use Rattle.store.specs.Knowledge.{mostSaid, knowledgeAt}
 use Rattle.store.proofs.KnowledgeHeld.{knowledge-good}
 use Rattle.request.specs.Filter.{filterAt, filtersFrom}
 use Rattle.request.specs.Message.{inRequest}
@@ -46,7 +46,7 @@ pub given-none : (k : List ℕ) → length k ≤ longestInput → length k ≡ 0
 unfolding knowledgeGiven knowledgeOf valued finish
 given-none k h e = let l : length k ≤ 0 = omega arith in rw (le-ltb _ _ h, eq-eqb _ _ e, le-ltb _ _ l)
 
-pub given-some : (k : List ℕ) → length k ≤ longestInput → (length k ≡ 0 → ⊥) → finish k (valued 0 (knowledgeAt 12 0x42 k [] (At 0 0) .last)) ≡ knowledgeGiven k
+pub given-some : (k : List ℕ) → length k ≤ longestInput → (length k ≡ 0 → ⊥) → finish k (valued 0 (knowledgeAt mostSaid 12 0x42 k [] (At 0 0) .last)) ≡ knowledgeGiven k
 unfolding knowledgeGiven knowledgeOf
 given-some k h n = rw (le-ltb _ _ h, ne-eqb _ _ n)
 
@@ -63,9 +63,9 @@ finished k (At e w) q v g h =
     (λ l. let z : e ≡ length k = omega arith in record { value = w; read = rw z })
 finished k (Refused r) q v g h = impossible (cc)
 
-pub knowledge-whole : (k : List ℕ) (q v : ℕ) → knowledgeGiven k ≡ At q v → (length k ≡ 0 → ⊥) → AllRead k (knowledgeAt 12 0x42 k [] (At 0 0) .last)
+pub knowledge-whole : (k : List ℕ) (q v : ℕ) → knowledgeGiven k ≡ At q v → (length k ≡ 0 → ⊥) → AllRead k (knowledgeAt mostSaid 12 0x42 k [] (At 0 0) .last)
 knowledge-whole k q v h n =
-    finished k (knowledgeAt 12 0x42 k [] (At 0 0) .last) q v (knowledge-good 12 0x42 k [] (At 0 0) (good-front k 0))
+    finished k (knowledgeAt mostSaid 12 0x42 k [] (At 0 0) .last) q v (knowledge-good mostSaid 12 0x42 k [] (At 0 0) (good-front k 0))
     (given-some k (knowledge-short k q v h) n ∙ h)
 
 -- ---- the filters

@@ -27,7 +27,7 @@ use Rattle.objects.proofs.Rules.{run-end}
 use Rattle.objects.proofs.HeadersBack.{end-written}
 use Rattle.objects.proofs.Written.{behind, Reads, reads-then, reads-valued, whole, reads-fixed, reads-number, reads-number-is, reads-skip, reads-run, finish-written}
 use Rattle.objects.proofs.ObjectsWritten.{reads-start, reads-start-of-length, reads-end, reads-inside, next-start, next-end}
-use Rattle.store.specs.Knowledge.{Knowing, knowing, knowledgeFrom, knowledgeAt}
+use Rattle.store.specs.Knowledge.{mostSaid, Knowing, knowing, knowledgeFrom, knowledgeAt}
 use Rattle.store.proofs.ElementWritten.{compact-most}
 use Rattle.store.proofs.KnowledgeForward.{knowledge-end}
 use Rattle.store.proofs.KnowledgeCarry.{knowledge-carry}
@@ -145,25 +145,25 @@ unfolding lengthIs
 opened-of-length s outer kind n p u q v (At i w) e h = started s outer kind true true p u i w e
 opened-of-length s outer kind n p u q v (Refused r) e h = impossible (cc)
 
-knowledge-opened : (depth : ℕ) (s t : List ℕ) (c : Reading) (q v : ℕ) → knowledgeFrom depth s (knowing [] t 512 c) .last ≡ At q v
+knowledge-opened : (allowed depth : ℕ) (s t : List ℕ) (c : Reading) (q v : ℕ) → knowledgeFrom depth s (knowing [] t allowed c) .last ≡ At q v
     → {P : Type 0} → ((i w : ℕ) → c ≡ At i w → P) → P
 unfolding nextIs endHere
-knowledge-opened depth s t (At i w) q v e f = f i w refl
-knowledge-opened depth s t (Refused r) q v e f =
-    let z : Refused r ≡ At q v = sym (ap (λ (k : Knowing). k .last) (knowledge-end depth s (knowing [] t 512 (Refused r)) refl)) ∙ e in
+knowledge-opened allowed depth s t (At i w) q v e f = f i w refl
+knowledge-opened allowed depth s t (Refused r) q v e f =
+    let z : Refused r ≡ At q v = sym (ap (λ (k : Knowing). k .last) (knowledge-end depth s (knowing [] t allowed (Refused r)) refl)) ∙ e in
     impossible (cc)
 
-knowledge-started : (depth outer : ℕ) (s t : List ℕ) (p u q v : ℕ) → knowledgeAt depth outer s t (At p u) .last ≡ At q v → nextIs s 0x10 (At p u) ≡ true
+knowledge-started : (allowed depth outer : ℕ) (s t : List ℕ) (p u q v : ℕ) → knowledgeAt allowed depth outer s t (At p u) .last ≡ At q v → nextIs s 0x10 (At p u) ≡ true
 unfolding knowledgeAt startOfLength placeOf
-knowledge-started depth outer s t p u q v e =
-    knowledge-opened depth s t (startOfLength s outer 0x10 true true 0 (At p u)) q v e
+knowledge-started allowed depth outer s t p u q v e =
+    knowledge-opened allowed depth s t (startOfLength s outer 0x10 true true 0 (At p u)) q v e
     (λ i w h. opened-of-length s outer 0x10 0 p u i w (startHere s outer 0x10 true true (At p u)) refl h)
 
 -- ---- the knowledge, and the ends behind it
 
-knowledge-any : (depth outer : ℕ) (s t : List ℕ) (p u v : ℕ) → knowledgeAt depth outer s t (At p u) ≡ knowledgeAt depth outer s t (At p v)
+knowledge-any : (allowed depth outer : ℕ) (s t : List ℕ) (p u v : ℕ) → knowledgeAt allowed depth outer s t (At p u) ≡ knowledgeAt allowed depth outer s t (At p v)
 unfolding knowledgeAt startOfLength startHere placeOf
-knowledge-any depth outer s t p u v = refl
+knowledge-any allowed depth outer s t p u v = refl
 
 record KnownThere (k s t : List ℕ) (at u : ℕ) : Type 0 where
   value : ℕ
@@ -195,14 +195,14 @@ module _ (k s t : List ℕ) (at u : ℕ) (stands : drop at s ≡ k ++ askEnds) w
       let a : take (length k - 0) (drop at s) ≡ take (length k - 0) (drop 0 k) =
       rw (z, stands) (take-append-seam k askEnds ∙ sym (take-all (length k) k (omega arith))) in
       let l : at + (length k - 0) ≤ length s = omega (arith, length-drop at s, ap length stands, length-append k askEnds) in
-      let c = knowledge-carry 12 0x42 k [] t 0 0 (length k) (w .value) (w .read) s at a l in
-      let y : knowledgeAt 12 0x42 s t (At at u) .last ≡ At (at + length k) (w .value) =
-      ap (λ (m : Knowing). m .last) (knowledge-any 12 0x42 s t at u 0) ∙ c .0 ∙ ap (λ (m : ℕ). At (at + m) (w .value)) z in
-      let o : nextIs s 0x10 (At at u) ≡ true = knowledge-started 12 0x42 s t at u _ _ y in
+      let c = knowledge-carry mostSaid 12 0x42 k [] t 0 0 (length k) (w .value) (w .read) s at a l in
+      let y : knowledgeAt mostSaid 12 0x42 s t (At at u) .last ≡ At (at + length k) (w .value) =
+      ap (λ (m : Knowing). m .last) (knowledge-any mostSaid 12 0x42 s t at u 0) ∙ c .0 ∙ ap (λ (m : ℕ). At (at + m) (w .value)) z in
+      let o : nextIs s 0x10 (At at u) ≡ true = knowledge-started mostSaid 12 0x42 s t at u _ _ y in
       record {
         value = w .value;
         last = rw o y;
-        ranges = rw (o, ne-eqb _ _ n) (ap (λ (m : Knowing). m .ranges) (knowledge-any 12 0x42 s t at u 0) ∙ c .1);
+        ranges = rw (o, ne-eqb _ _ n) (ap (λ (m : Knowing). m .ranges) (knowledge-any mostSaid 12 0x42 s t at u 0) ∙ c .1);
         other = λ kind d. next-one s 0x10 kind at u d o;
       }
 

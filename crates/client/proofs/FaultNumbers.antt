@@ -21,7 +21,7 @@ use Rattle.objects.specs.declared.reading.Reading.the-variants.{At, Refused}
 use Rattle.objects.proofs.FaultNumbers.{NumberedFault, Numbered, numbered-valued, numbered-need, numbered-fixed, numbered-number, numbered-number-is, numbered-id, numbered-start, numbered-end, numbered-finish, numbered-closed}
 use Rattle.objects.proofs.Keep.{good-front, good-valued, good-start, good-finish}
 use Rattle.store.proofs.FaultNumbers.{numbered-package, numbered-knowledge}
-use Rattle.store.specs.Knowledge.{Knowing}
+use Rattle.store.specs.Knowledge.{mostSaid, Knowing}
 use Rattle.store.proofs.KnowledgeHeld.{knowledge-good}
 use Rattle.request.proofs.FaultNumbers.{numbered-versions, numbered-filters}
 use Rattle.request.specs.Filter.{filtersFrom}
@@ -80,7 +80,7 @@ numbered-rest : (s : List ℕ) (c : Reading) → Numbered c → Numbered (restOf
 unfolding restOf knowledgeIn endsOf
 numbered-rest s c g =
     let m = numbered-changes s (subResponse s c) (numbered-sub-response s c g) in
-    numbered-finish s _ (numbered-end s 0x62 _ (numbered-end s 0x41 _ (numbered-valued 0 _ (numbered-knowledge 13 0x41 s [] (markAt s c) m))))
+    numbered-finish s _ (numbered-end s 0x62 _ (numbered-end s 0x41 _ (numbered-valued 0 _ (numbered-knowledge mostSaid 13 0x41 s [] (markAt s c) m))))
 
 -- ---- the whole of it
 
@@ -153,12 +153,12 @@ filters-fault f r h =
 
 numbered-knowledge-of : (k : List ℕ) → Numbered (knowledgeOf k .last)
 unfolding knowledgeOf
-numbered-knowledge-of k = pick-all (λ (m : Knowing). Numbered (m .last)) (eqb (length k) 0) _ _ (λ e. tt) (λ e. numbered-knowledge 12 0x42 k [] (At 0 0) tt)
+numbered-knowledge-of k = pick-all (λ (m : Knowing). Numbered (m .last)) (eqb (length k) 0) _ _ (λ e. tt) (λ e. numbered-knowledge mostSaid 12 0x42 k [] (At 0 0) tt)
 
 good-knowledge-of : (k : List ℕ) → Good k (knowledgeOf k .last)
 unfolding knowledgeOf
 good-knowledge-of k =
-    pick-all (λ (m : Knowing). Good k (m .last)) (eqb (length k) 0) _ _ (λ e. good-front k 0) (λ e. knowledge-good 12 0x42 k [] (At 0 0) (good-front k 0))
+    pick-all (λ (m : Knowing). Good k (m .last)) (eqb (length k) 0) _ _ (λ e. good-front k 0) (λ e. knowledge-good mostSaid 12 0x42 k [] (At 0 0) (good-front k 0))
 
 pub knowledge-fault : (k : List ℕ) (r : Refusal) → knowledgeGiven k ≡ Refused r → InputFault k r
 unfolding knowledgeGiven

@@ -18,8 +18,8 @@ unfolding onKnowledge knowledgeAnswer valued
 on-answer n (At e v) = refl
 on-answer n (Refused r) = refl
 
-pub knowledge-on : (depth outer : ℕ) (s t t′ : List ℕ) (c : Reading) (r : ReadKnowledge) → ReadsKnowledge (knowledgeAt depth outer s t c) r t′
-    → onKnowledge r ≡ valued 0 (knowledgeAt depth outer s [] c .last)
-knowledge-on depth outer s t t′ c r h =
-    ap onKnowledge (h .0) ∙ on-answer (length (knowledgeAt depth outer s t c .ranges)) (knowledgeAt depth outer s t c .last)
-    ∙ ap (valued 0) (table-free depth outer s t [] c .last)
+pub knowledge-on : (allowed depth outer : ℕ) (s t t′ : List ℕ) (c : Reading) (r : ReadKnowledge) → ReadsKnowledge (knowledgeAt allowed depth outer s t c) r t′
+    → onKnowledge r ≡ valued 0 (knowledgeAt allowed depth outer s [] c .last)
+knowledge-on allowed depth outer s t t′ c r h =
+    ap onKnowledge (h .0) ∙ on-answer (length (knowledgeAt allowed depth outer s t c .ranges)) (knowledgeAt allowed depth outer s t c .last)
+    ∙ ap (valued 0) (table-free allowed depth outer s t [] c .last)

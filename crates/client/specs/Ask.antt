@@ -32,7 +32,7 @@ filtersGiven f = pick (ltb longestInput (length f)) (Refused overLong) (At 0 0 �
 -- ---- the knowledge, which is all of the second input: one object, or no byte
 
 unfoldable pub knowledgeOf : List ℕ → Knowing
-knowledgeOf k = pick (eqb (length k) 0) (knowing [] [] mostSaid (At 0 0)) (knowledgeAt 12 0x42 k [] (At 0 0))
+knowledgeOf k = pick (eqb (length k) 0) (knowing [] [] mostSaid (At 0 0)) (knowledgeAt mostSaid 12 0x42 k [] (At 0 0))
 
 -- "After the last end any byte is 5"
 unfoldable pub knowledgeGiven : List ℕ → Reading

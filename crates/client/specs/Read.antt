@@ -16,7 +16,7 @@ use Rattle.objects.specs.declared.reading.Reading.{Reading}
 use Rattle.objects.specs.declared.reading.Reading.the-variants.{At, Refused}
 use Rattle.objects.specs.declared.reading.ReadingId.{ReadingId}
 use Rattle.objects.specs.declared.reading.ReadingId.the-variants as id′
-use Rattle.store.specs.Knowledge.{Knowing, knowledgeAt}
+use Rattle.store.specs.Knowledge.{mostSaid, Knowing, knowledgeAt}
 use Rattle.store.specs.Store.{Walk, packageStart, packageWalk}
 use Rattle.request.specs.Message.{versions}
 use Rattle.pages.specs.Written.{answerSignature}
@@ -80,7 +80,7 @@ idIn (id′.Refused r) = id.Null
 
 -- "knowledge": thirteen levels are left inside a specialized knowledge of another kind
 unfoldable pub knowledgeIn : List ℕ → Reading → Knowing
-knowledgeIn s c = knowledgeAt 13 0x41 s [] c
+knowledgeIn s c = knowledgeAt mostSaid 13 0x41 s [] c
 
 -- "ends": "After the last end any byte is 5"
 unfoldable pub endsOf : List ℕ → Reading → Reading

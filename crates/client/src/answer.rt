@@ -14,6 +14,7 @@ use pages::write::SIGNATURE;
 use pages::write::SUB_RESPONSE;
 use request::message::on_knowledge;
 use request::message::versions;
+use store::knowledge::MOST_SAID;
 use store::knowledge::SAID_NUMBERS;
 use store::knowledge::read_knowledge;
 use store::package::Packaged;
@@ -119,7 +120,14 @@ fn read_rest(s: &[u8], c: Reading, elements: usize, count: usize) -> ReadAnswer
     let d = o.run(s);
     let mark = o.closed(s, changes_fields(d));
     let mut table = [0u64; SAID_NUMBERS];
-    let k = on_knowledge(read_knowledge(s, mark, SUB_RESPONSE, KNOWLEDGE_LEVELS, &mut table));
+    let k = on_knowledge(read_knowledge(
+        s,
+        mark,
+        SUB_RESPONSE,
+        KNOWLEDGE_LEVELS,
+        MOST_SAID,
+        &mut table,
+    ));
     match ends(s, k) {
         Reading::Refused(r) => ReadAnswer::Refused(r),
         Reading::At(_, _) => ReadAnswer::Is(Received {

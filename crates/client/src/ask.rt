@@ -27,6 +27,7 @@ use request::message::SIGNATURE;
 use request::message::USER_AGENT;
 use request::message::in_request;
 use request::message::on_knowledge;
+use store::knowledge::MOST_SAID;
 use store::knowledge::SAID_NUMBERS;
 use store::knowledge::read_knowledge;
 use store::lay::lay_byte;
@@ -82,6 +83,7 @@ fn knowledge_given(k: &[u8]) -> Reading
         Reading::At(0, 0),
         SUB_REQUEST,
         KNOWLEDGE_LEVELS,
+        MOST_SAID,
         &mut table,
     );
     on_knowledge(read).finish(k)

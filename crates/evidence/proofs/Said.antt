@@ -14,7 +14,7 @@ use Rattle.objects.specs.declared.reading.Reading.{Reading}
 use Rattle.objects.specs.declared.reading.Reading.the-variants.{At}
 use Rattle.talk.specs.Ranges.{Normal, AllFit}
 use Rattle.talk.specs.declared.range.Range.{Range}
-use Rattle.store.specs.Knowledge.{Knowing, itemAt, united, knowledgeAt}
+use Rattle.store.specs.Knowledge.{mostSaid, Knowing, itemAt, united, knowledgeAt}
 use Rattle.store.proofs.Items.{sound-item, united-normal, length-united}
 use Rattle.store.proofs.KnowledgeFits.{knowledge-fits}
 use Rattle.store.proofs.KnowledgeHeld.{kept}
@@ -27,17 +27,17 @@ use Rattle.evidence.specs.Bench.{saidBy}
 -- ---- each range and entry takes one from what may come, and adds one range at most
 
 abbrev Room : Knowing → Type 0
-Room k = length (k .ranges) + k .left ≤ 512
+Room k = length (k .ranges) + k .left ≤ mostSaid
 
-item-room : (s : List ℕ) (c : Reading) (l : List Range) (t : List ℕ) (left : ℕ) → length l + suc left ≤ 512 → length (united (itemAt s c) l) + left ≤ 512
+item-room : (s : List ℕ) (c : Reading) (l : List Range) (t : List ℕ) (left : ℕ) → length l + suc left ≤ mostSaid → length (united (itemAt s c) l) + left ≤ mostSaid
 item-room s c l t left h = let m = length-united (itemAt s c) l (length l) (omega arith) in omega arith
 
-knowledge-room : (depth outer : ℕ) (s t : List ℕ) (c : Reading) → Room (knowledgeAt depth outer s t c)
-knowledge-room depth outer s t c = kept (λ l v left. length l + left ≤ 512) s (item-room s) depth outer t c (omega arith)
+knowledge-room : (depth outer : ℕ) (s t : List ℕ) (c : Reading) → Room (knowledgeAt mostSaid depth outer s t c)
+knowledge-room depth outer s t c = kept (λ l v left. length l + left ≤ mostSaid) s (item-room s) mostSaid depth outer t c (omega arith)
 
 -- ---- of a request
 
-pub request-room : (q t : List ℕ) → length (requestKnowing q t .ranges) + requestKnowing q t .left ≤ 512
+pub request-room : (q t : List ℕ) → length (requestKnowing q t .ranges) + requestKnowing q t .left ≤ mostSaid
 unfolding requestKnowing knowledgePart
 request-room q t =
     pick-all Room (ltb longestInput (length q)) _ _ (λ e. omega arith)
@@ -49,26 +49,26 @@ said-in q h = let r = request-room q [] in omega arith
 -- ---- of what a bench hands in
 
 -- what holds of no range and of any knowledge that is read from k holds of its knowledge
-knowledge-so : (P : Knowing → Type 0) (k : List ℕ) → P (record { ranges = []; table = []; left = 512; last = At 0 0 }) → P (knowledgeAt 12 0x42 k [] (At 0 0))
+knowledge-so : (P : Knowing → Type 0) (k : List ℕ) → P (record { ranges = []; table = []; left = mostSaid; last = At 0 0 }) → P (knowledgeAt mostSaid 12 0x42 k [] (At 0 0))
     → P (knowledgeOf k)
 unfolding knowledgeOf
 knowledge-so P k none some = pick-all P (eqb (length k) 0) _ _ (λ e. none) (λ e. some)
 
-pub given-room : (k : List ℕ) → length (knowledgeOf k .ranges) + knowledgeOf k .left ≤ 512
+pub given-room : (k : List ℕ) → length (knowledgeOf k .ranges) + knowledgeOf k .left ≤ mostSaid
 given-room k = knowledge-so Room k (omega arith) (knowledge-room 12 0x42 k [] (At 0 0))
 
 pub said-by : (k : List ℕ) → saidBy k ≤ 256 → length (knowledgeOf k .ranges) ≤ 256
 said-by k h = let r = given-room k in omega arith
 
-pub given-most : (k : List ℕ) → length (knowledgeOf k .ranges) ≤ 512
+pub given-most : (k : List ℕ) → length (knowledgeOf k .ranges) ≤ mostSaid
 given-most k = let r = given-room k in omega arith
 
 pub given-normal : (k : List ℕ) → Normal (knowledgeOf k .ranges)
 unfolding Normal
 given-normal k =
     knowledge-so (λ (m : Knowing). Normal (m .ranges)) k tt
-    (kept (λ l v left. Normal l) k (λ c l v left n. united-normal (itemAt k c) l (sound-item k c) n) 12 0x42 [] (At 0 0) tt)
+    (kept (λ l v left. Normal l) k (λ c l v left n. united-normal (itemAt k c) l (sound-item k c) n) mostSaid 12 0x42 [] (At 0 0) tt)
 
 pub given-fits : (k : List ℕ) → AllBytes k → AllFit (knowledgeOf k .ranges)
 unfolding AllFit
-given-fits k b = knowledge-so (λ (m : Knowing). AllFit (m .ranges)) k tt (knowledge-fits 12 0x42 k [] (At 0 0) b)
+given-fits k b = knowledge-so (λ (m : Knowing). AllFit (m .ranges)) k tt (knowledge-fits mostSaid 12 0x42 k [] (At 0 0) b)

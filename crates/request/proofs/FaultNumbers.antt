@@ -16,7 +16,7 @@ use Rattle.objects.specs.Steps.{nothingOpen, placeOf, valueOf, startHere, runHe
 use Rattle.objects.specs.declared.reading.Reading.{Reading}
 use Rattle.objects.specs.declared.reading.Reading.the-variants.{At, Refused}
 use Rattle.objects.proofs.FaultNumbers.{Numbered, numbered-valued, numbered-need, numbered-fixed, numbered-number, numbered-number-is, numbered-null-id, numbered-id, numbered-skip, numbered-start, numbered-start-of-length, numbered-end, numbered-inside, numbered-finish, numbered-closed}
-use Rattle.store.specs.Knowledge.{Knowing}
+use Rattle.store.specs.Knowledge.{mostSaid, Knowing}
 use Rattle.store.proofs.FaultNumbers.{numbered-knowledge}
 use Rattle.request.specs.Filter.{kindTaken, kindByte, kindField, filterFields, oneNumber, typePart, idStep, idsFrom, idsField, idsPart, kindPart, filterStart, filterKind, filterOpened, filterAt, filtersFrom}
 use Rattle.request.specs.Message.{versions, requestSignature, userAgent, subRequestFields, subRequest, queryChanges, argumentFields, arguments, constraint, knowledgePart, packagePart, identified, constrainedFrom, constrained, filtered, ended, requestKnowing, inRequest, requestAnswer, requestIn}
@@ -123,7 +123,7 @@ numbered-filtered s =
 numbered-knowledge-part : (s t : List ℕ) (c : Reading) → Numbered c → Numbered (knowledgePart s t c .last)
 unfolding knowledgePart
 numbered-knowledge-part s t c g =
-    pick-all (λ (k : Knowing). Numbered (k .last)) (nextIs s 0x10 c) _ _ (λ e. numbered-knowledge 12 0x42 s t c g) (λ e. g)
+    pick-all (λ (k : Knowing). Numbered (k .last)) (nextIs s 0x10 c) _ _ (λ e. numbered-knowledge mostSaid 12 0x42 s t c g) (λ e. g)
 
 numbered-package-part : (s : List ℕ) (c : Reading) → Numbered c → Numbered (packagePart s c)
 unfolding packagePart

@@ -15,7 +15,7 @@ use Rattle.objects.specs.Steps.{placeOf, nothingOpen, startHere, runHere, close
 use Rattle.objects.specs.declared.reading.Reading.{Reading}
 use Rattle.objects.specs.declared.reading.Reading.the-variants.{At, Refused}
 use Rattle.objects.proofs.Keep.{good-front, good-place, good-fixed, good-valued, good-skip, good-start, good-start-of-length, good-closed, good-inside, good-end, good-finish}
-use Rattle.store.specs.Knowledge.{Knowing}
+use Rattle.store.specs.Knowledge.{mostSaid, Knowing}
 use Rattle.store.proofs.KnowledgeHeld.{knowledge-good}
 use Rattle.request.specs.Filter.{filterFields, oneNumber, typePart, idsField, idsPart, kindPart, filterStart, filterKind, filterOpened, filterAt, filtersFrom}
 use Rattle.request.specs.Message.{versions, requestSignature, userAgent, subRequestFields, subRequest, queryChanges, argumentFields, arguments, constraint, knowledgePart, packagePart, identified, constrainedFrom, constrained, filtered, ended, requestKnowing, inRequest, requestAnswer, requestIn}
@@ -81,7 +81,7 @@ good-filtered s = good-filters 16 s (constrained s) (good-constrained s)
 
 good-knowledge-part : (s t : List ℕ) (c : Reading) → Good s c → Good s (knowledgePart s t c .last)
 unfolding knowledgePart
-good-knowledge-part s t c g = pick-all (λ (k : Knowing). Good s (k .last)) (nextIs s 0x10 c) _ _ (λ e. knowledge-good 12 0x42 s t c g) (λ e. g)
+good-knowledge-part s t c g = pick-all (λ (k : Knowing). Good s (k .last)) (nextIs s 0x10 c) _ _ (λ e. knowledge-good mostSaid 12 0x42 s t c g) (λ e. g)
 
 good-package-part : (s : List ℕ) (c : Reading) → Good s c → Good s (packagePart s c)
 unfolding packagePart

@@ -16,7 +16,7 @@ use Rattle.objects.specs.Steps as steps
 use Rattle.objects.specs.declared.reading.Reading.{Reading}
 use Rattle.objects.specs.declared.reading.Reading.the-variants.{At, Refused}
 use Rattle.talk.specs.Ranges.{Normal, AllFit}
-use Rattle.store.specs.Knowledge.{Knowing}
+use Rattle.store.specs.Knowledge.{mostSaid, saidNumbers, Knowing}
 use Rattle.store.proofs.KnowledgeFits.{number-fits, run-bytes, knowledge-fits}
 use Rattle.request.specs.Message.{versions, requestSignature, userAgent, subRequestFields, subRequest, identified, knowledgePart, filtered, requestKnowing, requestIn}
 use Rattle.request.specs.declared.message.Request.the-variants as request
@@ -56,13 +56,13 @@ pub known-fit : (s t : List ℕ) → AllBytes s → AllFit (requestKnowing s t .
 unfolding requestKnowing knowledgePart AllFit
 known-fit s t b =
     pick-all (λ (k : Knowing). AllFit (k .ranges)) (ltb longestInput (length s)) _ _ (λ e. tt)
-    (λ e. pick-all (λ (k : Knowing). AllFit (k .ranges)) (nextIs s 0x10 (filtered s)) _ _ (λ f. knowledge-fits 12 0x42 s t (filtered s) b) (λ f. tt))
+    (λ e. pick-all (λ (k : Knowing). AllFit (k .ranges)) (nextIs s 0x10 (filtered s)) _ _ (λ f. knowledge-fits mostSaid 12 0x42 s t (filtered s) b) (λ f. tt))
 
 -- whatever the table
-pub known-normal : (s t : List ℕ) → Normal (requestKnowing s t .ranges) × (length (requestKnowing s t .ranges) ≤ 512)
+pub known-normal : (s t : List ℕ) → Normal (requestKnowing s t .ranges) × (length (requestKnowing s t .ranges) ≤ mostSaid)
 known-normal s t =
-    let r : List ℕ = replicate 2048 0 in
-    let l : 2048 ≤ length r = let e : length r ≡ 2048 = length-replicate {A = ℕ} 2048 0 in omega arith in
+    let r : List ℕ = replicate saidNumbers 0 in
+    let l : saidNumbers ≤ length r = let e : length r ≡ saidNumbers = length-replicate {A = ℕ} saidNumbers 0 in omega arith in
     let h = request-held s r l in
-    let m : length (requestKnowing s r .ranges) ≤ 512 = let g = h .room in omega arith in
+    let m : length (requestKnowing s r .ranges) ≤ mostSaid = let g = h .room in omega arith in
     rw (request-table-free s t r .1) (h .normal, m)

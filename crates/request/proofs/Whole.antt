@@ -16,7 +16,7 @@ use Rattle.objects.specs.declared.reading.Reading.{Reading}
 use Rattle.objects.specs.declared.reading.Reading.the-variants.{At, Refused}
 use Rattle.talk.specs.Ranges.{Normal}
 use Rattle.ranges.specs.RangeTable.{rangesAt}
-use Rattle.store.specs.Knowledge.{knowledgeAnswer, ReadsKnowledge}
+use Rattle.store.specs.Knowledge.{mostSaid, saidNumbers, knowledgeAnswer, ReadsKnowledge}
 use Rattle.store.specs.declared.knowledge.ReadKnowledge.{ReadKnowledge}
 use Rattle.store.proofs.KnowledgeHeld.{Held, knowledge-held}
 use Rattle.store.proofs.TableFree.{Alike, table-free}
@@ -63,21 +63,21 @@ knowing-alike s t v =
     by-bool (ltb longestInput (length s)) (λ e. rw e (record { ranges = refl; left = refl; last = refl }))
     (λ e.
     rw e
-    (by-bool (nextIs s 0x10 (filtered s)) (λ f. rw f (table-free 12 0x42 s t v (filtered s))) (λ f. rw f (record { ranges = refl; left = refl; last = refl }))))
+    (by-bool (nextIs s 0x10 (filtered s)) (λ f. rw f (table-free mostSaid 12 0x42 s t v (filtered s))) (λ f. rw f (record { ranges = refl; left = refl; last = refl }))))
 
 pub request-table-free : (s t v : List ℕ) → (requestIn s t ≡ requestIn s v) × (requestKnowing s t .ranges ≡ requestKnowing s v .ranges)
 unfolding requestIn
 request-table-free s t v = let a = knowing-alike s t v in (rw (a .ranges, a .last), a .ranges)
 
--- ---- the ranges, in a table that has room for 512
+-- ---- the ranges, in a table that has room for all that may come
 
-pub request-held : (s t : List ℕ) → 2048 ≤ length t → Held t (requestKnowing s t .ranges) (requestKnowing s t .table) (requestKnowing s t .left)
+pub request-held : (s t : List ℕ) → saidNumbers ≤ length t → Held mostSaid t (requestKnowing s t .ranges) (requestKnowing s t .table) (requestKnowing s t .left)
 unfolding requestKnowing knowledgePart Normal rangesAt
 request-held s t h =
     by-bool (ltb longestInput (length s)) (λ e. rw e (record { normal = tt; room = omega arith; rows = refl; long = refl; later = refl }))
     (λ e.
     rw e
-    (by-bool (nextIs s 0x10 (filtered s)) (λ f. rw f (knowledge-held 12 0x42 s t (filtered s) h))
+    (by-bool (nextIs s 0x10 (filtered s)) (λ f. rw f (knowledge-held mostSaid 12 0x42 s t (filtered s) h))
     (λ f. rw f (record { normal = tt; room = omega arith; rows = refl; long = refl; later = refl }))))
 
 -- ---- the filters of the request

@@ -61,7 +61,7 @@ constraint s c =
 
 -- "knowledge": into the working table; twelve levels are left inside a specialized knowledge of another kind
 unfoldable pub knowledgePart : List ℕ → List ℕ → Reading → Knowing
-knowledgePart s t c = pick (nextIs s 0x10 c) (knowledgeAt 12 0x42 s t c) (knowing [] t mostSaid c)
+knowledgePart s t c = pick (nextIs s 0x10 c) (knowledgeAt mostSaid 12 0x42 s t c) (knowing [] t mostSaid c)
 
 -- "package, passed over": fourteen levels are left inside it
 unfoldable pub packagePart : List ℕ → Reading → Reading

@@ -12,6 +12,7 @@ use objects::layout::NOTHING;
 use objects::reading::Reading;
 use store::element::PACKAGE;
 use store::knowledge::KNOWLEDGE;
+use store::knowledge::MOST_SAID;
 use store::knowledge::ReadKnowledge;
 use store::knowledge::SAID_NUMBERS;
 use store::knowledge::read_knowledge;
@@ -174,7 +175,7 @@ fn knowledge_part(s: &[u8], c: Reading, table: &mut [u64; SAID_NUMBERS]) -> Read
     ensures { λ r. ⌜ ReadsKnowledge (knowledgePart (now (s .entry)) (now (table .entry)) c) r (now (table .exit)) ⌝ }
 {
     if c.next_is(s, KNOWLEDGE) {
-        return read_knowledge(s, c, SUB_REQUEST, KNOWLEDGE_LEVELS, table);
+        return read_knowledge(s, c, SUB_REQUEST, KNOWLEDGE_LEVELS, MOST_SAID, table);
     }
     store::knowledge::answer(0, c)
 }

@@ -202,7 +202,7 @@ numbered-turns depth s =
     (λ e. rw (knowledge-more depth s k e) (h (specializedFrom depth s k) (turn-more depth s k e) (numbered-specialized depth s k g)))
     (λ e. rw (knowledge-end depth s k e) (numbered-end s 0x10 (k .last) g)))
 
-pub numbered-knowledge : (depth outer : ℕ) (s t : List ℕ) (c : Reading) → Numbered c → Numbered (knowledgeAt depth outer s t c .last)
+pub numbered-knowledge : (allowed depth outer : ℕ) (s t : List ℕ) (c : Reading) → Numbered c → Numbered (knowledgeAt allowed depth outer s t c .last)
 unfolding knowledgeAt
-numbered-knowledge depth outer s t c g =
-    numbered-turns depth s (knowing [] t 512 (startOfLength s outer 0x10 true true 0 c)) (numbered-start-of-length s outer 0x10 true true 0 c g)
+numbered-knowledge allowed depth outer s t c g =
+    numbered-turns depth s (knowing [] t allowed (startOfLength s outer 0x10 true true 0 c)) (numbered-start-of-length s outer 0x10 true true 0 c g)

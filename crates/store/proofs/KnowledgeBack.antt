@@ -175,7 +175,7 @@ rangesFrom p = p + length (startBytes 0x44 true 16) + length (guidBytes cellGuid
 abbrev behindCell : ℕ → List Range → ℕ
 behindCell p l = rangesFrom p + length (rangesBytes l ++ endBytes 0x14) + length (endBytes 0x44)
 
-module _ (depth : ℕ) (s : List ℕ) (p u : ℕ) (t : List ℕ) (l : List Range) (rest : List ℕ) (n : Normal l) (f : AllFit l) (m : length l ≤ 512)
+module _ (allowed depth : ℕ) (s : List ℕ) (p u : ℕ) (t : List ℕ) (l : List Range) (rest : List ℕ) (n : Normal l) (f : AllFit l) (m : length l ≤ allowed)
     (stands : drop p s ≡ cellThen l rest) where
   abbrev opened : List ℕ
   opened = startBytes 0x44 true 16
@@ -211,15 +211,15 @@ module _ (depth : ℕ) (s : List ℕ) (p u : ℕ) (t : List ℕ) (l : List Range
   abbrev last : ℕ
   last = rangesFrom p + length (rangesBytes l ++ endBytes 0x14)
 
-  items-are : ReadTo l last (itemsFrom 512 s [] t (At (rangesFrom p) 0))
-  items-are = items-read 512 s [] l t (rangesFrom p) 0 (endBytes 0x44 ++ rest) m n f held-stands
+  items-are : ReadTo l last (itemsFrom allowed s [] t (At (rangesFrom p) 0))
+  items-are = items-read allowed s [] l t (rangesFrom p) 0 (endBytes 0x44 ++ rest) m n f held-stands
 
   back-stands : drop last s ≡ endBytes 0x44 ++ rest
   back-stands =
       behind s (rangesFrom p) (rangesBytes l ++ endBytes 0x14) (endBytes 0x44 ++ rest)
       (held-stands ∙ sym (append-assoc (rangesBytes l) (endBytes 0x14) (endBytes 0x44 ++ rest)))
 
-  cell-is : ReadTo l (behindCell p l) (specializedFrom depth s (knowing [] t 512 (At p u)))
+  cell-is : ReadTo l (behindCell p l) (specializedFrom depth s (knowing [] t allowed (At p u)))
   unfolding specializedFrom isCell cellFrom onGuid
   cell-is =
       rw (guid-read, cell-opens)
@@ -252,31 +252,31 @@ ends depth s k l at rest e h =
     rw (knowledge-end depth s k n) (e .0, rw (e .1) (reads-end 0 0x10 (omega arith) .here s at rest h))
 
 -- one cell knowledge, and then the end
-cell-and-end : (depth : ℕ) (s : List ℕ) (p : ℕ) (t : List ℕ) (l : List Range) (rest : List ℕ) → Normal l → AllFit l → length l ≤ 512
-    → drop p s ≡ cellThen l (endBytes 0x10 ++ rest) → ReadTo l (behindCell p l + length (endBytes 0x10)) (knowledgeFrom depth s (knowing [] t 512 (At p 0)))
-cell-and-end depth s p t l rest n f m h =
-    let k = knowing [] t 512 (At p 0) in
+cell-and-end : (allowed depth : ℕ) (s : List ℕ) (p : ℕ) (t : List ℕ) (l : List Range) (rest : List ℕ) → Normal l → AllFit l → length l ≤ allowed
+    → drop p s ≡ cellThen l (endBytes 0x10 ++ rest) → ReadTo l (behindCell p l + length (endBytes 0x10)) (knowledgeFrom depth s (knowing [] t allowed (At p 0)))
+cell-and-end allowed depth s p t l rest n f m h =
+    let k = knowing [] t allowed (At p 0) in
     let rest′ = endBytes 0x10 ++ rest in
     let inner = guidBytes cellGuid ++ (startBytes 0x14 true 0 ++ (rangesBytes l ++ (endBytes 0x14 ++ (endBytes 0x44 ++ rest′)))) in
     rw (knowledge-more depth s k (next-start s p 0 0x44 true 16 inner (omega arith) (omega arith) h))
-    (ends depth s (specializedFrom depth s k) l (behindCell p l) rest (cell-is depth s p 0 t l rest′ n f m h) (rest-stands depth s p 0 t l rest′ n f m h))
+    (ends depth s (specializedFrom depth s k) l (behindCell p l) rest (cell-is allowed depth s p 0 t l rest′ n f m h) (rest-stands allowed depth s p 0 t l rest′ n f m h))
 
 -- a list in normal form that is written reads back as itself: at any place, followed by anything, whatever stands in the table
-pub knowledge-back : (depth outer : ℕ) (l : List Range) (s t : List ℕ) (at u : ℕ) (rest : List ℕ) → Normal l → AllFit l → length l ≤ 512
+pub knowledge-back : (allowed depth outer : ℕ) (l : List Range) (s t : List ℕ) (at u : ℕ) (rest : List ℕ) → Normal l → AllFit l → length l ≤ allowed
     → drop at s ≡ knowledgeBytes l ++ rest
-    → (knowledgeAt depth outer s t (At at u) .ranges ≡ l) × (knowledgeAt depth outer s t (At at u) .last ≡ At (at + length (knowledgeBytes l)) 0)
+    → (knowledgeAt allowed depth outer s t (At at u) .ranges ≡ l) × (knowledgeAt allowed depth outer s t (At at u) .last ≡ At (at + length (knowledgeBytes l)) 0)
 unfolding knowledgeAt knowledgeBytes
-knowledge-back depth outer [] s t at u rest n f m h =
+knowledge-back allowed depth outer [] s t at u rest n f m h =
     let start = startBytes 0x10 true 0 in
     let end = endBytes 0x10 in
     let stands : drop at s ≡ start ++ (end ++ rest) = h ∙ append-assoc start end rest in
     let opens = reads-start-of-length u outer 0x10 true 0 (omega arith) (omega arith) .here s at (end ++ rest) stands in
     let place : at + length start + length end ≡ at + length (start ++ end) = let a = length-append start end in omega arith in
-    rw (opens, ← place) (ends depth s (knowing [] t 512 (At (at + length start) 0)) [] (at + length start) rest (refl, refl) (behind s at start (end ++ rest) stands))
-knowledge-back depth outer (x ∷ xs) s t at u rest n f m h =
+    rw (opens, ← place) (ends depth s (knowing [] t allowed (At (at + length start) 0)) [] (at + length start) rest (refl, refl) (behind s at start (end ++ rest) stands))
+knowledge-back allowed depth outer (x ∷ xs) s t at u rest n f m h =
     let l = x ∷ xs in
     let start = startBytes 0x10 true 0 in
     let inner = cellThen l (endBytes 0x10 ++ rest) in
     let stands : drop at s ≡ start ++ inner = h ∙ parts-apart l rest in
     let opens = reads-start-of-length u outer 0x10 true 0 (omega arith) (omega arith) .here s at inner stands in
-    rw (opens, ← place-behind l at) (cell-and-end depth s (at + length start) t l rest n f m (behind s at start inner stands))
+    rw (opens, ← place-behind l at) (cell-and-end allowed depth s (at + length start) t l rest n f m (behind s at start inner stands))

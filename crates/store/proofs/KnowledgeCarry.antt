@@ -407,28 +407,28 @@ module _ (depth left : ℕ) (l : List Range) (t : List ℕ) where
             ap rest (k .there w p′ (rw z at a));
       }
 
-module _ (depth outer : ℕ) (t : List ℕ) where
-  pub carries-knowledge : Carries (λ s c. knowledgeAt depth outer s t c .last)
+module _ (allowed depth outer : ℕ) (t : List ℕ) where
+  pub carries-knowledge : Carries (λ s c. knowledgeAt allowed depth outer s t c .last)
   unfolding knowledgeAt
-  carries-knowledge = carries-then (carries-start-of-length outer 0x10 true true 0) (carries-turns depth 512 [] t)
+  carries-knowledge = carries-then (carries-start-of-length outer 0x10 true true 0) (carries-turns depth allowed [] t)
 
-  gives-knowledge-rest : Gives (λ s c. knowledgeAt depth outer s t c .last) (λ s c. rest (knowledgeAt depth outer s t c))
+  gives-knowledge-rest : Gives (λ s c. knowledgeAt allowed depth outer s t c .last) (λ s c. rest (knowledgeAt allowed depth outer s t c))
   unfolding knowledgeAt
-  gives-knowledge-rest = gives-next (carries-start-of-length outer 0x10 true true 0) (carries-turns depth 512 [] t) (gives-turns depth 512 [] t)
+  gives-knowledge-rest = gives-next (carries-start-of-length outer 0x10 true true 0) (carries-turns depth allowed [] t) (gives-turns depth allowed [] t)
 
-  pub gives-knowledge : Gives (λ s c. knowledgeAt depth outer s t c .last) (λ s c. knowledgeAt depth outer s t c .ranges)
+  pub gives-knowledge : Gives (λ s c. knowledgeAt allowed depth outer s t c .last) (λ s c. knowledgeAt allowed depth outer s t c .ranges)
   gives-knowledge = gives-by (λ (k : Knowing). k .ranges) gives-knowledge-rest
 
 -- set down anywhere and followed by anything, over any table
-pub knowledge-carry : (depth outer : ℕ) (s t t′ : List ℕ) (p u q v : ℕ) → knowledgeAt depth outer s t (At p u) .last ≡ At q v → (w : List ℕ) (p′ : ℕ)
+pub knowledge-carry : (allowed depth outer : ℕ) (s t t′ : List ℕ) (p u q v : ℕ) → knowledgeAt allowed depth outer s t (At p u) .last ≡ At q v → (w : List ℕ) (p′ : ℕ)
     → take (q - p) (drop p′ w) ≡ take (q - p) (drop p s) → p′ + (q - p) ≤ length w
-    → (knowledgeAt depth outer w t′ (At p′ u) .last ≡ At (p′ + (q - p)) v)
-    × (knowledgeAt depth outer w t′ (At p′ u) .ranges ≡ knowledgeAt depth outer s t (At p u) .ranges)
-knowledge-carry depth outer s t t′ p u q v e w p′ h l =
-    let f = carries-knowledge depth outer t in
+    → (knowledgeAt allowed depth outer w t′ (At p′ u) .last ≡ At (p′ + (q - p)) v)
+    × (knowledgeAt allowed depth outer w t′ (At p′ u) .ranges ≡ knowledgeAt allowed depth outer s t (At p u) .ranges)
+knowledge-carry allowed depth outer s t t′ p u q v e w p′ h l =
+    let f = carries-knowledge allowed depth outer t in
     let y = carries-forward f s p u q v e in
     let z : q ≡ p + (q - p) = omega arith in
-    let d : knowledgeAt depth outer s t (At p u) .last ≡ At (p + (q - p)) v = e ∙ ap (λ (n : ℕ). At n v) z in
+    let d : knowledgeAt allowed depth outer s t (At p u) .last ≡ At (p + (q - p)) v = e ∙ ap (λ (n : ℕ). At n v) z in
     let a = same-of s p w p′ (q - p) h l in
-    let k = table-free depth outer w t′ t (At p′ u) in
-    (k .last ∙ carries-to f s p u (q - p) v d w p′ a, k .ranges ∙ gives-knowledge depth outer t .alike s p u (q - p) v d w p′ a)
+    let k = table-free allowed depth outer w t′ t (At p′ u) in
+    (k .last ∙ carries-to f s p u (q - p) v d w p′ a, k .ranges ∙ gives-knowledge allowed depth outer t .alike s p u (q - p) v d w p′ a)

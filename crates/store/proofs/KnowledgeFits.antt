@@ -97,6 +97,6 @@ united-fits (item.Refused r) l f g = g
 
 -- ---- the whole
 
-pub knowledge-fits : (depth outer : ℕ) (s t : List ℕ) (c : Reading) → AllBytes s → AllFit (knowledgeAt depth outer s t c .ranges)
+pub knowledge-fits : (allowed depth outer : ℕ) (s t : List ℕ) (c : Reading) → AllBytes s → AllFit (knowledgeAt allowed depth outer s t c .ranges)
 unfolding AllFit
-knowledge-fits depth outer s t c b = kept (λ l v left. AllFit l) s (λ d l v left g. united-fits (itemAt s d) l (item-fits s d b) g) depth outer t c tt
+knowledge-fits allowed depth outer s t c b = kept (λ l v left. AllFit l) s (λ d l v left g. united-fits (itemAt s d) l (item-fits s d b) g) allowed depth outer t c tt

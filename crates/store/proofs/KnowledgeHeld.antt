@@ -1,5 +1,5 @@
--- What a knowledge that was read is: ranges in normal form, at most 512, which are the rows of the table; what stood in the
--- table behind 512 rows stands there still; and the place, or a fault's, lies within the input.
+-- What a knowledge that was read is: ranges in normal form, at most as many as may come, which are the rows of the table; what stood
+-- in the table behind so many rows stands there still; and the place, or a fault's, lies within the input.
 -- Assumes nothing.
 use mathlib.Core.Path.{_≡_, refl, sym, ap, _∙_}
 use mathlib.Core.Bool.{Bool, true, false}
@@ -19,7 +19,7 @@ use Rattle.objects.proofs.Forward.{behind-start-of-length, Past, past-behind, p
 use Rattle.talk.specs.Ranges.{within, holds, Normal}
 use Rattle.talk.specs.declared.range.Range.{Range}
 use Rattle.talk.proofs.Membership.{holds-insert}
-use Rattle.ranges.specs.RangeTable.{rangesAt, numbersOf, laidRanges}
+use Rattle.ranges.specs.RangeTable.{rangeWidth, rangesAt, numbersOf, laidRanges}
 use Rattle.store.specs.Knowledge.{itemNext, itemAt, onItem, united, Knowing, knowing, itemsFrom, isCell, specializedGuid, cellFrom, specializedFrom, knowledgeTurn, toGo, unreached, knowledgeFrom, knowledgeAt, knowledgeAnswer}
 use Rattle.store.specs.declared.item.Item.{Item}
 use Rattle.store.specs.declared.item.Item.the-variants as item
@@ -56,18 +56,18 @@ module _ (P : List Range → List ℕ → ℕ → Type 0) (s : List ℕ)
       (λ e. rw (knowledge-more depth s k e) (h (specializedFrom depth s k) (turn-more depth s k e) (specialized-keep depth k p)))
       (λ e. rw (knowledge-end depth s k e) p))
 
-  pub kept : (depth outer : ℕ) (t : List ℕ) (c : Reading) → P [] t 512 → On (knowledgeAt depth outer s t c)
+  pub kept : (allowed depth outer : ℕ) (t : List ℕ) (c : Reading) → P [] t allowed → On (knowledgeAt allowed depth outer s t c)
   unfolding knowledgeAt
-  kept depth outer t c p = knowledge-keep depth (knowing [] t 512 (startOfLength s outer 0x10 true true 0 c)) p
+  kept allowed depth outer t c p = knowledge-keep depth (knowing [] t allowed (startOfLength s outer 0x10 true true 0 c)) p
 
 -- ---- the ranges, and the table
 
-pub record Held (t₀ : List ℕ) (l : List Range) (t : List ℕ) (left : ℕ) : Type 0 where
+pub record Held (allowed : ℕ) (t₀ : List ℕ) (l : List Range) (t : List ℕ) (left : ℕ) : Type 0 where
   pub normal : Normal l
-  pub room : length l + left ≤ 512
+  pub room : length l + left ≤ allowed
   pub rows : rangesAt t 0 (length l) ≡ l
   pub long : length t ≡ length t₀
-  pub later : drop 2048 t ≡ drop 2048 t₀
+  pub later : drop (allowed * rangeWidth) t ≡ drop (allowed * rangeWidth) t₀
 
 later-laid : (l : List Range) (t : List ℕ) (n : ℕ) → length l * 4 ≤ n → drop n (laidRanges l t) ≡ drop n t
 later-laid l t n h =
@@ -76,14 +76,14 @@ later-laid l t n h =
     let a : drop m (laidRanges l t) ≡ drop m t = drop-at (numbersOf l) (drop m t) m (length-numbers l) in
     rw e (sym (drop-drop (n - m) m (laidRanges l t)) ∙ ap (drop (n - m)) a ∙ drop-drop (n - m) m t)
 
-pub knowledge-held : (depth outer : ℕ) (s t : List ℕ) (c : Reading) → 2048 ≤ length t
-    → Held t (knowledgeAt depth outer s t c .ranges) (knowledgeAt depth outer s t c .table) (knowledgeAt depth outer s t c .left)
+pub knowledge-held : (allowed depth outer : ℕ) (s t : List ℕ) (c : Reading) → allowed * rangeWidth ≤ length t
+    → Held allowed t (knowledgeAt allowed depth outer s t c .ranges) (knowledgeAt allowed depth outer s t c .table) (knowledgeAt allowed depth outer s t c .left)
 unfolding Normal rangesAt
-knowledge-held depth outer s t c h =
-    kept (Held t) s (λ d l v left p. more-held d l v left p) depth outer t c (record { normal = tt; room = omega arith; rows = refl; long = refl; later = refl })
+knowledge-held allowed depth outer s t c h =
+    kept (Held allowed t) s (λ d l v left p. more-held d l v left p) allowed depth outer t c (record { normal = tt; room = omega arith; rows = refl; long = refl; later = refl })
   where
-    more-held : (d : Reading) (l : List Range) (v : List ℕ) (left : ℕ) → Held t l v (suc left)
-        → Held t (united (itemAt s d) l) (laidRanges (united (itemAt s d) l) v) left
+    more-held : (d : Reading) (l : List Range) (v : List ℕ) (left : ℕ) → Held allowed t l v (suc left)
+        → Held allowed t (united (itemAt s d) l) (laidRanges (united (itemAt s d) l) v) left
     more-held d l v left p =
         let u = united (itemAt s d) l in
         let m = length-united (itemAt s d) l (length l) (omega arith) in
@@ -94,7 +94,7 @@ knowledge-held depth outer s t c h =
           room = omega arith;
           rows = laid-rows u (drop (length u * 4) v);
           long = length-laid u v (omega arith) ∙ p .long;
-          later = later-laid u v 2048 (omega arith) ∙ p .later;
+          later = later-laid u v (allowed * rangeWidth) (omega arith) ∙ p .later;
         }
 
 -- "Several cell knowledges are united. As a set it holds pairs of GUID and number": after an item a pair is held if it lies in
@@ -120,10 +120,10 @@ good-from depth s =
     (λ e. rw (knowledge-more depth s k e) (h (specializedFrom depth s k) (turn-more depth s k e) (good-specialized depth s k g)))
     (λ e. rw (knowledge-end depth s k e) (good-end s 0x10 (k .last) g)))
 
-pub knowledge-good : (depth outer : ℕ) (s t : List ℕ) (c : Reading) → Good s c → Good s (knowledgeAt depth outer s t c .last)
+pub knowledge-good : (allowed depth outer : ℕ) (s t : List ℕ) (c : Reading) → Good s c → Good s (knowledgeAt allowed depth outer s t c .last)
 unfolding knowledgeAt
-knowledge-good depth outer s t c g =
-    good-from depth s (knowing [] t 512 (startOfLength s outer 0x10 true true 0 c)) (good-start-of-length s outer 0x10 true true 0 c g)
+knowledge-good allowed depth outer s t c g =
+    good-from depth s (knowing [] t allowed (startOfLength s outer 0x10 true true 0 c)) (good-start-of-length s outer 0x10 true true 0 c g)
 
 -- it goes forward, by a byte at least
 past-from : (depth p : ℕ) (s : List ℕ) (k : Knowing) → Behind p (k .last) → Past s p (knowledgeFrom depth s k .last)
@@ -134,10 +134,10 @@ past-from depth p s =
     (λ e. rw (knowledge-more depth s k e) (h (specializedFrom depth s k) (turn-more depth s k e) (past-behind s p (specializedFrom depth s k .last) (past-specialized depth s k p b))))
     (λ e. rw (knowledge-end depth s k e) (past-end s 0x10 p (k .last) b)))
 
-pub knowledge-past : (depth outer p : ℕ) (s t : List ℕ) (c : Reading) → Behind p c → Past s p (knowledgeAt depth outer s t c .last)
+pub knowledge-past : (allowed depth outer p : ℕ) (s t : List ℕ) (c : Reading) → Behind p c → Past s p (knowledgeAt allowed depth outer s t c .last)
 unfolding knowledgeAt
-knowledge-past depth outer p s t c b =
-    past-from depth p s (knowing [] t 512 (startOfLength s outer 0x10 true true 0 c)) (behind-start-of-length s outer 0x10 true true 0 p c b)
+knowledge-past allowed depth outer p s t c b =
+    past-from depth p s (knowing [] t allowed (startOfLength s outer 0x10 true true 0 c)) (behind-start-of-length s outer 0x10 true true 0 p c b)
 
 -- ---- as a caller has it: the rows that the answer counts are in normal form
 

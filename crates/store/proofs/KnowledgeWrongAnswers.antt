@@ -76,11 +76,11 @@ always-longest h = omega arith
 
 -- ---- read_knowledge, on `84 00 41`, which holds nothing, and on a table of one number
 
-one-row-held : ReadsKnowledge (knowledgeAt 12 0x42 (0x84 ∷ 0x00 ∷ 0x41 ∷ []) (7 ∷ []) (At 0 0)) (Holds 3 1) (7 ∷ []) → ⊥
+one-row-held : ReadsKnowledge (knowledgeAt 0 12 0x42 (0x84 ∷ 0x00 ∷ 0x41 ∷ []) (7 ∷ []) (At 0 0)) (Holds 3 1) (7 ∷ []) → ⊥
 unfolding knowledgeAt knowledgeFrom knowledgeTurn toGo knowledgeAnswer iterate turns startOfLength lengthIs placeOf startHere nextIs endHere headerAt headerOf sized startOf endOf lengthAt le
 one-row-held h = impossible (cc)
 
-table-cleared : ReadsKnowledge (knowledgeAt 12 0x42 (0x84 ∷ 0x00 ∷ 0x41 ∷ []) (7 ∷ []) (At 0 0)) (Holds 3 0) (0 ∷ []) → ⊥
+table-cleared : ReadsKnowledge (knowledgeAt 0 12 0x42 (0x84 ∷ 0x00 ∷ 0x41 ∷ []) (7 ∷ []) (At 0 0)) (Holds 3 0) (0 ∷ []) → ⊥
 unfolding knowledgeAt knowledgeFrom knowledgeTurn toGo knowledgeAnswer iterate turns startOfLength lengthIs placeOf startHere nextIs endHere headerAt headerOf sized startOf endOf lengthAt le
 table-cleared h = impossible (cc)
 

@@ -3,12 +3,13 @@
 use mathlib.Core.Path.{_≡_, refl, sym, _∙_}
 use mathlib.Core.Bool.{true, false}
 use mathlib.Core.List.{List, []}
-use Prim.Native.Nat.{ℕ, _+_, _≤_}
+use Prim.Native.Nat.{ℕ, _+_, _*_, _≤_}
+use lib.ListN.{length}
 use native.Mathlib.Omega.{arith}
 use Rattle.objects.specs.Steps.{endHere, nextIs}
 use Rattle.objects.specs.declared.reading.Reading.{Reading}
 use Rattle.talk.specs.Ranges.{Normal}
-use Rattle.ranges.specs.RangeTable.{rangesAt}
+use Rattle.ranges.specs.RangeTable.{rangeWidth, rangesAt}
 use Rattle.store.specs.Knowledge.{Knowing, knowing, standing, specializedFrom, knowledgeFrom, knowledgeAnswer, KnownIs, ReadsKnowledge}
 use Rattle.store.specs.declared.knowledge.Known.{Known}
 use Rattle.store.specs.declared.knowledge.ReadKnowledge.{ReadKnowledge}
@@ -18,7 +19,7 @@ use Rattle.store.proofs.KnowledgeForward.{knowledge-more, knowledge-end
 -- ---- what is known, as the code has it
 
 -- the rows of a table
-pub known-start : (t : List ℕ) (n left : ℕ) (c : Reading) → n + left ≤ 512 → Normal (rangesAt t 0 n) → (r : Known) → r .rows ≡ n → r .left ≡ left → r .last ≡ c
+pub known-start : (t : List ℕ) (n left : ℕ) (c : Reading) → (n + left) * rangeWidth ≤ length t → Normal (rangesAt t 0 n) → (r : Known) → r .rows ≡ n → r .left ≡ left → r .last ≡ c
     → KnownIs (knowing (rangesAt t 0 n) t left c) r t
 known-start t n left c m o r f g h =
     record { rows = f ∙ sym (length-rows t 0 n); left = g; last = h; table = refl; held = rw f; room = rw (f, g) m; normal = o }
@@ -32,13 +33,14 @@ known-standing k r q t c i f g h =
 -- ---- what holds whenever the loop's test is reached: the knowledge from the start is the knowledge from here
 
 pub record Learning (depth : ℕ) (s : List ℕ) (told : Knowing) (t : List ℕ) (c : Reading) (n left : ℕ) : Type 0 where
-  pub room : n + left ≤ 512
+  pub room : (n + left) * rangeWidth ≤ length t
   pub normal : Normal (rangesAt t 0 n)
   pub rest : told ≡ knowledgeFrom depth s (knowing (rangesAt t 0 n) t left c)
 
-pub learning-start : (depth : ℕ) (s t : List ℕ) (c : Reading) → Learning depth s (knowledgeFrom depth s (knowing [] t 512 c)) t c 0 512
+pub learning-start : (allowed depth : ℕ) (s t : List ℕ) (c : Reading) → allowed * rangeWidth ≤ length t
+    → Learning depth s (knowledgeFrom depth s (knowing [] t allowed c)) t c 0 allowed
 unfolding rangesAt Normal
-learning-start depth s t c = record { room = omega arith; normal = tt; rest = refl }
+learning-start allowed depth s t c h = record { room = omega arith; normal = tt; rest = refl }
 
 module _ {depth : ℕ} {s : List ℕ} {told : Knowing} {t : List ℕ} {c : Reading} {n left : ℕ} (u : Learning depth s told t c n left) where
   pub learning-more : nextIs s 0x44 c ≡ true → (r : Known) (v : List ℕ) → KnownIs (specializedFrom depth s (knowing (rangesAt t 0 n) t left c)) r v

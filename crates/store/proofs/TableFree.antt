@@ -59,8 +59,8 @@ from-alike depth s =
     let f : nextIs s 0x44 (m .last) ≡ false = rw (← a .last) e in
     rw (knowledge-end depth s k e, knowledge-end depth s m f) (record { ranges = a .ranges; left = a .left; last = ap (endHere s 0x10) (a .last) })))
 
-pub table-free : (depth outer : ℕ) (s t v : List ℕ) (c : Reading) → Alike (knowledgeAt depth outer s t c) (knowledgeAt depth outer s v c)
+pub table-free : (allowed depth outer : ℕ) (s t v : List ℕ) (c : Reading) → Alike (knowledgeAt allowed depth outer s t c) (knowledgeAt allowed depth outer s v c)
 unfolding knowledgeAt
-table-free depth outer s t v c =
+table-free allowed depth outer s t v c =
     let o = startOfLength s outer 0x10 true true 0 c in
-    from-alike depth s (knowing [] t 512 o) (knowing [] v 512 o) (record { ranges = refl; left = refl; last = refl })
+    from-alike depth s (knowing [] t allowed o) (knowing [] v allowed o) (record { ranges = refl; left = refl; last = refl })

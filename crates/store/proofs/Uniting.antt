@@ -12,11 +12,11 @@ use Rattle.objects.specs.declared.reading.Reading.{Reading}
 use Rattle.talk.specs.Ranges.{insert, Normal}
 use Rattle.talk.specs.declared.range.Range.{Range}
 use Rattle.talk.proofs.Insertion.{length-insert}
-use Rattle.ranges.specs.RangeTable.{rangesAt, laidRanges, addedTo, laidIn}
+use Rattle.ranges.specs.RangeTable.{rangeWidth, rangesAt, laidRanges, addedTo, laidIn}
 use Rattle.store.specs.Knowledge.{itemNext, itemKind, itemAt, onItem, united, Knowing, knowing, itemsFrom, KnownIs}
 use Rattle.store.specs.declared.knowledge.Known.{Known}
 use Rattle.ranges.specs.declared.Added.the-variants.{Rows}
-use Rattle.ranges.proofs.RangeRows.{length-rows, laid-rows, laid-same}
+use Rattle.ranges.proofs.RangeRows.{length-rows, laid-rows, laid-same, length-laid}
 use Rattle.store.proofs.Items.{sound-item, united-normal, length-united}
 
 -- ---- one item's range
@@ -54,7 +54,7 @@ items-more left s l t c e = rw e
 -- ---- what holds whenever the loop's test is reached: the items from the start are the items from here
 
 pub record Uniting (s : List ℕ) (told : Knowing) (t : List ℕ) (c : Reading) (n left : ℕ) : Type 0 where
-  pub room : n + left ≤ 512
+  pub room : (n + left) * rangeWidth ≤ length t
   pub normal : Normal (rangesAt t 0 n)
   pub rest : told ≡ itemsFrom left s (rangesAt t 0 n) t c
 
@@ -83,14 +83,23 @@ module _ {s : List ℕ} {told : Knowing} {t : List ℕ} {c : Reading} {n left : 
       known-here (knowing (rangesAt t 0 n) t 0 (startHere s 0x14 (itemKind s c) false false c)) r
       (u .rest ∙ rw z (items-over s (rangesAt t 0 n) t c e)) refl refl (sym z) f g h
 
+  -- with one more, the table is as long as it was
+  pub uniting-long : (left ≡ 0 → ⊥) → length (laidRanges (united (itemAt s c) (rangesAt t 0 n)) t) ≡ length t
+  uniting-long d =
+      let m = length-united (itemAt s c) (rangesAt t 0 n) n (let q = length-rows t 0 n in omega arith) in
+      let q = u .room in
+      length-laid (united (itemAt s c) (rangesAt t 0 n)) t (omega arith)
+
   pub uniting-more : itemNext s c ≡ true → (left ≡ 0 → ⊥)
       → Uniting s told (laidRanges (united (itemAt s c) (rangesAt t 0 n)) t) (onItem (itemAt s c)) (length (united (itemAt s c) (rangesAt t 0 n))) (left - 1)
   uniting-more e d =
       let l = united (itemAt s c) (rangesAt t 0 n) in
       let z : left ≡ suc (left - 1) = omega arith in
       let h : rangesAt (laidRanges l t) 0 (length l) ≡ l = laid-rows l (drop (length l * 4) t) in
+      let m = length-united (itemAt s c) (rangesAt t 0 n) n (let q = length-rows t 0 n in omega arith) in
+      let q = u .room in
       record {
-        room = (let m = length-united (itemAt s c) (rangesAt t 0 n) n (let q = length-rows t 0 n in omega arith) in let q = u .room in omega arith);
+        room = rw (uniting-long d) (omega arith);
         normal = rw h (united-normal (itemAt s c) (rangesAt t 0 n) (sound-item s c) (u .normal));
         rest = rw h (u .rest ∙ ap (λ (m : ℕ). itemsFrom m s (rangesAt t 0 n) t c) z ∙ items-more (left - 1) s (rangesAt t 0 n) t c e);
       }

@@ -190,9 +190,9 @@ unreached = knowing [] [] 0 (Refused (faultAt 0 0))
 unfoldable pub knowledgeFrom : ℕ → List ℕ → Knowing → Knowing
 knowledgeFrom depth s k = iterate (λ m. knowledgeTurn depth s m) (λ m. toGo s (m .last)) unreached k
 
--- at most `mostSaid` ranges and entries; the knowledge has no fields, and stands inside an open object of type `outer`
-unfoldable pub knowledgeAt : ℕ → ℕ → List ℕ → List ℕ → Reading → Knowing
-knowledgeAt depth outer s t c = knowledgeFrom depth s (knowing [] t mostSaid (startOfLength s outer 0x10 true true 0 c))
+-- with so many ranges and entries allowed in all; the knowledge has no fields, and stands inside an open object of type `outer`
+unfoldable pub knowledgeAt : ℕ → ℕ → ℕ → List ℕ → List ℕ → Reading → Knowing
+knowledgeAt allowed depth outer s t c = knowledgeFrom depth s (knowing [] t allowed (startOfLength s outer 0x10 true true 0 c))
 
 -- ---- what reading answers, and what the working table then holds
 
@@ -207,7 +207,7 @@ pub record KnownIs (k : Knowing) (r : Known) (t : List ℕ) : Type 0 where
   pub last : r .last ≡ k .last
   pub table : t ≡ k .table
   pub held : rangesAt t 0 (r .rows) ≡ k .ranges
-  pub room : r .rows + r .left ≤ mostSaid
+  pub room : (r .rows + r .left) * rangeWidth ≤ length t
   pub normal : Normal (k .ranges)
 
 -- what reading promises: the answer, and the table at exit, whose first rows are the ranges, in normal form

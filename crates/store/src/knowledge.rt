@@ -4,7 +4,7 @@ ghost use Prim.Native.Nat.{_+_, _*_, _≤_};
 ghost use lib.ListN.{length};
 ghost use Rattle.talk.specs.Ranges.{Normal};
 ghost use Rattle.ranges.specs.RangeTable.{rangeWidth, rangesAt, laidRanges};
-ghost use Rattle.store.specs.Knowledge.{united, mostSaid, knowing, itemsFrom, isCell, cellFrom, specializedFrom, knowledgeAt, knowledgeAnswer, KnownIs, ReadsKnowledge};
+ghost use Rattle.store.specs.Knowledge.{united, knowing, itemsFrom, isCell, cellFrom, specializedFrom, knowledgeAt, knowledgeAnswer, KnownIs, ReadsKnowledge};
 use crate::item::CELL;
 use crate::item::Item;
 use crate::item::item_kind;
@@ -63,14 +63,8 @@ fn unite(table: &mut [u64], rows: usize, item: Item) -> usize
 }
 
 // The ranges and entries of a cell knowledge, and its end.
-fn read_items(
-    s: &[u8],
-    c: Reading,
-    table: &mut [u64; SAID_NUMBERS],
-    rows: usize,
-    allowed: usize,
-) -> Known
-    requires { ⌜ (rows + allowed ≤ mostSaid) × Normal (rangesAt (now table) 0 rows) ⌝ }
+fn read_items(s: &[u8], c: Reading, table: &mut [u64], rows: usize, allowed: usize) -> Known
+    requires { ⌜ ((rows + allowed) * rangeWidth ≤ length (now table)) × Normal (rangesAt (now table) 0 rows) ⌝ }
     ensures { λ r. ⌜ KnownIs (itemsFrom allowed (now (s .entry)) (rangesAt (now (table .entry)) 0 rows) (now (table .entry)) c) r (now (table .exit)) ⌝ }
 {
     let mut at = c;
@@ -113,14 +107,8 @@ fn is_cell(c: ReadingGuid) -> bool
 }
 
 // A cell knowledge, from behind its GUID.
-fn read_cell(
-    s: &[u8],
-    c: Reading,
-    table: &mut [u64; SAID_NUMBERS],
-    rows: usize,
-    left: usize,
-) -> Known
-    requires { ⌜ (rows + left ≤ mostSaid) × Normal (rangesAt (now table) 0 rows) ⌝ }
+fn read_cell(s: &[u8], c: Reading, table: &mut [u64], rows: usize, left: usize) -> Known
+    requires { ⌜ ((rows + left) * rangeWidth ≤ length (now table)) × Normal (rangesAt (now table) 0 rows) ⌝ }
     ensures { λ r. ⌜ KnownIs (cellFrom (now (s .entry)) (knowing (rangesAt (now (table .entry)) 0 rows) (now (table .entry)) left c) c) r (now (table .exit)) ⌝ }
 {
     let o = c.start_of_length(s, SPECIALIZED, CELL, true, true, 0);
@@ -138,11 +126,11 @@ fn read_specialized(
     s: &[u8],
     c: Reading,
     depth: usize,
-    table: &mut [u64; SAID_NUMBERS],
+    table: &mut [u64],
     rows: usize,
     left: usize,
 ) -> Known
-    requires { ⌜ (rows + left ≤ mostSaid) × Normal (rangesAt (now table) 0 rows) ⌝ }
+    requires { ⌜ ((rows + left) * rangeWidth ≤ length (now table)) × Normal (rangesAt (now table) 0 rows) ⌝ }
     ensures { λ r. ⌜ KnownIs (specializedFrom depth (now (s .entry)) (knowing (rangesAt (now (table .entry)) 0 rows) (now (table .entry)) left c)) r (now (table .exit)) ⌝ }
 {
     let o = c.start_of_length(s, KNOWLEDGE, SPECIALIZED, true, true, 16);
@@ -169,20 +157,23 @@ pub fn answer(rows: usize, c: Reading) -> ReadKnowledge
 }
 
 // The knowledge that begins here, inside an open object of type `outer`, with so many levels inside a specialized knowledge
-// of another kind: 12 in a request, where four objects are open there. The table then holds its ranges in normal form; on a refusal,
-// those before the fault. Ruled out (proofs/KnowledgeWrongAnswers), of `84 00 41`: one row; a number of the table put to 0.
+// of another kind: 12 in a request, where four objects are open there. At most `allowed` ranges and entries may come, and the table
+// has room for them. It then holds the ranges in normal form; on a refusal, those before the fault. Ruled out
+// (proofs/KnowledgeWrongAnswers), of `84 00 41`: one row; a number of the table put to 0.
 pub fn read_knowledge(
     s: &[u8],
     c: Reading,
     outer: u64,
     depth: usize,
-    table: &mut [u64; SAID_NUMBERS],
+    allowed: usize,
+    table: &mut [u64],
 ) -> ReadKnowledge
-    ensures { λ r. ⌜ ReadsKnowledge (knowledgeAt depth outer (now (s .entry)) (now (table .entry)) c) r (now (table .exit)) ⌝ }
+    requires { ⌜ allowed * rangeWidth ≤ length (now table) ⌝ }
+    ensures { λ r. ⌜ ReadsKnowledge (knowledgeAt allowed depth outer (now (s .entry)) (now (table .entry)) c) r (now (table .exit)) ⌝ }
 {
     let mut at = c.start_of_length(s, outer, KNOWLEDGE, true, true, 0);
     let mut n = 0;
-    let mut left = MOST_SAID;
+    let mut left = allowed;
     while at.next_is(s, SPECIALIZED) {
         let k = read_specialized(s, at, depth, table, n, left);
         n = k.rows;

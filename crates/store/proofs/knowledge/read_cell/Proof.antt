@@ -16,13 +16,16 @@ read-items-requires c κs = search needs
 end-requires : tie.Need-end-requires
 end-requires c κs = search needs
 
+same-length : tie.Need-same-length
+same-length c = search needs
+
 returns : tie.Need-returns
 unfolding cellFrom
 returns c =
-    let k = c .before in
+    let k = c .before .before .before in
     let m = rw (k .before .before .start-of-length .ensures) at (k .read-items .ensures) in
     known-standing _ (k .read-items .result) _ _ _ m refl refl (c .end .ensures ∙ rw (m .last))
 
 pub read-cell-spec : {M : Type 1} → statement M
 read-cell-spec =
-    tie.close (tie.spec start-of-length-requires read-items-requires end-requires returns)
+    tie.close (tie.spec start-of-length-requires read-items-requires end-requires same-length returns)

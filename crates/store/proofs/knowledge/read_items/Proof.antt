@@ -1,23 +1,24 @@
 -- `knowledge::read_items` meets its contract.
 -- Assumes nothing.
-use mathlib.Core.Path.{refl, sym, _∙_}
+use mathlib.Core.Path.{_≡_, refl, sym, _∙_}
 use native.Mathlib.Omega.{arith}
+use lib.ListN.{length}
 use borrow.Author.Needs.{needs}
 use Rattle.ranges.specs.RangeTable.{rangesAt}
 use Rattle.store.specs.Knowledge.{itemsFrom}
-use Rattle.store.proofs.Uniting.{Uniting, uniting-end, uniting-over, uniting-more}
+use Rattle.store.proofs.Uniting.{Uniting, uniting-end, uniting-over, uniting-long, uniting-more}
 use Rattle.store.proofs.knowledge.read_items.Statement.{statement}
 use Rattle.store.proofs.knowledge.read_items.Tie as tie
 
 abbrev Inv-loop : tie.InvT-loop
 Inv-loop s table₀ rows allowed at₀ n₀ left₀ table at n left =
-    Uniting s (itemsFrom allowed s (rangesAt table₀ 0 rows) table₀ at₀) table at n left
+    (length table ≡ length table₀) × Uniting s (itemsFrom allowed s (rangesAt table₀ 0 rows) table₀ at₀) table at n left
 
 abbrev μ-loop : tie.MeasureT-loop
 μ-loop s table₀ rows allowed at₀ n₀ left₀ table at n left = left
 
 loop-holds : tie.Need-loop-holds Inv-loop μ-loop
-loop-holds c = let a = c .before in record { room = a .pre .0; normal = a .pre .1; rest = refl }
+loop-holds c = let a = c .before .before in (refl, record { room = a .pre .0; normal = a .pre .1; rest = refl })
 
 item-next-requires : tie.Need-item-next-requires Inv-loop μ-loop
 item-next-requires c κs = search needs
@@ -28,11 +29,14 @@ item-kind-requires c κs = search needs
 start-requires : tie.Need-start-requires Inv-loop μ-loop
 start-requires c κs = search needs
 
+same-length : tie.Need-same-length Inv-loop μ-loop
+same-length c = c .before .before .before .before .before .loop .inv .0
+
 returns : tie.Need-returns Inv-loop μ-loop
 returns c =
     let l = c .before .before .before .before .before in
     let e = sym (c .before .before .before .before .item-next .ensures) ∙ c .before .before .before .if1 .taken in
-    uniting-over (l .loop .inv) e (c .before .before .if2 .taken) _ refl refl (c .start .ensures ∙ rw (c .before .item-kind .ensures))
+    uniting-over (l .loop .inv .1) e (c .before .before .if2 .taken) _ refl refl (c .start .ensures ∙ rw (c .before .item-kind .ensures))
 
 read-item-requires : tie.Need-read-item-requires Inv-loop μ-loop
 read-item-requires c κs = search needs
@@ -40,8 +44,8 @@ read-item-requires c κs = search needs
 unite-requires : tie.Need-unite-requires Inv-loop μ-loop
 unite-requires c κs =
     let l = c .before .before .before .before .before in
-    let u = l .loop .inv .room in
-    (omega arith, l .loop .inv .normal)
+    let u = l .loop .inv .1 .room in
+    (omega arith, l .loop .inv .1 .normal)
 
 on-requires : tie.Need-on-requires Inv-loop μ-loop
 on-requires c κs = search needs
@@ -54,20 +58,25 @@ loop-less c = omega arith
 
 loop-again : tie.Need-loop-again Inv-loop μ-loop
 loop-again c =
-    let r = c .before .before .before in
+    let r = c .before .before .before .before .before in
     let l = r .before .before .before .before in
     let e = sym (r .before .before .before .item-next .ensures) ∙ r .before .before .if1 .taken in
-    let m = uniting-more (l .loop .inv) e (r .before .if2 .left) in
-    rw (c .on .ensures, c .before .unite .ensures .0, c .before .unite .ensures .1, r .read-item .ensures) m
+    let m = uniting-more (l .loop .inv .1) e (r .before .if2 .left) in
+    let f = uniting-long (l .loop .inv .1) (r .before .if2 .left) ∙ l .loop .inv .0 in
+    let i = c .before .before .before .unite .ensures in
+    rw (c .on .ensures, i .0, i .1, r .read-item .ensures) (f, m)
 
 end-requires : tie.Need-end-requires Inv-loop μ-loop
 end-requires c κs = search needs
+
+same-length-2 : tie.Need-same-length-2 Inv-loop μ-loop
+same-length-2 c = c .before .before .before .loop .inv .0
 
 returns-2 : tie.Need-returns-2 Inv-loop μ-loop
 returns-2 c =
     let l = c .before .before .before in
     let e = sym (c .before .before .item-next .ensures) ∙ c .before .if1 .left in
-    uniting-end (l .loop .inv) e _ refl refl (c .end .ensures)
+    uniting-end (l .loop .inv .1) e _ refl refl (c .end .ensures)
 
 pub read-items-spec : {M : Type 1} → statement M
 read-items-spec =
@@ -79,6 +88,7 @@ read-items-spec =
     item-next-requires
     item-kind-requires
     start-requires
+    same-length
     returns
     read-item-requires
     unite-requires
@@ -87,4 +97,5 @@ read-items-spec =
     loop-less
     loop-again
     end-requires
+    same-length-2
     returns-2)

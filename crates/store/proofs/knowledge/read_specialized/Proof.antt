@@ -31,16 +31,20 @@ is-cell-requires c κs = search needs
 read-cell-requires : tie.Need-read-cell-requires
 read-cell-requires c κs = search needs
 
+same-length : tie.Need-same-length
+same-length c = search needs
+
 returns : tie.Need-returns
 unfolding specializedFrom cellFrom
 returns c =
-    let i = c .before .before .before in
+    let r = c .before .before in
+    let i = r .before .before .before in
     let g = i .before .before .before in
     let o = g .before .before .start-of-length .ensures in
     let d = g .before .run .ensures in
-    let cell = sym (run-cell _ _ _ _ o d) ∙ ap isCell (sym (g .guid .ensures)) ∙ sym (i .is-cell .ensures) ∙ c .before .before .if1 .taken in
+    let cell = sym (run-cell _ _ _ _ o d) ∙ ap isCell (sym (g .guid .ensures)) ∙ sym (i .is-cell .ensures) ∙ r .before .before .if1 .taken in
     let behind = rw (i .before .before .on .ensures, g .guid .ensures) at (i .before .closed .ensures) ∙ run-closed _ _ _ _ o d in
-    rw (cell, ← behind) (c .read-cell .ensures)
+    rw (cell, ← behind) (r .read-cell .ensures)
 
 inside-requires : tie.Need-inside-requires
 inside-requires c κs = search needs
@@ -52,7 +56,7 @@ returns-2 c =
     let g = i .before .before .before in
     let o = g .before .before .start-of-length .ensures in
     let d = g .before .run .ensures in
-    let a = g .before .before .before .before in
+    let a = g .before .before .before .before .before in
     let cell = sym (run-cell _ _ _ _ o d) ∙ ap isCell (sym (g .guid .ensures)) ∙ sym (i .is-cell .ensures) ∙ c .before .if1 .left in
     let behind = rw (i .before .before .on .ensures, g .guid .ensures) at (i .before .closed .ensures) ∙ run-closed _ _ _ _ o d in
     rw (cell, ← behind) (known-start (a .args .table .now) (a .args .rows) (a .args .left) _ (a .pre .0) (a .pre .1) _ refl refl (c .inside .ensures))
@@ -68,6 +72,7 @@ read-specialized-spec =
     closed-requires
     is-cell-requires
     read-cell-requires
+    same-length
     returns
     inside-requires
     returns-2)
