@@ -26,6 +26,7 @@ use Rattle.talk.proofs.Delivery.{length-wanted}
 use Rattle.talk.proofs.Things.{each-first, each-kept, each-so}
 use Rattle.store.specs.Chain.{Chain, Fresh, Tiles}
 use Rattle.store.specs.Element.{sameKey, idsIn, serialsIn, elementAt}
+use Rattle.store.specs.Knowledge.{mostSaid}
 use Rattle.store.specs.KnowledgeWritten.{rangesBytes}
 use Rattle.store.specs.Store.{storeWalk, Stands}
 use Rattle.store.specs.declared.element.Key.{Key}
@@ -134,14 +135,15 @@ wanted-stored fs l all = stored-kept _ all
 
 -- ---- what is sent
 
--- at most 512 ranges
-few-ranges : (a : Ask) (room k : ℕ) → Greatest (sendable 512 (a .limit) room (pageMeasure a)) (length (a .wanted)) k → length (a .known) ≤ 512
-    → length (pageRanges a k) ≤ 512
+-- no more ranges than a knowledge may say
+few-ranges : (a : Ask) (room k : ℕ) → Greatest (sendable (a .most) (a .limit) room (pageMeasure a)) (length (a .wanted)) k → length (a .known) ≤ mostSaid
+    → a .most ≤ mostSaid → length (pageRanges a k) ≤ mostSaid
 unfolding pageRanges rangesWith pageMeasure
-few-ranges a room zero g h = h
-few-ranges a room (suc k) g h =
+few-ranges a room zero g h l = h
+few-ranges a room (suc k) g h l =
     let m = pageMeasure a in
-    sendable-ranges 512 (a .limit) room (suc k) (m .stored (suc k)) (m .ranges (suc k)) (m .whole (suc k)) (g .every (suc k) (omega arith) (omega arith))
+    let c : length (pageRanges a (suc k)) ≤ a .most = sendable-ranges (a .most) (a .limit) room (suc k) (m .stored (suc k)) (m .ranges (suc k)) (m .whole (suc k)) (g .every (suc k) (omega arith) (omega arith)) in
+    omega arith
 
 -- at most so long
 whole-most : (fixed stored ranges spelled : ℕ) → wholeOf fixed stored ranges spelled ≤ fixed + 25 + stored + spelled
@@ -207,7 +209,7 @@ module _ (s q : List ℕ) (room : ℕ) (b : AllBytes s) (d : AllBytes q) (h : St
       fit-with page (knownIn q)
       (page-each (λ (x : Element). x .serial .number < 2 ^ 64) (each-so KeysFit _ all (λ x f. f .1 .1) (keys-fit s b (store-read s h)))) (known-fit q [] d)
 
-  page-size : length ranges ≤ 512 → length (pageBytes ask k) ≤ length s + 65536
+  page-size : length ranges ≤ mostSaid → length (pageBytes ask k) ≤ length s + 65536
   unfolding pageBytes
   page-size m =
       let a = answer-length s id (storageIndex all) page (ltb k (length (ask .wanted))) ranges page-within in
@@ -217,18 +219,18 @@ module _ (s q : List ℕ) (room : ℕ) (b : AllBytes s) (d : AllBytes q) (h : St
       let g = page-stored in
       omega arith
 
-  page-length : length ranges ≤ 512 → length (pageBytes ask k) ≤ longestAnswer
+  page-length : length ranges ≤ mostSaid → length (pageBytes ask k) ≤ longestAnswer
   page-length m =
       let a = page-size m in
       let n : length s ≤ longestInput = by-lt longestInput (length s) (λ l. absurd (over-long s l h)) (λ l. l) in
       omega arith
 
-  page-back : Greatest (sendable 512 limit room (pageMeasure ask)) (length (ask .wanted)) k
+  page-back : Greatest (sendable (ask .most) limit room (pageMeasure ask)) (length (ask .wanted)) k
       → ReadsBack s id (storageIndex all) page (ltb k (length (ask .wanted))) ranges (pageBytes ask k)
   unfolding pageBytes
   page-back g =
       let o = store-read s h in
-      let m : length ranges ≤ 512 = few-ranges ask room k g (known-normal q [] .1) in
+      let m : length ranges ≤ mostSaid = few-ranges ask room k g (known-normal q [] .1) (omega arith) in
       answer-back s id (storageIndex all) page (ltb k (length (ask .wanted))) ranges (pageBytes ask k) refl
       (page-each (StandsIn s) (chain-stands s [] all (o .first) (o .end) (o .chain)))
       (page-fresh (λ x. x .id) (chain-ids s [] all (o .first) (o .end) (o .chain)))
@@ -238,14 +240,14 @@ module _ (s q : List ℕ) (room : ℕ) (b : AllBytes s) (d : AllBytes q) (h : St
 
 -- the same, of an ask that is this one
 asked-back : (s q : List ℕ) (room : ℕ) → AllBytes s → AllBytes q → (a : Ask) → Asks s q a → (k : ℕ)
-    → Greatest (sendable 512 (a .limit) room (pageMeasure a)) (length (a .wanted)) k → (w : List ℕ) (l : List Range) → w ≡ pageBytes a k → l ≡ pageRanges a k
+    → Greatest (sendable (a .most) (a .limit) room (pageMeasure a)) (length (a .wanted)) k → (w : List ℕ) (l : List Range) → w ≡ pageBytes a k → l ≡ pageRanges a k
     → ReadsBack s (a .id) (storageIndex (a .elements)) (take k (a .wanted)) (ltb k (length (a .wanted))) l w
 asked-back s q room b d a x k g w l u v =
     rw (u, v, x .asked)
     (page-back s q room b d (x .store-reads) (x .id) (x .limit) (x .place) (x .count) (x .known) (x .request-reads) k (rw (x .asked) at g))
 
 -- how much room an answer needs at most
-pub asked-size : (s q : List ℕ) → AllBytes s → AllBytes q → (a : Ask) → Asks s q a → (k : ℕ) → length (pageRanges a k) ≤ 512
+pub asked-size : (s q : List ℕ) → AllBytes s → AllBytes q → (a : Ask) → Asks s q a → (k : ℕ) → length (pageRanges a k) ≤ mostSaid
     → length (pageBytes a k) ≤ length s + 65536
 asked-size s q b d a x k m =
     rw (x .asked)

@@ -21,6 +21,7 @@ use Rattle.talk.specs.Series.Chain.{done, next}
 use Rattle.talk.specs.declared.range.Range.{Range}
 use Rattle.talk.proofs.Counts.{length-with}
 use Rattle.talk.proofs.Delivery.{length-wanted}
+use Rattle.store.specs.Knowledge.{mostSaid}
 use Rattle.store.specs.KnowledgeWritten.{knowledgeBytes}
 use Rattle.store.specs.Store.{storeWalk, Stands}
 use Rattle.store.specs.declared.element.Element.{Element}
@@ -30,6 +31,7 @@ use Rattle.request.specs.Message.{filtersOf}
 use Rattle.pages.specs.Answer.{Ask, answered, numberIn, askOf, knownIn, outcome, outputAfter, pageBytes, pageRanges}
 use Rattle.pages.specs.Choice.{knowsKey, serialRange, wantedIn}
 use Rattle.pages.specs.Cases.{smallest, Asks}
+use Rattle.pages.specs.Decision.{mostCarried}
 use Rattle.pages.proofs.PageCases.{page-answered}
 use Rattle.pages.proofs.Refusing.{asked-outcome}
 use Rattle.client.specs.Ask.{filtersGiven, knowledgeGiven, knowledgeOf, askWrote}
@@ -96,7 +98,7 @@ answers s q out report w all l e = (ap numberIn (sym (tables-enough s q (length 
 reads : (s q : List ℕ) (room : ℕ) (w report : List ℕ) → DemandTwo s q room w → HubReads w 0 report (reportAfter (answerIn w) report)
 reads s q room w report h = (ap (λ (a : ReadAnswer). tellReadAnswer a .number) (sym (h .read .read)), refl)
 
--- ---- an ask that reads is answered, while the ranges and the wanted elements together are at most 512
+-- ---- an ask that reads is answered, while the ranges and the wanted elements together are at most what a page may carry
 
 -- a page adds at most a range for each of its elements
 page-ranges : (a : Ask) (j : ℕ) → length (pageRanges a j) ≤ length (a .known) + length (a .wanted)
@@ -107,7 +109,7 @@ page-ranges a j =
     omega (arith, e, length-with (a .known) (map serialRange page), length-map page serialRange, length-take j (a .wanted))
 
 ask-answered : (s f k q : List ℕ) (id limit room : ℕ) → AllBytes s → AllBytes q → Stands (storeWalk s .last) → AskReads id limit f k q
-    → length (knowledgeOf k .ranges) + length (wantedOf s (filtersIn f) (knowsBy k)) ≤ 512 → length s + 65536 ≤ room
+    → length (knowledgeOf k .ranges) + length (wantedOf s (filtersIn f) (knowsBy k)) ≤ mostCarried → length s + 65536 ≤ room
     → (w : List ℕ) × (all : List Element) × (l : List Range) × (outcome s q room ≡ answered w all l)
 unfolding wantedIn
 ask-answered s f k q id limit room bs bq h r few ample =
@@ -123,8 +125,8 @@ ask-answered s f k q id limit room bs bq h r few ample =
       request-reads = r .back .answer;
       asked = refl;
     } in
-    let m : length (knownIn q) + length (wantedOf s (filtersOf q) (knowsKey (knownIn q))) ≤ 512 = rw (r .back .filters, r .back .known) few in
-    let most : (j : ℕ) → length (pageRanges a j) ≤ 512 = λ j. let z = page-ranges a j in omega arith in
+    let m : length (knownIn q) + length (wantedOf s (filtersOf q) (knowsKey (knownIn q))) ≤ mostCarried = rw (r .back .filters, r .back .known) few in
+    let most : (j : ℕ) → length (pageRanges a j) ≤ mostCarried = λ j. let z = page-ranges a j in omega arith in
     let size = asked-size s q bs bq a x (smallest a) (most (smallest a)) in
     let z = page-answered a room (λ p. most 1) (omega arith) in
     (pageBytes a (z .0), a .elements, pageRanges a (z .0), asked-outcome s q a room x ∙ z .1)
@@ -137,8 +139,8 @@ record Ready (s f first k : List ℕ) : Type 0 where
   place : ℕ
   value : ℕ
   given : knowledgeGiven k ≡ At place value
-  size : length k ≤ length first + (28 + 36 * 512)
-  few : length (knowledgeOf k .ranges) + length (wantedOf s (filtersIn f) (knowsBy k)) ≤ 512
+  size : length k ≤ length first + (28 + 36 * mostSaid)
+  few : length (knowledgeOf k .ranges) + length (wantedOf s (filtersIn f) (knowsBy k)) ≤ mostCarried
 
 -- so it can from what it began with ..
 ready-first : (s f k : List ℕ) → AllBytes k → (q v : ℕ) → knowledgeGiven k ≡ At q v → saidBy k ≤ 256 → Ready s f k k
@@ -165,7 +167,7 @@ ready-next s f first k w k′ bs bf turn g =
       given = ap knowledgeGiven (t .next-is) ∙ sent .0;
       size = omega arith;
       few =
-          subst (λ (l : List Range). length l + length (wantedOf s (filtersIn f) (knowsKey l)) ≤ 512) (sym (next-ranges s f k w k′ bs bf (g .bytes) turn))
+          subst (λ (l : List Range). length l + length (wantedOf s (filtersIn f) (knowsKey l)) ≤ mostCarried) (sym (next-ranges s f k w k′ bs bf (g .bytes) turn))
           (omega arith);
     }
 

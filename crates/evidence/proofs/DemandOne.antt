@@ -101,7 +101,7 @@ pub record NumbersExactly (s q : List ℕ) (rows ranges room number : ℕ) : Typ
   pub one : IfAndOnlyIf (number ≡ 1) (Tables rows ranges × OverLong s q)
   -- 9 for a page, where both inputs are read and a is asked: "a page of 1 needs over 512 ranges"
   pub nine : (a : Ask) → Asks s q a
-      → IfAndOnlyIf (number ≡ 9) (Tables rows ranges × (0 < length (a .wanted)) × (512 < length (pageRanges a 1)))
+      → IfAndOnlyIf (number ≡ 9) (Tables rows ranges × (0 < length (a .wanted)) × (a .most < length (pageRanges a 1)))
   -- 14: "the output is shorter than the page of 1 (of 0, if nothing is wanted)"
   pub fourteen : IfAndOnlyIf (number ≡ 14) (Tables rows ranges × (a : Ask) × TooShort s q room a)
 

@@ -22,7 +22,7 @@ use Rattle.request.specs.Message.{filtersOf, requestIn}
 use Rattle.request.specs.declared.message.Request.the-variants.{Asked}
 use Rattle.pages.specs.Answer.{Ask, askOf, knownIn, pageMeasure}
 use Rattle.pages.specs.Choice.{knowsKey, rangesWith, wantedIn, storageIndex}
-use Rattle.pages.specs.Decision.{sendable}
+use Rattle.pages.specs.Decision.{mostCarried, sendable}
 use Rattle.pages.specs.Written.{answerBytes}
 use Rattle.client.specs.Back.{ReadsBack}
 use Rattle.evidence.specs.Calling.{GivesAnswer}
@@ -50,7 +50,7 @@ pub record DemandTwo (s q : List ℕ) (room : ℕ) (w : List ℕ) : Type 0 where
   -- "in store order .. of elements that the filters let in and the client's knowledge lacks": the first of them, none passed over
   pub run : page ++ rest ≡ wantedOf s (filtersOf q) (knowsKey (knownIn q))
   -- "the longest page, by limit, buffer and range count": the greatest k such that every page of 1 to k may be sent
-  pub longest : Greatest (sendable 512 limit room (pageMeasure (askOf s (elementsOf s) q id limit))) (length (wantedOf s (filtersOf q) (knowsKey (knownIn q)))) (length page)
+  pub longest : Greatest (sendable mostCarried limit room (pageMeasure (askOf s (elementsOf s) q id limit))) (length (wantedOf s (filtersOf q) (knowsKey (knownIn q)))) (length page)
   -- it has something unless nothing is wanted: no answer is marked partial with nothing in it
   pub some : isSome page ≡ isSome (wantedOf s (filtersOf q) (knowsKey (knownIn q)))
   -- "Its knowledge is the client's with exactly those serial numbers added."
@@ -80,7 +80,7 @@ demand-two s q b d room w g =
       read = sending.reads s q b d room w g;
       run = takes .run;
       longest =
-          subst (λ (n : ℕ). Greatest (sendable 512 (ask .limit) room (pageMeasure ask)) (length (ask .wanted)) n) (sym (sending.page-length s q b d room w g))
+          subst (λ (n : ℕ). Greatest (sendable (ask .most) (ask .limit) room (pageMeasure ask)) (length (ask .wanted)) n) (sym (sending.page-length s q b d room w g))
           (sending.greatest s q b d room w g);
       some = takes .moves;
       adds = sending.adds s q b d room w g;

@@ -33,7 +33,7 @@ use Rattle.pages.specs.declared.answer.Answered.the-variants as answer
 use Rattle.pages.specs.Choice.{knowsKey, serialRange, wantedIn}
 use Rattle.pages.specs.Cases.{Few, smallest, Asks}
 use Rattle.pages.proofs.PageCases.{page-answered}
-use Rattle.pages.proofs.Refusing.{asked-outcome, tables-fine, nine-of-call}
+use Rattle.pages.proofs.Refusing.{asked-most, asked-outcome, tables-fine, nine-of-call}
 use Rattle.hub.specs.Call.{HubAnswers}
 use Rattle.hub.proofs.Laws.{tables-enough}
 use Rattle.evidence.specs.Calling.{GivesRefusal}
@@ -97,8 +97,9 @@ module _ (s : List ℕ) (b : AllBytes s) (fs : List Filter) (know′ : Key → B
 
   -- the page of 1 never needs over 512 ranges
   pub few-ranges : Few a
+  unfolding pageRanges
   few-ranges p =
-      rw page-is
+      rw (asked-most s q a asks, page-is)
       (never-crowded sameKey KeyFits serialOf serialRange knowsKey serial-keys (elementsOf s) (leavesIn s fs) (serials-fit s b (asks .store-reads)) same-itself same-turn
       (serials-once s (store-read s (asks .store-reads))) n few (store-most s) (after .chain))
 

@@ -41,7 +41,7 @@ module _ (s q : List ℕ) (rows ranges room number : ℕ) (is : number ≡ numbe
   )
 
   pub nine-exactly : (a : Ask) → Asks s q a
-      → IfAndOnlyIf (number ≡ 9) (Tables rows ranges × (0 < length (a .wanted)) × (512 < length (pageRanges a 1)))
+      → IfAndOnlyIf (number ≡ 9) (Tables rows ranges × (0 < length (a .wanted)) × (a .most < length (pageRanges a 1)))
   unfolding numberIn
   nine-exactly a x = (
     λ h. let z = to-outcome 9 (λ e. omega arith) h in let y = nine-of-call s q room a x (z .1) in (z .0, y .0, y .1),
@@ -59,7 +59,7 @@ module _ (s q : List ℕ) (rows ranges room number : ℕ) (is : number ≡ numbe
 pub numbers-exactly : (s q : List ℕ) (rows ranges room number : ℕ) → number ≡ numberIn (answerOf s q rows ranges room)
     → IfAndOnlyIf (number ≡ 13) ((rows < 1536) ⊎ (ranges < 2048))
     × IfAndOnlyIf (number ≡ 1) (Tables rows ranges × OverLong s q)
-    × ((a : Ask) → Asks s q a → IfAndOnlyIf (number ≡ 9) (Tables rows ranges × (0 < length (a .wanted)) × (512 < length (pageRanges a 1))))
+    × ((a : Ask) → Asks s q a → IfAndOnlyIf (number ≡ 9) (Tables rows ranges × (0 < length (a .wanted)) × (a .most < length (pageRanges a 1))))
     × IfAndOnlyIf (number ≡ 14) (Tables rows ranges × (a : Ask) × TooShort s q room a)
 numbers-exactly s q rows ranges room number is = (
   thirteen-exactly s q rows ranges room number is,

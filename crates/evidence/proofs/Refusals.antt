@@ -60,7 +60,7 @@ module _ (s q : List ℕ) (rows ranges room : ℕ) (r : Refusal) where
       λ f.
       by-lt room (length (pageBytes a (smallest a))) (λ l. let z = fourteen-if a room f l in Why.short t a x f l (cc))
       (λ l. let z = page-answered a room f l in let w = z .1 in impossible (cc)) in
-      by-lt 512 (length (pageRanges a 1))
+      by-lt (a .most) (length (pageRanges a 1))
       (λ c.
       by-lt 0 (length (a .wanted)) (λ p. let z = nine-if a room p c in Why.crowded t a x p c (cc)) (λ p. ample (λ w. absurd (omega arith))))
       (λ c. ample (λ w. c))

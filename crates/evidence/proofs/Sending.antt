@@ -47,20 +47,20 @@ use Rattle.evidence.proofs.Serials.{knows-with}
 -- ---- a page that is sent is not empty while something is wanted
 
 decided-some : (a : Ask) (room : ℕ) (d : Decided) → pageDecided a room ≡ d → (w : List ℕ) (all : List Element) (l : List Range) → onDecided a d ≡ answered w all l
-    → (k : ℕ) × Greatest (sendable 512 (a .limit) room (pageMeasure a)) (length (a .wanted)) k × (0 < length (a .wanted) → 0 < k)
+    → (k : ℕ) × Greatest (sendable (a .most) (a .limit) room (pageMeasure a)) (length (a .wanted)) k × (0 < length (a .wanted) → 0 < k)
 unfolding onDecided pageDecided
 decided-some a room (Sent k whole ranges more) e w all l h =
-    let z = sent-law 512 (a .limit) room (pageMeasure a) (length (a .wanted)) k whole ranges more e in
+    let z = sent-law (a .most) (a .limit) room (pageMeasure a) (length (a .wanted)) k whole ranges more e in
     (k, z .greatest, z .some)
 decided-some a room Crowded e w all l h = impossible (cc (h))
 decided-some a room (Short n) e w all l h = impossible (cc (h))
 
 sent-some : (s q : List ℕ) (a : Ask) (room : ℕ) → Asks s q a → (w : List ℕ) (all : List Element) (l : List Range) → outcome s q room ≡ answered w all l → (k : ℕ)
-    → Greatest (sendable 512 (a .limit) room (pageMeasure a)) (length (a .wanted)) k → 0 < length (a .wanted) → 0 < k
+    → Greatest (sendable (a .most) (a .limit) room (pageMeasure a)) (length (a .wanted)) k → 0 < length (a .wanted) → 0 < k
 unfolding pageOutcome
 sent-some s q a room x w all l h k g p =
     let d = decided-some a room (pageDecided a room) refl w all l (sym (asked-outcome s q a room x) ∙ h) in
-    let e : d .0 ≡ k = greatest-one (sendable 512 (a .limit) room (pageMeasure a)) (length (a .wanted)) (d .0) k (d .1) g in
+    let e : d .0 ≡ k = greatest-one (sendable (a .most) (a .limit) room (pageMeasure a)) (length (a .wanted)) (d .0) k (d .1) g in
     let z = d .2 p in
     omega arith
 
@@ -102,8 +102,8 @@ module _ (s q : List ℕ) (b : AllBytes s) (d : AllBytes q) (room : ℕ) (w : Li
   abbrev count : ℕ
   count = back .sends .count
 
-  pub greatest : Greatest (sendable 512 (ask .limit) room (pageMeasure ask)) (length (ask .wanted)) count
-  greatest = subst (λ (a : Ask). Greatest (sendable 512 (a .limit) room (pageMeasure a)) (length (a .wanted)) count) ask-is (back .sends .greatest)
+  pub greatest : Greatest (sendable (ask .most) (ask .limit) room (pageMeasure ask)) (length (ask .wanted)) count
+  greatest = subst (λ (a : Ask). Greatest (sendable (a .most) (a .limit) room (pageMeasure a)) (length (a .wanted)) count) ask-is (back .sends .greatest)
 
   abbrev pub page : List Element
   page = take count (ask .wanted)

@@ -19,6 +19,7 @@ use Rattle.numbers.specs.declared.refusal.Wrote.{Wrote}
 use Rattle.numbers.specs.declared.refusal.Wrote.the-variants as wrote
 use Rattle.talk.specs.Page.{Greatest}
 use Rattle.talk.proofs.PageRule.{greatest-one}
+use Rattle.store.specs.Knowledge.{mostSaid}
 use Rattle.store.specs.Store.{storeWalk, Stands}
 use Rattle.store.proofs.Chains.{over-long}
 use Rattle.request.proofs.RequestFits.{known-normal}
@@ -26,7 +27,7 @@ use Rattle.pages.specs.Answer.{Ask, pageBytes, pageMeasure, pageRanges}
 use Rattle.pages.specs.Cases.{Asks, Few, TooShort, smallest}
 use Rattle.pages.specs.Choice.{rangesWith}
 use Rattle.pages.specs.Decision.{isSendable, sendable}
-use Rattle.pages.proofs.Refusing.{answered-asks, call-sends}
+use Rattle.pages.proofs.Refusing.{asked-most, answered-asks, call-sends}
 use Rattle.client.specs.Ask.{askWrote, filtersGiven, knowledgeGiven}
 use Rattle.client.specs.AskWritten.{askBytes}
 use Rattle.client.specs.Read.{longestAnswer}
@@ -46,7 +47,7 @@ use Rattle.evidence.proofs.Refusals.{request-written}
 abbrev pub Sufficient : List ℕ → ℕ → Type 0
 Sufficient s room = (longestAnswer ≤ room) ⊎ (length s + 65536 ≤ room)
 
--- ---- a page with at most 512 ranges fits such an output
+-- ---- a page with no more ranges than a knowledge may say fits such an output
 
 -- a store that is read is not over-long, so that the second bound is the lower one
 lower-bound : (s : List ℕ) (room : ℕ) → Stands (storeWalk s .last) → Sufficient s room → length s + 65536 ≤ room
@@ -55,21 +56,22 @@ lower-bound s room h enough =
     ⊎-elim (λ (m : longestAnswer ≤ room). omega arith) (λ m. m) enough
 
 module _ (s q : List ℕ) (b : AllBytes s) (d : AllBytes q) (a : Ask) (x : Asks s q a) where
-  page-fits : (room : ℕ) → Sufficient s room → (j : ℕ) → length (pageRanges a j) ≤ 512 → length (pageBytes a j) ≤ room
+  page-fits : (room : ℕ) → Sufficient s room → (j : ℕ) → length (pageRanges a j) ≤ mostSaid → length (pageBytes a j) ≤ room
   page-fits room enough j few =
       let size = asked-size s q b d a x j few in
       let bound = lower-bound s room (x .store-reads) enough in
       omega arith
 
   -- the page of 0 carries what the request knows
-  page-of-none : length (pageRanges a 0) ≤ 512
+  page-of-none : length (pageRanges a 0) ≤ mostSaid
   unfolding pageRanges rangesWith
   page-of-none = rw (x .asked) (known-normal q [] .1)
 
-  smallest-few : Few a → length (pageRanges a (smallest a)) ≤ 512
+  smallest-few : Few a → length (pageRanges a (smallest a)) ≤ mostSaid
   smallest-few few =
+      let most = asked-most s q a x in
       by-eq (length (a .wanted)) 0 (λ e. let z : smallest a ≡ 0 = omega arith in rw z page-of-none)
-      (λ n. let z : smallest a ≡ 1 = omega arith in rw z (few (omega arith)))
+      (λ n. let z : smallest a ≡ 1 = omega arith in let f = few (omega arith) in rw z (omega arith))
 
 -- ---- an answer is not refused with 14
 
@@ -129,17 +131,21 @@ same-greatest ok ok′ same n k g =
     record { most = g .most; every = λ j l u. sym (same j) ∙ g .every j l u; stop = λ l. sym (same (suc k)) ∙ g .stop l }
 
 module _ (s q : List ℕ) (b : AllBytes s) (d : AllBytes q) (a : Ask) (x : Asks s q a) (room room′ : ℕ) (enough : Sufficient s room) (enough′ : Sufficient s room′) where
-  same-page : (j : ℕ) → sendable 512 (a .limit) room (pageMeasure a) j ≡ sendable 512 (a .limit) room′ (pageMeasure a) j
+  same-page : (j : ℕ) → sendable (a .most) (a .limit) room (pageMeasure a) j ≡ sendable (a .most) (a .limit) room′ (pageMeasure a) j
   unfolding pageMeasure
   same-page j =
-      same-sendable 512 (a .limit) room room′ j _ _ _
-      (λ few. (page-fits s q b d a x room enough j few, page-fits s q b d a x room′ enough′ j few))
+      same-sendable (a .most) (a .limit) room room′ j _ _ _
+      (λ few.
+      let most = asked-most s q a x in
+      let carried : length (pageRanges a j) ≤ a .most = few in
+      let said : length (pageRanges a j) ≤ mostSaid = omega arith in
+      (page-fits s q b d a x room enough j said, page-fits s q b d a x room′ enough′ j said))
 
-  same-count : (k k′ : ℕ) → Greatest (sendable 512 (a .limit) room (pageMeasure a)) (length (a .wanted)) k
-      → Greatest (sendable 512 (a .limit) room′ (pageMeasure a)) (length (a .wanted)) k′ → k ≡ k′
+  same-count : (k k′ : ℕ) → Greatest (sendable (a .most) (a .limit) room (pageMeasure a)) (length (a .wanted)) k
+      → Greatest (sendable (a .most) (a .limit) room′ (pageMeasure a)) (length (a .wanted)) k′ → k ≡ k′
   same-count k k′ g g′ =
-      greatest-one (sendable 512 (a .limit) room′ (pageMeasure a)) (length (a .wanted)) k k′
-      (same-greatest (sendable 512 (a .limit) room (pageMeasure a)) (sendable 512 (a .limit) room′ (pageMeasure a)) same-page (length (a .wanted)) k g) g′
+      greatest-one (sendable (a .most) (a .limit) room′ (pageMeasure a)) (length (a .wanted)) k k′
+      (same-greatest (sendable (a .most) (a .limit) room (pageMeasure a)) (sendable (a .most) (a .limit) room′ (pageMeasure a)) same-page (length (a .wanted)) k g) g′
 
 pub same-answer : (s q : List ℕ) → AllBytes s → AllBytes q → (room room′ : ℕ) → Sufficient s room → Sufficient s room′ → (w w′ : List ℕ)
     → GivesAnswer s q room w → GivesAnswer s q room′ w′ → w ≡ w′

@@ -42,7 +42,7 @@ pub data Why (s q : List ℕ) (rows ranges room : ℕ) (r : Refusal) : Type 0 wh
   -- the store is read, and this is the first fault that reading the request meets
   request : Tables rows ranges → Stands (storeWalk s .last) → requestIn q [] ≡ request′.Refused r → Why s q rows ranges room r
   -- both are read, and a is asked: "a page of 1 needs over 512 ranges"
-  crowded : Tables rows ranges → (a : Ask) → Asks s q a → 0 < length (a .wanted) → 512 < length (pageRanges a 1) → r ≡ faultAt 9 0
+  crowded : Tables rows ranges → (a : Ask) → Asks s q a → 0 < length (a .wanted) → a .most < length (pageRanges a 1) → r ≡ faultAt 9 0
       → Why s q rows ranges room r
   -- "the output is shorter than the page of 1 (of 0, if nothing is wanted)", whose length is the needed one
   short : Tables rows ranges → (a : Ask) → Asks s q a → Few a → room < length (pageBytes a (smallest a))

@@ -54,14 +54,14 @@ module _ (most limit room : ℕ) (m : Measure) (n : ℕ) where
 
 module _ (a : Ask) (room : ℕ) where
   abbrev PageCase : Decided → Type 0
-  PageCase d = Case 512 (a .limit) room (pageMeasure a) (length (a .wanted)) d
+  PageCase d = Case (a .most) (a .limit) room (pageMeasure a) (length (a .wanted)) d
 
   page-case : PageCase (pageDecided a room)
   unfolding pageDecided
-  page-case = case-of 512 (a .limit) room (pageMeasure a) (length (a .wanted))
+  page-case = case-of (a .most) (a .limit) room (pageMeasure a) (length (a .wanted))
 
   -- what is told of a case
-  nine-on : (d : Decided) → PageCase d → numberIn (onDecided a d) ≡ 9 → (0 < length (a .wanted)) × (512 < length (pageRanges a 1))
+  nine-on : (d : Decided) → PageCase d → numberIn (onDecided a d) ≡ 9 → (0 < length (a .wanted)) × (a .most < length (pageRanges a 1))
   unfolding onDecided numberIn pageMeasure
   nine-on _ (nothing e h) q = absurd (omega arith)
   nine-on _ (crowded p c) q = (p, c)
@@ -82,7 +82,7 @@ module _ (a : Ask) (room : ℕ) where
   answered-on _ (nothing e h) f g = (0, refl)
   answered-on _ (crowded p c) f g = let z = f p in absurd (omega arith)
   answered-on _ (short w h) f g = absurd (omega arith)
-  answered-on _ (some p c h) f g = (pageCount (sendable 512 (a .limit) room (pageMeasure a)) (length (a .wanted)), refl)
+  answered-on _ (some p c h) f g = (pageCount (sendable (a .most) (a .limit) room (pageMeasure a)) (length (a .wanted)), refl)
 
   numbers-on : (d : Decided) → PageCase d → (numberIn (onDecided a d) ≡ 0) ⊎ ((numberIn (onDecided a d) ≡ 9) ⊎ (numberIn (onDecided a d) ≡ 14))
   unfolding onDecided numberIn
@@ -92,11 +92,11 @@ module _ (a : Ask) (room : ℕ) where
   numbers-on _ (some p c h) = inl refl
 
   -- 9, exactly when "a page of 1 needs over 512 ranges"
-  pub nine-only-if : numberIn (pageOutcome a room) ≡ 9 → (0 < length (a .wanted)) × (512 < length (pageRanges a 1))
+  pub nine-only-if : numberIn (pageOutcome a room) ≡ 9 → (0 < length (a .wanted)) × (a .most < length (pageRanges a 1))
   unfolding pageOutcome
   nine-only-if q = nine-on (pageDecided a room) page-case q
 
-  pub nine-if : 0 < length (a .wanted) → 512 < length (pageRanges a 1) → pageOutcome a room ≡ refused (faultAt 9 0)
+  pub nine-if : 0 < length (a .wanted) → a .most < length (pageRanges a 1) → pageOutcome a room ≡ refused (faultAt 9 0)
   unfolding pageOutcome pageDecided decision onDecided pageMeasure
   nine-if p c = let z : length (a .wanted) ≡ 0 → ⊥ = λ e. omega arith in rw (ne-eqb _ 0 z, lt-leb _ _ c)
 

@@ -10,7 +10,8 @@ use Rattle.numbers.specs.Refusals.{faultAt, tooShort}
 use Rattle.numbers.specs.declared.extended_guid.ExtendedGuid.{ExtendedGuid}
 use Rattle.talk.specs.Wanted.{wanted}
 use Rattle.talk.proofs.Things.{each-first, each-kept, each-so}
-use Rattle.ranges.specs.RangeTable.{rangesAt}
+use Rattle.ranges.specs.RangeTable.{rangeWidth, rangesAt}
+use Rattle.store.specs.Knowledge.{mostSaid}
 use Rattle.store.specs.Store.{storeWalk}
 use Rattle.store.specs.declared.element.Element.{Element}
 use Rattle.ranges.proofs.RangeRows.{length-rows}
@@ -65,7 +66,7 @@ module _ (s q : List ℕ) (a : Asked) (rows ids known : List ℕ) (n : ℕ) (h :
   unfolding pageDecided
   page-decided room w index r t e d c =
       let l = g .held in
-      let f : r ≡ decision 512 (a .limit) room (pageMeasure ask) (length (ask .wanted)) = rw (e, l, c, measure-same) at (d .0) in
+      let f : r ≡ decision (a .most) (a .limit) room (pageMeasure ask) (length (ask .wanted)) = rw (e, l, c, measure-same) at (d .0) in
       (f, rw (e, l, f) at (d .1))
 
   -- ---- what is answered
@@ -84,9 +85,9 @@ module _ (s q : List ℕ) (a : Asked) (rows ids known : List ℕ) (n : ℕ) (h :
     -- the page of k is sent: what is written is its answer, and it fits
     module _ (d : Decided) (k whole count : ℕ) (more : Bool) (e : d ≡ Sent k whole count more) (f : d ≡ pageDecided ask (length out))
         (w : List Element) (v : w ≡ ask .wanted) (t : List ℕ) (c : t ≡ knownAfter ask (length out) known) where
-      sent-is : Sends 512 (a .limit) (length out) (pageMeasure ask) (length (ask .wanted)) k whole count more
+      sent-is : Sends (a .most) (a .limit) (length out) (pageMeasure ask) (length (ask .wanted)) k whole count more
       unfolding pageDecided
-      sent-is = sent-law 512 (a .limit) (length out) (pageMeasure ask) (length (ask .wanted)) k whole count more (sym f ∙ e)
+      sent-is = sent-law (a .most) (a .limit) (length out) (pageMeasure ask) (length (ask .wanted)) k whole count more (sym f ∙ e)
 
       pub known-count : a .known ≡ length (knownIn q)
       known-count = sym (length-rows known 0 (a .known)) ∙ ap length (g .held)
@@ -115,9 +116,9 @@ module _ (s q : List ℕ) (a : Asked) (rows ids known : List ℕ) (n : ℕ) (h :
       unfolding pageMeasure
       sent-fits = sent-is .fits
 
-      pub sent-few : count ≤ 512
+      pub sent-few : count ≤ mostSaid
       unfolding pageMeasure pageRanges rangesWith
-      sent-few = let z : length (knownIn q) ≤ 512 = rw (← known-count) (g .most) in rw (sent-is .ranges-are) (sent-is .carries z)
+      sent-few = let z : length (knownIn q) ≤ mostSaid = rw (← known-count) (g .most) in rw (sent-is .ranges-are) (sent-is .carries mostSaid z (g .carried))
 
       pub page-sent : (rows′ ranges′ out′ : List ℕ)
           → PageSent (answerBytes s (a .id) (storageIndex (storeWalk s .elements)) (take k w) more (rangesAt t 0 count)) rows n t count out out′ rows₀ rows′ ranges₀ ranges′

@@ -22,9 +22,9 @@ use Rattle.request.specs.declared.message.Request.{Request}
 use Rattle.request.specs.declared.message.Request.the-variants as request
 use Rattle.request.proofs.FaultNumbers.{request-number}
 use Rattle.request.proofs.Whole.{over-long-read}
-use Rattle.pages.specs.Decision.{decision}
+use Rattle.pages.specs.Decision.{mostCarried, decision}
 use Rattle.store.specs.Tables.{rowNumbers}
-use Rattle.pages.specs.Answer.{Ask, Outcome, refused, answered, numberIn, pageRanges, pageBytes, pageMeasure, onDecided, pageDecided, pageOutcome, askOf, onRequest, onStore, outcome, answerOf}
+use Rattle.pages.specs.Answer.{Ask, Outcome, refused, answered, numberIn, pageRanges, pageBytes, pageMeasure, onDecided, pageDecided, pageOutcome, askOf, onRequest, onStore, outcome, knowledgeNumbers, answerOf}
 use Rattle.pages.specs.Cases.{Asks, OverLong, smallest, TooShort, Sends}
 use Rattle.pages.specs.declared.page.Decided.{Decided}
 use Rattle.pages.specs.declared.page.Decided.the-variants as decided
@@ -64,16 +64,20 @@ pub asked-outcome : (s q : List ℕ) (a : Ask) (room : ℕ) → Asks s q a → o
 unfolding outcome onRequest
 asked-outcome s q a room h = stored-on s q room (storeWalk s .last) (h .store-reads) ∙ rw (h .request-reads, h .asked)
 
+-- a page may carry so many ranges
+pub asked-most : (s q : List ℕ) (a : Ask) → Asks s q a → a .most ≡ mostCarried
+asked-most s q a h = ap (λ (y : Ask). y .most) (h .asked)
+
 -- ---- 13: "store table under 1,536 numbers or knowledge table under 2,048"
 
-pub thirteen-if : (s q : List ℕ) (rows ranges room : ℕ) → (rows < rowNumbers) ⊎ (ranges < 2048) → answerOf s q rows ranges room ≡ refused (faultAt 13 0)
+pub thirteen-if : (s q : List ℕ) (rows ranges room : ℕ) → (rows < rowNumbers) ⊎ (ranges < knowledgeNumbers) → answerOf s q rows ranges room ≡ refused (faultAt 13 0)
 unfolding answerOf
 thirteen-if s q rows ranges room (inl h) = rw (lt-ltb rows rowNumbers h)
-thirteen-if s q rows ranges room (inr h) = by-lt rows rowNumbers (λ l. rw (lt-ltb rows rowNumbers l)) (λ l. rw (le-ltb rows rowNumbers l, lt-ltb ranges 2048 h))
+thirteen-if s q rows ranges room (inr h) = by-lt rows rowNumbers (λ l. rw (lt-ltb rows rowNumbers l)) (λ l. rw (le-ltb rows rowNumbers l, lt-ltb ranges knowledgeNumbers h))
 
-pub tables-fine : (s q : List ℕ) (rows ranges room : ℕ) → rowNumbers ≤ rows → 2048 ≤ ranges → answerOf s q rows ranges room ≡ outcome s q room
+pub tables-fine : (s q : List ℕ) (rows ranges room : ℕ) → rowNumbers ≤ rows → knowledgeNumbers ≤ ranges → answerOf s q rows ranges room ≡ outcome s q room
 unfolding answerOf
-tables-fine s q rows ranges room h g = rw (le-ltb rows rowNumbers h, le-ltb ranges 2048 g)
+tables-fine s q rows ranges room h g = rw (le-ltb rows rowNumbers h, le-ltb ranges knowledgeNumbers g)
 
 -- the other refusals have other numbers
 fault-number : (s : List ℕ) (r : Refusal) → storeWalk s .last ≡ reading.Refused r → (1 ≤ r .number) × (r .number ≤ 12)
@@ -96,10 +100,10 @@ never-thirteen-on s q room _ (page a x) h =
 pub never-thirteen : (s q : List ℕ) (room : ℕ) → numberIn (outcome s q room) ≡ 13 → ⊥
 never-thirteen s q room h = never-thirteen-on s q room (outcome s q room) (course s q room) h
 
-pub thirteen-only-if : (s q : List ℕ) (rows ranges room : ℕ) → numberIn (answerOf s q rows ranges room) ≡ 13 → (rows < rowNumbers) ⊎ (ranges < 2048)
+pub thirteen-only-if : (s q : List ℕ) (rows ranges room : ℕ) → numberIn (answerOf s q rows ranges room) ≡ 13 → (rows < rowNumbers) ⊎ (ranges < knowledgeNumbers)
 thirteen-only-if s q rows ranges room h =
     by-lt rows rowNumbers inl
-    (λ a. by-lt ranges 2048 inr (λ b. absurd (never-thirteen s q room (ap numberIn (sym (tables-fine s q rows ranges room a b)) ∙ h))))
+    (λ a. by-lt ranges knowledgeNumbers inr (λ b. absurd (never-thirteen s q room (ap numberIn (sym (tables-fine s q rows ranges room a b)) ∙ h))))
 
 -- ---- 1: "an input is over 16,777,216 bytes"; the request's comes after all of the store's faults
 
@@ -146,22 +150,22 @@ call-of-fourteen s q room a h = asked-outcome s q a room (h .asks) ∙ fourteen-
 -- ---- 9 for a page: "a page of 1 needs over 512 ranges"
 
 pub nine-of-call : (s q : List ℕ) (room : ℕ) (a : Ask) → Asks s q a → numberIn (outcome s q room) ≡ 9
-    → (0 < length (a .wanted)) × (512 < length (pageRanges a 1))
+    → (0 < length (a .wanted)) × (a .most < length (pageRanges a 1))
 nine-of-call s q room a x h = nine-only-if a room (ap numberIn (sym (asked-outcome s q a room x)) ∙ h)
 
-pub call-of-nine : (s q : List ℕ) (room : ℕ) (a : Ask) → Asks s q a → 0 < length (a .wanted) → 512 < length (pageRanges a 1)
+pub call-of-nine : (s q : List ℕ) (room : ℕ) (a : Ask) → Asks s q a → 0 < length (a .wanted) → a .most < length (pageRanges a 1)
     → outcome s q room ≡ refused (faultAt 9 0)
 call-of-nine s q room a x p c = asked-outcome s q a room x ∙ nine-if a room p c
 
 -- ---- where nothing is refused, the greatest page is sent
 
-sends-on : (a : Ask) (room : ℕ) (d : Decided) → decision 512 (a .limit) room (pageMeasure a) (length (a .wanted)) ≡ d → (w : List ℕ) (all : List Element) (l : List Range)
+sends-on : (a : Ask) (room : ℕ) (d : Decided) → decision (a .most) (a .limit) room (pageMeasure a) (length (a .wanted)) ≡ d → (w : List ℕ) (all : List Element) (l : List Range)
     → onDecided a d ≡ answered w all l → Sends a room w all l
 unfolding onDecided
 sends-on a room (decided.Sent k whole ranges more) e w all l h =
     record {
       count = k;
-      greatest = sent-law 512 (a .limit) room (pageMeasure a) (length (a .wanted)) k whole ranges more e .greatest;
+      greatest = sent-law (a .most) (a .limit) room (pageMeasure a) (length (a .wanted)) k whole ranges more e .greatest;
       bytes-are = cc (h);
       elements-are = cc (h);
       ranges-are = cc (h);
@@ -171,7 +175,7 @@ sends-on a room (decided.Short n) e w all l h = impossible (cc (h))
 
 pub page-sends : (a : Ask) (room : ℕ) (w : List ℕ) (all : List Element) (l : List Range) → pageOutcome a room ≡ answered w all l → Sends a room w all l
 unfolding pageOutcome pageDecided
-page-sends a room w all l h = sends-on a room (decision 512 (a .limit) room (pageMeasure a) (length (a .wanted))) refl w all l h
+page-sends a room w all l h = sends-on a room (decision (a .most) (a .limit) room (pageMeasure a) (length (a .wanted))) refl w all l h
 
 pub call-sends : (s q : List ℕ) (room : ℕ) (a : Ask) → Asks s q a → (w : List ℕ) (all : List Element) (l : List Range) → outcome s q room ≡ answered w all l
     → Sends a room w all l

@@ -102,7 +102,7 @@ module _ (most limit room : ℕ) (m : Measure) (n : ℕ) where
     pub ranges-are : ranges ≡ m .ranges k
     pub more-is : more ≡ ltb k n
     pub fits : m .whole k ≤ room
-    pub carries : m .ranges 0 ≤ most → m .ranges k ≤ most
+    pub carries : (top : ℕ) → m .ranges 0 ≤ top → most ≤ top → m .ranges k ≤ top
 
   sends-none : (k whole ranges : ℕ) (more : Bool) → n ≡ 0 → m .whole 0 ≤ room → sent m n 0 ≡ Sent k whole ranges more → Sends k whole ranges more
   sends-none k whole ranges more z f q =
@@ -114,7 +114,7 @@ module _ (most limit room : ℕ) (m : Measure) (n : ℕ) where
         ranges-are = cc;
         more-is = cc;
         fits = rw e f;
-        carries = rw e (λ h. h);
+        carries = rw e (λ top h l. h);
       }
 
   sends-some : (k whole ranges : ℕ) (more : Bool) → 0 < n → sendable most limit room m 1 ≡ true
@@ -131,7 +131,7 @@ module _ (most limit room : ℕ) (m : Measure) (n : ℕ) where
         ranges-are = cc;
         more-is = cc;
         fits = sendable-room most limit room k (m .stored k) (m .ranges k) (m .whole k) last;
-        carries = λ h. sendable-ranges most limit room k (m .stored k) (m .ranges k) (m .whole k) last;
+        carries = λ top h u. omega (arith, sendable-ranges most limit room k (m .stored k) (m .ranges k) (m .whole k) last);
       }
 
   pub sent-law : (k whole ranges : ℕ) (more : Bool) → decision most limit room m n ≡ Sent k whole ranges more → Sends k whole ranges more

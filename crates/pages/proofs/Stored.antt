@@ -13,6 +13,7 @@ use Rattle.numbers.specs.declared.refusal.Refusal.{Refusal}
 use Rattle.objects.specs.declared.reading.Reading.{Reading}
 use Rattle.objects.specs.declared.reading.Reading.the-variants as reading
 use Rattle.talk.specs.Each.{Each}
+use Rattle.store.specs.Knowledge.{mostSaid, saidNumbers}
 use Rattle.store.specs.Store.{storeWalk, storedOf, storeAnswer, WalkedTo, Stands}
 use Rattle.store.specs.Tables.{rowWidth, idWidth, mostElements, rowNumbers, rowOf, idOf, rowsOf, idsOf, elementInRow, elementsInRows, elementsIn}
 use Rattle.store.specs.declared.element.Element.{Element}
@@ -123,12 +124,12 @@ pub request-same : (q t t′ : List ℕ) (r : Request) → ReadsRequest q t r t�
 request-same q t t′ r h = sym (h .0 ∙ request-table-free q t [] .0)
 
 -- the table is as long as it was
-pub request-long : (q t t′ : List ℕ) (r : Request) → length t ≡ 2048 → ReadsRequest q t r t′ → 2048 ≡ length t′
+pub request-long : (q t t′ : List ℕ) (r : Request) → length t ≡ saidNumbers → ReadsRequest q t r t′ → saidNumbers ≡ length t′
 request-long q t t′ r l h = sym (ap length (h .1) ∙ request-held q t (omega arith) .long ∙ l)
 
-pub request-read : (q t t′ : List ℕ) (id limit place count k : ℕ) → 2048 ≤ length t → ReadsRequest q t (request.Asked id limit place count k) t′
-    → RequestHeld q (record { id = id; limit = limit; place = place; count = count; known = k }) t′
-request-read q t t′ id limit place count k h r =
+pub request-read : (q t t′ : List ℕ) (id most limit place count k : ℕ) → most ≤ mostSaid → saidNumbers ≤ length t → ReadsRequest q t (request.Asked id limit place count k) t′
+    → RequestHeld q (record { id = id; most = most; limit = limit; place = place; count = count; known = k }) t′
+request-read q t t′ id most limit place count k c h r =
     let f = request-table-free q t [] .1 in
     let l = request-held q t h in
     let m = asked-known q t id limit place count k (sym (r .0)) in
@@ -138,5 +139,6 @@ request-read q t t′ id limit place count k h r =
       held = rw (← m) (r .2 ∙ f);
       normal = rw (← f) (r .3);
       most = omega arith;
+      carried = c;
       room = rw (r .1, l .long) h;
     }

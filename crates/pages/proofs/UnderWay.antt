@@ -13,7 +13,8 @@ use Rattle.talk.specs.Ranges.{insert}
 use Rattle.talk.specs.declared.range.Range.{Range}
 use Rattle.talk.proofs.Insertion.{length-insert}
 use Rattle.talk.proofs.PageRule.{every-none, every-more}
-use Rattle.ranges.specs.RangeTable.{rangesAt}
+use Rattle.ranges.specs.RangeTable.{rangeWidth, rangesAt}
+use Rattle.store.specs.Knowledge.{mostSaid}
 use Rattle.store.specs.KnowledgeWritten.{rangesBytes}
 use Rattle.store.specs.declared.element.Element.{Element}
 use Rattle.ranges.proofs.RangeRows.{length-rows, laid-rows, length-laid}
@@ -73,17 +74,18 @@ pub record Under (w : List Element) (l : List Range) (t₀ : List ℕ) (b : Boun
   pub few : p .count ≤ p .place
   pub stored : p .bytes ≡ storedLength (take (p .count) w)
   pub small : p .bytes ≤ 2 ^ 24 * p .place
-  pub carried : p .ranges ≤ b .most
+  pub carried : p .ranges ≤ mostSaid
+  pub room : p .ranges * rangeWidth ≤ length t₀
   pub held : rangesAt t 0 (p .ranges) ≡ rangesWith l (take (p .count) w)
   pub spelled : p .spelled ≡ length (rangesBytes (rangesWith l (take (p .count) w)))
   pub laid : t ≡ laidAll (take (p .count) w) l t₀
   pub same-length : length t ≡ length t₀
   pub every : Every (sendable (b .most) (b .limit) (b .room) (tableMeasure (b .fixed) l w)) (p .count)
 
-pub under-start : (w : List Element) (l : List Range) (t₀ : List ℕ) (b : Bounds) (count : ℕ) → count ≤ b .most → rangesAt t₀ 0 count ≡ l
+pub under-start : (w : List Element) (l : List Range) (t₀ : List ℕ) (b : Bounds) (count : ℕ) → count ≤ mostSaid → count * rangeWidth ≤ length t₀ → rangesAt t₀ 0 count ≡ l
     → Under w l t₀ b w t₀ (record { count = 0; bytes = 0; place = 0; ranges = count; spelled = length (rangesBytes l) })
 unfolding rangesWith storedLength laidAll
-under-start w l t₀ b count h e =
+under-start w l t₀ b count h k e =
     record {
       rest = refl;
       within = omega arith;
@@ -91,6 +93,7 @@ under-start w l t₀ b count h e =
       stored = refl;
       small = omega arith;
       carried = h;
+      room = k;
       held = e;
       spelled = refl;
       laid = refl;
@@ -120,6 +123,7 @@ module _ {w : List Element} {l : List Range} {t₀ : List ℕ} {b : Bounds} {ahe
         stored = u .stored;
         small = omega (arith, u .small);
         carried = u .carried;
+        room = u .room;
         held = u .held;
         spelled = u .spelled;
         laid = u .laid;
@@ -176,10 +180,10 @@ module _ {w : List Element} {l : List Range} {t₀ : List ℕ} {b : Bounds} {x :
       (stop-law (b .most) (b .limit) (b .room) (tableMeasure (b .fixed) l w) (length w) (p .count) (one-left w (p .count) (u .rest)) (u .every) (sym sendable-then ∙ f)))
 
   -- the page with it is sendable
-  pub under-take : (t′ : List ℕ) → b .most * 4 ≤ length t₀ → x .length ≤ 2 ^ 24 → t′ ≡ laidWith x (rangesAt t 0 (p .ranges)) t
+  pub under-take : (t′ : List ℕ) → b .most ≤ mostSaid → b .most * rangeWidth ≤ length t₀ → x .length ≤ 2 ^ 24 → t′ ≡ laidWith x (rangesAt t 0 (p .ranges)) t
       → isSendable (b .most) (b .limit) (b .room) (p .count + 1) (p .bytes + x .length) (q .ranges) (wholeOf (b .fixed) (p .bytes + x .length) (q .ranges) (q .spelled)) ≡ true
       → Under w l t₀ b r t′ (record { count = p .count + 1; bytes = p .bytes + x .length; place = p .place + 1; ranges = q .ranges; spelled = q .spelled })
-  under-take t′ room light d f =
+  under-take t′ most room light d f =
       let now = rangesAt t 0 (p .ranges) in
       let c : q .ranges ≤ b .most = sendable-ranges (b .most) (b .limit) (b .room) (p .count + 1) (p .bytes + x .length) (q .ranges) (wholeOf (b .fixed) (p .bytes + x .length) (q .ranges) (q .spelled)) f in
       let g : laidWith x now t ≡ laidWith x (rangesWith l (take (p .count) w)) (laidAll (take (p .count) w) l t₀) = cc (u .held, u .laid) in
@@ -190,7 +194,8 @@ module _ {w : List Element} {l : List Range} {t₀ : List ℕ} {b : Bounds} {x :
         few = omega (arith, u .few);
         stored = stored-then;
         small = omega (arith, u .small);
-        carried = c;
+        carried = omega (arith, c, most);
+        room = omega (arith, c, room);
         held = rw d (ap (rangesAt (laidWith x now t) 0) (priced .counted) ∙ laid-rows (insert (serialRange x) now) _ ∙ ranges-then);
         spelled = spelled-then;
         laid = d ∙ g ∙ sym (laid-next w (p .count) (u .rest) l t₀);

@@ -12,6 +12,7 @@ use Rattle.numbers.specs.declared.refusal.Refusal.{Refusal}
 use Rattle.objects.specs.declared.reading.Reading.{Reading}
 use Rattle.objects.specs.declared.reading.Reading.the-variants as reading
 use Rattle.talk.specs.declared.range.Range.{Range}
+use Rattle.ranges.specs.RangeTable.{rangeWidth}
 use Rattle.store.specs.KnowledgeWritten.{guidOf}
 use Rattle.store.specs.Store.{storeWalk}
 use Rattle.store.specs.Tables.{rowWidth, rowNumbers, rowsOf}
@@ -20,7 +21,7 @@ use Rattle.request.specs.Message.{filtersOf, requestKnowing, requestIn}
 use Rattle.request.specs.declared.message.Request.{Request}
 use Rattle.request.specs.declared.message.Request.the-variants as request
 use Rattle.pages.specs.Choice.{wantedIn, rangesWith, storedLength, storageIndex}
-use Rattle.pages.specs.Decision.{Measure, mostRanges, decision}
+use Rattle.pages.specs.Decision.{Measure, mostCarried, decision}
 use Rattle.pages.specs.Written.{answerBytes}
 use Rattle.pages.specs.declared.page.Decided.{Decided}
 use Rattle.pages.specs.declared.page.Decided.the-variants.{Sent, Crowded, Short}
@@ -38,11 +39,13 @@ numberIn (answered w all l) = 0
 
 -- ---- one page
 
--- what an answer is made of: the store's bytes and elements, the request's id, limit and ranges, and the wanted elements
+-- what an answer is made of: the store's bytes and elements, the request's id, how many ranges a page may carry, the request's limit
+-- and ranges, and the wanted elements
 pub record Ask : Type 0 where
   pub store : List ℕ
   pub elements : List Element
   pub id : ℕ
+  pub most : ℕ
   pub limit : ℕ
   pub known : List Range
   pub wanted : List Element
@@ -72,7 +75,7 @@ onDecided a Crowded = refused (faultAt 9 0)
 onDecided a (Short n) = refused (tooShort n)
 
 unfoldable pub pageDecided : Ask → ℕ → Decided
-pageDecided a room = decision mostRanges (a .limit) room (pageMeasure a) (length (a .wanted))
+pageDecided a room = decision (a .most) (a .limit) room (pageMeasure a) (length (a .wanted))
 
 unfoldable pub pageOutcome : Ask → ℕ → Outcome
 pageOutcome a room = onDecided a (pageDecided a room)
@@ -83,16 +86,21 @@ pageOutcome a room = onDecided a (pageDecided a room)
 abbrev pub knownIn : List ℕ → List Range
 knownIn q = requestKnowing q [] .ranges
 
-abbrev pub askOf : List ℕ → List Element → List ℕ → ℕ → ℕ → Ask
-askOf s all q id limit =
+-- with pages of so many ranges at most
+abbrev pub askFor : ℕ → List ℕ → List Element → List ℕ → ℕ → ℕ → Ask
+askFor most s all q id limit =
     record {
       store = s;
       elements = all;
       id = id;
+      most = most;
       limit = limit;
       known = knownIn q;
       wanted = wantedIn (filtersOf q) (knownIn q) all;
     }
+
+abbrev pub askOf : List ℕ → List Element → List ℕ → ℕ → ℕ → Ask
+askOf s all q id limit = askFor mostCarried s all q id limit
 
 unfoldable pub onRequest : List ℕ → List Element → List ℕ → ℕ → Request → Outcome
 onRequest s all q room (request.Asked id limit place count rows) = pageOutcome (askOf s all q id limit) room
@@ -107,10 +115,14 @@ onStore s all q room (reading.Refused r) = refused r
 unfoldable pub outcome : List ℕ → List ℕ → ℕ → Outcome
 outcome s q room = onStore s (storeWalk s .elements) q room (storeWalk s .last)
 
+-- "knowledge table under 2,048"
+abbrev pub knowledgeNumbers : ℕ
+knowledgeNumbers = 2048
+
 -- 13: "store table under 1,536 numbers or knowledge table under 2,048"
 unfoldable pub answerOf : List ℕ → List ℕ → ℕ → ℕ → ℕ → Outcome
 answerOf s q rows ranges room =
-    pick (ltb rows rowNumbers) (refused (faultAt 13 0)) (pick (ltb ranges 2048) (refused (faultAt 13 0)) (outcome s q room))
+    pick (ltb rows rowNumbers) (refused (faultAt 13 0)) (pick (ltb ranges knowledgeNumbers) (refused (faultAt 13 0)) (outcome s q room))
 
 -- ---- what the call answers: "The call returns the answer's length and both row counts"
 
@@ -140,7 +152,7 @@ rowsAfter (answered w all l) t = rowsOf all ++ drop (length all * rowWidth) t
 
 unfoldable pub rangesAfter : Outcome → List ℕ → List ℕ
 rangesAfter (refused r) t = t
-rangesAfter (answered w all l) t = rangeRows l ++ drop (length l * 4) t
+rangesAfter (answered w all l) t = rangeRows l ++ drop (length l * rangeWidth) t
 
 unfoldable pub outputAfter : Outcome → List ℕ → List ℕ
 outputAfter (refused r) out = out

@@ -36,11 +36,11 @@ OverLong s q = (longestInput < length s) ⊎ (Stands (storeWalk s .last) × (lon
 abbrev pub smallest : Ask → ℕ
 smallest a = min 1 (length (a .wanted))
 
--- a page of 1 does not need over 512 ranges
+-- a page of 1 does not need more ranges than a page may carry
 abbrev pub Few : Ask → Type 0
-Few a = 0 < length (a .wanted) → length (pageRanges a 1) ≤ 512
+Few a = 0 < length (a .wanted) → length (pageRanges a 1) ≤ a .most
 
--- 14: this is asked, and its smallest page does not fit, though it does not need over 512 ranges
+-- 14: this is asked, and its smallest page does not fit, though it does not need too many ranges
 pub record TooShort (s q : List ℕ) (room : ℕ) (a : Ask) : Type 0 where
   pub asks : Asks s q a
   pub few : Few a
@@ -49,7 +49,7 @@ pub record TooShort (s q : List ℕ) (room : ℕ) (a : Ask) : Type 0 where
 -- where nothing is refused, the greatest page is sent: its bytes w, with all of the store's elements and the page's ranges for the tables
 pub record Sends (a : Ask) (room : ℕ) (w : List ℕ) (all : List Element) (l : List Range) : Type 0 where
   pub count : ℕ
-  pub greatest : Greatest (sendable 512 (a .limit) room (pageMeasure a)) (length (a .wanted)) count
+  pub greatest : Greatest (sendable (a .most) (a .limit) room (pageMeasure a)) (length (a .wanted)) count
   pub bytes-are : w ≡ pageBytes a count
   pub elements-are : all ≡ a .elements
   pub ranges-are : l ≡ pageRanges a count

@@ -13,9 +13,9 @@ use Rattle.talk.specs.Page.{pageCount}
 use Rattle.pages.specs.declared.page.Decided.{Decided}
 use Rattle.pages.specs.declared.page.Decided.the-variants.{Sent, Crowded, Short}
 
--- "at most 512 ranges"
-abbrev pub mostRanges : ℕ
-mostRanges = 512
+-- "carries at most 512 ranges"
+abbrev pub mostCarried : ℕ
+mostCarried = 512
 
 -- what the page of the first j asks
 pub record Measure : Type 0 where

@@ -9,7 +9,8 @@ use Rattle.numbers.specs.declared.extended_guid.ExtendedGuid.{ExtendedGuid}
 use Rattle.objects.specs.declared.reading.Reading.the-variants.{At}
 use Rattle.talk.specs.Ranges.{Normal}
 use Rattle.talk.specs.declared.range.Range.{Range}
-use Rattle.ranges.specs.RangeTable.{rangesAt}
+use Rattle.ranges.specs.RangeTable.{rangeWidth, rangesAt}
+use Rattle.store.specs.Knowledge.{mostSaid, saidNumbers}
 use Rattle.store.specs.Store.{storeWalk}
 use Rattle.store.specs.Tables.{rowWidth}
 use Rattle.store.specs.declared.element.Element.{Element}
@@ -17,19 +18,19 @@ use Rattle.request.specs.Choice.{flagsOf, setFlags}
 use Rattle.request.specs.Meaning.{filtersRead, letsIn}
 use Rattle.request.specs.Message.{filtersOf}
 use Rattle.pages.specs.Choice.{isKnown}
-use Rattle.pages.specs.Decision.{mostRanges}
 use Rattle.pages.specs.Tables.{takenIn, laidAll, fixedLength}
-use Rattle.pages.specs.Answer.{Ask, askOf, knownIn, pageDecided, rangeRows}
+use Rattle.pages.specs.Answer.{Ask, askFor, knownIn, pageDecided, rangeRows}
 use Rattle.pages.specs.declared.page.Bounds.{Bounds}
 use Rattle.pages.specs.declared.answer.Asked.{Asked}
 
--- the filters stand where it is told, and the ranges stand in the working table
+-- the filters stand where it is told, and the ranges stand in the working table, which has room for those of a page
 pub record RequestHeld (q : List ℕ) (a : Asked) (known : List ℕ) : Type 0 where
   pub filters : filtersRead (a .count) q (At (a .place) 0) ≡ filtersOf q
   pub held : rangesAt known 0 (a .known) ≡ knownIn q
   pub normal : Normal (knownIn q)
-  pub most : a .known ≤ 512
-  pub room : 2048 ≤ length known
+  pub most : a .known ≤ mostSaid
+  pub carried : a .most ≤ mostSaid
+  pub room : saidNumbers ≤ length known
 
 -- the flags of some elements, where these ranges are known: 1 where one is wanted, 0 where not, and behind them what was there
 abbrev pub wantedFlags : List ℕ → Asked → List Range → List Element → List ℕ → List ℕ
@@ -37,11 +38,11 @@ wantedFlags q a known all behind = setFlags (isKnown known) 0 all (flagsOf (lets
 
 -- what is to be answered
 abbrev pub askIn : List ℕ → List ℕ → Asked → Ask
-askIn s q a = askOf s (storeWalk s .elements) q (a .id) (a .limit)
+askIn s q a = askFor (a .most) s (storeWalk s .elements) q (a .id) (a .limit)
 
 -- what is asked of a page: at most so many ranges, the limit, and room in the output
 abbrev pub boundsFor : Asked → ExtendedGuid → ℕ → Bounds
-boundsFor a index room = record { most = mostRanges; limit = a .limit; fixed = fixedLength (a .id) index; room = room }
+boundsFor a index room = record { most = a .most; limit = a .limit; fixed = fixedLength (a .id) index; room = room }
 
 -- the working table of ranges then: with the serial numbers of those that are sent
 abbrev pub knownAfter : Ask → ℕ → List ℕ → List ℕ
@@ -53,4 +54,4 @@ abbrev pub PageSent : List ℕ → List ℕ → ℕ → List ℕ → ℕ → Lis
 PageSent bytes elements n known count out out′ rows rows′ ranges ranges′ =
     (out′ ≡ bytes ++ drop (length bytes) out)
     × (rows′ ≡ take (n * rowWidth) elements ++ drop (n * rowWidth) rows)
-    × (ranges′ ≡ rangeRows (rangesAt known 0 count) ++ drop (count * 4) ranges)
+    × (ranges′ ≡ rangeRows (rangesAt known 0 count) ++ drop (count * rangeWidth) ranges)

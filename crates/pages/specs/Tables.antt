@@ -13,9 +13,10 @@ use Rattle.numbers.specs.ExtendedGuid.{extendedGuidBytes}
 use Rattle.numbers.specs.declared.extended_guid.ExtendedGuid.{ExtendedGuid}
 use Rattle.objects.specs.Header.{endBytes}
 use Rattle.talk.specs.Each.{Each}
-use Rattle.talk.specs.Ranges.{insert, Normal}
+use Rattle.talk.specs.Ranges.{insert}
 use Rattle.talk.specs.declared.range.Range.{Range}
-use Rattle.ranges.specs.RangeTable.{FirstNotBefore, rangesAt, laidRanges}
+use Rattle.ranges.specs.RangeTable.{FirstNotBefore, rangesAt, laidRanges, rangeWidth, RangesStand}
+use Rattle.store.specs.Knowledge.{mostSaid}
 use Rattle.store.specs.KnowledgeWritten.{rangesBytes}
 use Rattle.store.specs.Store.{storeWalk}
 use Rattle.store.specs.Tables.{rowWidth, mostElements, RowsStand, rowsOf, elementInRow, elementsIn}
@@ -110,10 +111,10 @@ pub record ToDecide (rows ids : List ℕ) (n : ℕ) (flags t : List ℕ) (count 
   pub few : n ≤ mostElements
   pub short : (i : ℕ) → i < n → elementInRow rows ids i .length ≤ 2 ^ 24
   pub flagged : n ≤ length flags
-  pub carried : count ≤ most
-  pub most-carried : most ≤ 512
-  pub room : 2048 ≤ length t
-  pub normal : Normal (rangesAt t 0 count)
+  pub carried : count ≤ mostSaid
+  pub most-carried : most ≤ mostSaid
+  pub room : most * rangeWidth ≤ length t
+  pub ranges-stand : RangesStand t count
 
 -- what deciding promises: the decision, and the working table at exit
 abbrev pub Decides : List Element → List Range → Bounds → Decided → List ℕ → List ℕ → Type 0
@@ -132,8 +133,8 @@ sentBytes store rows ids n flags page table =
 pub record ToSend (store rows ids : List ℕ) (n : ℕ) (flags : List ℕ) (page : Sending) (table : List ℕ) (room : ℕ) : Type 0 where
   pub stand : RowsStand rows ids n
   pub flagged : n ≤ length flags
-  pub few : page .ranges ≤ 512
-  pub ranges-stand : page .ranges * 4 ≤ length table
+  pub few : page .ranges ≤ mostSaid
+  pub ranges-stand : page .ranges * rangeWidth ≤ length table
   pub fits : length (sentBytes store rows ids n flags page table) ≤ room
 
 -- ---- an answer as it is laid: up to the first element, from behind the last to the knowledge, and the ends

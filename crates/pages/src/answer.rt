@@ -4,13 +4,12 @@ ghost use mathlib.Core.Path.{_≡_};
 ghost use Prim.Native.Nat.{_*_, _≤_};
 ghost use mathlib.Core.List.{[]};
 ghost use lib.ListN.{length, drop};
-ghost use Rattle.talk.specs.Ranges.{Normal};
-ghost use Rattle.ranges.specs.RangeTable.{rangesAt};
+ghost use Rattle.ranges.specs.RangeTable.{rangeWidth, rangesAt, RangesStand};
 ghost use Rattle.store.specs.Store.{storeWalk};
 ghost use Rattle.request.specs.Message.{requestIn};
 ghost use Rattle.store.specs.Tables.{rowWidth, rowNumbers, RowsStand, elementsIn};
 ghost use Rattle.pages.specs.Tables.{StoreHeld, ToDecide, Decides, chosenIn, ToSend, sentBytes};
-ghost use Rattle.pages.specs.Answer.{onRequest, outcome, pageOutcome, Gives, Answers};
+ghost use Rattle.pages.specs.Answer.{onRequest, outcome, knowledgeNumbers, pageOutcome, Gives, Answers};
 ghost use Rattle.pages.specs.Held.{RequestHeld, askIn, wantedFlags, boundsFor, knownAfter, PageSent};
 use crate::page::Bounds;
 use crate::page::Decided;
@@ -30,7 +29,6 @@ use objects::reading::Reading;
 use request::choice::choose;
 use request::message::Request;
 use request::message::read_request;
-use store::knowledge::MOST_SAID;
 use store::knowledge::SAID_NUMBERS;
 use store::package::Stored;
 use store::package::read_store;
@@ -42,15 +40,20 @@ use store::table::ROW_WIDTH;
 // How many numbers the lent table of ranges has at least; that of the store has those of its working table.
 pub const KNOWLEDGE_NUMBERS: usize = 2048;
 
+// A page carries at most so many ranges.
+pub const MOST_CARRIED: usize = 512;
+
 // The answer's length, how many rows the store's table has, and how many the knowledge's; or the refusal.
 pub enum Answered {
     Sent(usize, usize, usize),
     Refused(Refusal),
 }
 
-// A request that was read: its id and its limit, where its filters stand, how many they are, and how many ranges are known.
+// A request that was read: its id, how many ranges a page for it may carry, its limit, where its filters stand, how many they are,
+// and how many ranges are known.
 pub struct Asked {
     pub id: u64,
+    pub most: usize,
     pub limit: u64,
     pub place: usize,
     pub count: u64,
@@ -67,7 +70,7 @@ fn mark_wanted(
     known: &[u64],
     flags: &mut [u8],
 )
-    requires { ⌜ RowsStand (now elements) (now ids) n × (n ≤ length (now flags)) × (a .known * 4 ≤ length (now known)) × Normal (rangesAt (now known) 0 (a .known)) ⌝ }
+    requires { ⌜ RowsStand (now elements) (now ids) n × (n ≤ length (now flags)) × RangesStand (now known) (a .known) ⌝ }
     ensures { λ _. ⌜ now (flags .exit) ≡ wantedFlags (now (request .entry)) a (rangesAt (now (known .entry)) 0 (a .known)) (elementsIn (now (elements .entry)) (now (ids .entry)) n) (drop n (now (flags .entry))) ⌝ }
 {
     choose(
@@ -82,12 +85,12 @@ fn mark_wanted(
     clear_known(elements, ids, n, known, a.known, flags);
 }
 
-// What is asked of a page: at most 512 ranges, the limit, and room in the output.
+// What is asked of a page: at most so many ranges, the limit, and room in the output.
 fn bounds_of(a: Asked, index: ExtendedGuid, room: usize) -> Bounds
     ensures { λ r. ⌜ (r ≡ boundsFor a index room) × (r .fixed ≤ 69) ⌝ }
 {
     Bounds {
-        most: MOST_SAID,
+        most: a.most,
         limit: a.limit,
         fixed: fixed_length(a.id, index),
         room,
@@ -106,7 +109,7 @@ fn decide_page(
     flags: &mut [u8],
     room: usize,
 ) -> Decided
-    requires { ⌜ ToDecide (now elements) (now ids) n (now flags) (now known) (a .known) 512 ⌝ }
+    requires { ⌜ ToDecide (now elements) (now ids) n (now flags) (now known) (a .known) (a .most) ⌝ }
     ensures { λ r. ⌜ (now (flags .exit) ≡ wantedFlags (now (request .entry)) a (rangesAt (now (known .entry)) 0 (a .known)) (elementsIn (now (elements .entry)) (now (ids .entry)) n) (drop n (now (flags .entry)))) × Decides (chosenIn (now (elements .entry)) (now (ids .entry)) n (now (flags .exit))) (rangesAt (now (known .entry)) 0 (a .known)) (boundsFor a index room) r (now (known .entry)) (now (known .exit)) ⌝ }
 {
     mark_wanted(request, a, elements, ids, n, known, flags);
@@ -127,7 +130,7 @@ fn send_page(
     rows: &mut [u64],
     ranges: &mut [u64],
 )
-    requires { ⌜ ToSend (now store) (now elements) (now ids) n (now flags) page (now known) (length (now out)) × (n * rowWidth ≤ length (now rows)) × (page .ranges * 4 ≤ length (now ranges)) ⌝ }
+    requires { ⌜ ToSend (now store) (now elements) (now ids) n (now flags) page (now known) (length (now out)) × (n * rowWidth ≤ length (now rows)) × (page .ranges * rangeWidth ≤ length (now ranges)) ⌝ }
     ensures { λ _. ⌜ PageSent (sentBytes (now (store .entry)) (now (elements .entry)) (now (ids .entry)) n (now (flags .entry)) page (now (known .entry))) (now (elements .entry)) n (now (known .entry)) (page .ranges) (now (out .entry)) (now (out .exit)) (now (rows .entry)) (now (rows .exit)) (now (ranges .entry)) (now (ranges .exit)) ⌝ }
 {
     write_answer(out, store, elements, ids, n, flags, page, known);
@@ -148,7 +151,7 @@ fn answer_page(
     ranges: &mut [u64],
     out: &mut [u8],
 ) -> Answered
-    requires { ⌜ StoreHeld (now store) (now elements) (now ids) n × RequestHeld (now request) a (now known) × (rowNumbers ≤ length (now rows)) × (2048 ≤ length (now ranges)) ⌝ }
+    requires { ⌜ StoreHeld (now store) (now elements) (now ids) n × RequestHeld (now request) a (now known) × (rowNumbers ≤ length (now rows)) × (knowledgeNumbers ≤ length (now ranges)) ⌝ }
     ensures { λ r. ⌜ Gives (pageOutcome (askIn (now (store .entry)) (now (request .entry)) a) (length (now (out .entry)))) r (now (rows .entry)) (now (rows .exit)) (now (ranges .entry)) (now (ranges .exit)) (now (out .entry)) (now (out .exit)) × (now (known .exit) ≡ knownAfter (askIn (now (store .entry)) (now (request .entry)) a) (length (now (out .entry))) (now (known .entry))) ⌝ }
 {
     let mut flags = [0u8; MOST_ELEMENTS];
@@ -193,7 +196,7 @@ fn answer_request(
     ranges: &mut [u64],
     out: &mut [u8],
 ) -> Answered
-    requires { ⌜ StoreHeld (now store) (now elements) (now ids) n × (rowNumbers ≤ length (now rows)) × (2048 ≤ length (now ranges)) ⌝ }
+    requires { ⌜ StoreHeld (now store) (now elements) (now ids) n × (rowNumbers ≤ length (now rows)) × (knowledgeNumbers ≤ length (now ranges)) ⌝ }
     ensures { λ r. ⌜ Gives (onRequest (now (store .entry)) (storeWalk (now (store .entry)) .elements) (now (request .entry)) (length (now (out .entry))) (requestIn (now (request .entry)) [])) r (now (rows .entry)) (now (rows .exit)) (now (ranges .entry)) (now (ranges .exit)) (now (out .entry)) (now (out .exit)) ⌝ }
 {
     let mut known = [0u64; SAID_NUMBERS];
@@ -202,6 +205,7 @@ fn answer_request(
         Request::Asked(id, limit, place, count, k) => {
             let a = Asked {
                 id,
+                most: MOST_CARRIED,
                 limit,
                 place,
                 count,
@@ -231,7 +235,7 @@ fn answer_store(
     ranges: &mut [u64],
     out: &mut [u8],
 ) -> Answered
-    requires { ⌜ (rowNumbers ≤ length (now rows)) × (2048 ≤ length (now ranges)) ⌝ }
+    requires { ⌜ (rowNumbers ≤ length (now rows)) × (knowledgeNumbers ≤ length (now ranges)) ⌝ }
     ensures { λ r. ⌜ Gives (outcome (now (store .entry)) (now (request .entry)) (length (now (out .entry)))) r (now (rows .entry)) (now (rows .exit)) (now (ranges .entry)) (now (ranges .exit)) (now (out .entry)) (now (out .exit)) ⌝ }
 {
     let mut elements = [0u64; ROW_NUMBERS];

@@ -3,7 +3,7 @@
 ghost use mathlib.Core.Path.{_≡_};
 ghost use Prim.Native.Nat.{_+_, _*_, _^_, _≤_, _<_};
 ghost use lib.ListN.{length};
-ghost use Rattle.ranges.specs.RangeTable.{rangesAt};
+ghost use Rattle.ranges.specs.RangeTable.{rangeWidth, rangesAt};
 ghost use Rattle.store.specs.Tables.{mostElements};
 ghost use Rattle.pages.specs.Choice.{serialRange};
 ghost use Rattle.pages.specs.Decision.{isSendable};
@@ -100,7 +100,7 @@ impl Page {
 
     // Takes the wanted element at the place, whose price is p: its serial number goes into the rows.
     fn take(self, t: &mut [u64], x: Element, p: Price) -> Page
-        requires { ⌜ (self .count < mostElements) × (self .place < mostElements) × (self .bytes + x .length < 2 ^ 64) × (self .ranges * 4 ≤ length (now t)) × (p .ranges * 4 ≤ length (now t)) × Priced (now t) (self .ranges) (serialRange x) p ⌝ }
+        requires { ⌜ (self .count < mostElements) × (self .place < mostElements) × (self .bytes + x .length < 2 ^ 64) × (self .ranges * rangeWidth ≤ length (now t)) × (p .ranges * rangeWidth ≤ length (now t)) × Priced (now t) (self .ranges) (serialRange x) p ⌝ }
         ensures { λ r. ⌜ (r ≡ record { count = self .count + 1; bytes = self .bytes + x .length; place = self .place + 1; ranges = p .ranges; spelled = p .spelled }) × (now (t .exit) ≡ laidWith x (rangesAt (now (t .entry)) 0 (self .ranges)) (now (t .entry))) ⌝ }
     {
         shift(t, p.at, p.next, self.ranges, p.range);

@@ -4,7 +4,8 @@ ghost use mathlib.Core.Path.{_≡_};
 ghost use Prim.Native.Nat.{_*_, _≤_};
 ghost use lib.ListN.{length};
 ghost use Rattle.talk.specs.Ranges.{Normal};
-ghost use Rattle.ranges.specs.RangeTable.{rangesAt};
+ghost use Rattle.ranges.specs.RangeTable.{rangeWidth, rangesAt};
+ghost use Rattle.store.specs.Knowledge.{mostSaid};
 ghost use Rattle.store.specs.KnowledgeWritten.{rangesBytes};
 ghost use Rattle.pages.specs.Choice.{serialRange};
 ghost use Rattle.pages.specs.Tables.{Priced};
@@ -37,7 +38,7 @@ pub(crate) fn serial_range(x: Element) -> Range
 // The price of x, where the first `count` rows take `spelled` bytes. Ruled out (proofs/WrongAnswers), in an empty table: no row
 // for a new range; its GUID not counted.
 pub(crate) fn price_of(t: &[u64], count: usize, spelled: usize, x: Range) -> Price
-    requires { ⌜ (count ≤ 512) × (count * 4 ≤ length (now t)) × (spelled ≡ length (rangesBytes (rangesAt (now t) 0 count))) × Normal (rangesAt (now t) 0 count) ⌝ }
+    requires { ⌜ (count ≤ mostSaid) × (count * rangeWidth ≤ length (now t)) × (spelled ≡ length (rangesBytes (rangesAt (now t) 0 count))) × Normal (rangesAt (now t) 0 count) ⌝ }
     ensures { λ r. ⌜ Priced (now (t .entry)) count x r ⌝ }
 {
     let at = rows_before(t, count, x);

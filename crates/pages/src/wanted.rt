@@ -3,8 +3,7 @@ ghost use mathlib.Core.Path.{_≡_};
 ghost use Prim.Native.Nat.{ℕ, _+_, _*_, _^_, _≤_, _<_};
 ghost use lib.ListN.{length};
 ghost use Rattle.numbers.specs.declared.extended_guid.ExtendedGuid.the-variants.{Named};
-ghost use Rattle.talk.specs.Ranges.{Normal};
-ghost use Rattle.ranges.specs.RangeTable.{rangesAt};
+ghost use Rattle.ranges.specs.RangeTable.{rangesAt, RangesStand};
 ghost use Rattle.store.specs.Written.{guidOf};
 ghost use Rattle.store.specs.Tables.{RowsStand, elementInRow, elementsIn};
 ghost use Rattle.request.specs.Choice.{setFlags};
@@ -30,7 +29,7 @@ pub(crate) fn guid_of(k: Key) -> Guid
 
 // Whether the first rows of the table of ranges hold an element's serial number.
 fn knows_element(table: &[u64], count: usize, x: Element) -> bool
-    requires { ⌜ (count * 4 ≤ length (now table)) × Normal (rangesAt (now table) 0 count) ⌝ }
+    requires { ⌜ RangesStand (now table) count ⌝ }
     ensures { λ r. ⌜ r ≡ isKnown (rangesAt (now (table .entry)) 0 count) x ⌝ }
 {
     let serial = x.serial;
@@ -47,7 +46,7 @@ pub(crate) fn clear_known(
     count: usize,
     flags: &mut [u8],
 )
-    requires { ⌜ RowsStand (now rows) (now ids) n × (n ≤ length (now flags)) × (count * 4 ≤ length (now table)) × Normal (rangesAt (now table) 0 count) ⌝ }
+    requires { ⌜ RowsStand (now rows) (now ids) n × (n ≤ length (now flags)) × RangesStand (now table) count ⌝ }
     ensures { λ _. ⌜ now (flags .exit) ≡ setFlags (isKnown (rangesAt (now (table .entry)) 0 count)) 0 (elementsIn (now (rows .entry)) (now (ids .entry)) n) (now (flags .entry)) ⌝ }
 {
     let mut i = 0;

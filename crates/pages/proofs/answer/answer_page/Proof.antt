@@ -6,6 +6,7 @@ use mathlib.Core.List.{List}
 use Prim.Native.Nat.{ℕ, _≤_}
 use native.Mathlib.Omega.{arith}
 use lib.ListN.{length}
+use Rattle.store.specs.Knowledge.{mostSaid}
 use Rattle.store.specs.Store.{storeWalk}
 use Rattle.pages.specs.Choice.{storageIndex}
 use Rattle.pages.specs.Tables.{chosenIn}
@@ -66,9 +67,9 @@ decide-page-requires c κs =
       short = short-row held;
       flagged = held .most;
       carried = given .most;
-      most-carried = omega arith;
-      room = given .room;
-      normal = rw (given .held) (given .normal);
+      most-carried = given .carried;
+      room = omega (arith, given .carried, given .room);
+      ranges-stand = (omega (arith, given .most, given .room), rw (given .held) (given .normal));
     }
 
 enum-told : tie.Need-enum-told
@@ -105,7 +106,7 @@ send-page-requires c κs =
     let lent-ranges = begun decided .pre .3 in
     let same-known = decided .decide-page .kept .1 .1 .1 .1 .1 .1 .0 in
     let same-flags = decided .decide-page .kept .1 .1 .1 .1 .1 .1 .1 .0 in
-    let few : k .1 .1 .0 ≤ 512 = sent-few (a .store .now) (a .request .now) (a .a) (a .elements .now) (a .ids .now) (a .known .now) (a .n) held given (a .out .now) (a .rows .now) (a .ranges .now) _ (k .0) (k .1 .0) (k .1 .1 .0) (k .1 .1 .1 .0) e (d .0) _ w _ (d .1) in
+    let few : k .1 .1 .0 ≤ mostSaid = sent-few (a .store .now) (a .request .now) (a .a) (a .elements .now) (a .ids .now) (a .known .now) (a .n) held given (a .out .now) (a .rows .now) (a .ranges .now) _ (k .0) (k .1 .0) (k .1 .1 .0) (k .1 .1 .1 .0) e (d .0) _ w _ (d .1) in
     let bytes = sent-bytes (a .store .now) (a .request .now) (a .a) (a .elements .now) (a .ids .now) (a .known .now) (a .n) held given (a .out .now) (a .rows .now) (a .ranges .now) _ (k .0) (k .1 .0) (k .1 .1 .0) (k .1 .1 .1 .0) e (d .0) _ w _ (d .1) in
     let fits = sent-fits (a .store .now) (a .request .now) (a .a) (a .elements .now) (a .ids .now) (a .known .now) (a .n) held given (a .out .now) (a .rows .now) (a .ranges .now) _ (k .0) (k .1 .0) (k .1 .1 .0) (k .1 .1 .1 .0) e (d .0) _ w _ (d .1) in (
       record { stand = held .stand; flagged = omega arith; few = few; ranges-stand = omega arith; fits = rw (index-is decided, bytes) fits },

@@ -4,6 +4,8 @@ use mathlib.Core.Path.{refl, _∙_}
 use Prim.Native.Nat.{ℕ}
 use native.Mathlib.Omega.{arith}
 use lib.ListN.{length-replicate}
+use Rattle.store.specs.Knowledge.{saidNumbers}
+use Rattle.pages.specs.Decision.{mostCarried}
 use Rattle.pages.specs.Answer.{onRequest, told, rowsAfter, rangesAfter, outputAfter}
 use Rattle.pages.proofs.Stored.{request-same, request-long, request-read}
 use borrow.Author.Needs.{needs}
@@ -22,7 +24,7 @@ enum-known-id c = search needs
 slice-aggregate-answer-page : tie.Need-slice-aggregate-answer-page
 slice-aggregate-answer-page c =
     let rr = c .before .before .before .before in
-    request-long _ _ _ _ (length-replicate {A = ℕ} 2048 0) (rr .read-request .ensures)
+    request-long _ _ _ _ (length-replicate {A = ℕ} saidNumbers 0) (rr .read-request .ensures)
 
 answer-page-requires : tie.Need-answer-page-requires
 answer-page-requires c κs =
@@ -30,7 +32,7 @@ answer-page-requires c κs =
     let rr = k .before .before in
     let st = rr .before .before .before .before .before .before .before .before .before in
     let q = st .args .request .now in
-    (st .pre .0, request-read q _ _ _ _ _ _ _ (omega (arith, length-replicate {A = ℕ} 2048 0)) (rw (k .id .given .1) at (rr .read-request .ensures)), st .pre .1, st .pre .2)
+    (st .pre .0, request-read q _ _ _ mostCarried _ _ _ _ (omega arith) (omega (arith, length-replicate {A = ℕ} saidNumbers 0)) (rw (k .id .given .1) at (rr .read-request .ensures)), st .pre .1, st .pre .2)
 
 returns : tie.Need-returns
 unfolding onRequest told rowsAfter rangesAfter outputAfter

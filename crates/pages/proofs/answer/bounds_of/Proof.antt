@@ -12,7 +12,7 @@ fixed-length-requires c κs = search needs
 returns : tie.Need-returns
 returns c =
     let a = c .before .args in
-    (ap (λ (f : ℕ). record { most = 512; limit = a .a .limit; fixed = f; room = a .room }) (c .fixed-length .ensures .0), c .fixed-length .ensures .1)
+    (ap (λ (f : ℕ). record { most = a .a .most; limit = a .a .limit; fixed = f; room = a .room }) (c .fixed-length .ensures .0), c .fixed-length .ensures .1)
 
 pub bounds-of-spec : {M : Type 1} → statement M
 bounds-of-spec = tie.close (tie.spec fixed-length-requires returns)

@@ -2,7 +2,6 @@
 -- Assumes nothing.
 use mathlib.Core.Path.{_≡_, ap}
 use native.Mathlib.Omega.{arith}
-use Rattle.pages.specs.Decision.{mostRanges}
 use Rattle.pages.specs.declared.page.Bounds.{Bounds}
 use borrow.Author.Needs.{needs}
 use Rattle.pages.proofs.answer.decide_page.Statement.{statement}
@@ -18,9 +17,10 @@ decide-requires : tie.Need-decide-requires
 decide-requires c κs =
     let bounds = c .before .before in
     let marked = bounds .before .before .before in
-    let lent = marked .before .before .before .before .before .before .before .before .pre in
+    let start = marked .before .before .before .before .before .before .before .before in
+    let lent = start .pre in
     let same = marked .mark-wanted .kept .1 .1 .1 .1 .1 .1 .0 in
-    let most : bounds .bounds-of .result .most ≡ mostRanges = ap (λ (b : Bounds). b .most) (bounds .bounds-of .ensures .0) in
+    let most : bounds .bounds-of .result .most ≡ start .args .a .most = ap (λ (b : Bounds). b .most) (bounds .bounds-of .ensures .0) in
     let fixed = bounds .bounds-of .ensures .1 in
     let flagged = lent .flagged in (
       record {
@@ -28,10 +28,10 @@ decide-requires c κs =
         few = lent .few;
         short = lent .short;
         flagged = omega arith;
-        carried = rw most (lent .carried);
+        carried = lent .carried;
         most-carried = rw most (lent .most-carried);
-        room = lent .room;
-        normal = lent .normal;
+        room = rw most (lent .room);
+        ranges-stand = lent .ranges-stand;
       },
       omega arith,
     )

@@ -7,7 +7,8 @@ use native.Mathlib.Omega.{arith}
 use lib.ListN.{length, take}
 use borrow.Author.Tests.{not-true, not-false}
 use Rattle.talk.specs.declared.range.Range.{Range}
-use Rattle.ranges.specs.RangeTable.{rangesAt}
+use Rattle.ranges.specs.RangeTable.{rangeWidth, rangesAt}
+use Rattle.store.specs.Knowledge.{mostSaid}
 use Rattle.store.specs.KnowledgeWritten.{rangesBytes}
 use Rattle.store.specs.Tables.{mostElements}
 use Rattle.store.proofs.Elements.{rows-up-to}
@@ -39,7 +40,7 @@ loop-holds c =
     let s = c .before .before .before .before .before .before .before in
     let a = s .args in
     let z : a .count - 0 ≡ a .count = omega arith in
-    rw (c .new .ensures, c .before .ranges-length .ensures .0, z, ← chosen-start (a .rows .now) (a .ids .now) (a .n) (a .flags .now)) (omega arith, under-start (chosenIn (a .rows .now) (a .ids .now) (a .n) (a .flags .now)) (rangesAt (a .t .now) 0 (a .count)) (a .t .now) (a .b) (a .count) (s .pre .0 .carried) refl)
+    rw (c .new .ensures, c .before .ranges-length .ensures .0, z, ← chosen-start (a .rows .now) (a .ids .now) (a .n) (a .flags .now)) (omega arith, under-start (chosenIn (a .rows .now) (a .ids .now) (a .n) (a .flags .now)) (rangesAt (a .t .now) 0 (a .count)) (a .t .now) (a .b) (a .count) (s .pre .0 .carried) (s .pre .0 .ranges-stand .0) refl)
 
 shared-slice-read-if2 : tie.Need-shared-slice-read-if2 Inv-loop μ-loop
 shared-slice-read-if2 c = search needs
@@ -83,11 +84,10 @@ price-of-requires c κs =
     let a = s .args in
     let p = l .loop .p in
     let u = l .loop .inv .1 in
-    let cap : p .ranges ≤ a .b .most = u .carried in
-    let most : a .b .most ≤ 512 = s .pre .0 .most-carried in
+    let cap : p .ranges ≤ mostSaid = u .carried in
     let long : length (l .loop .t) ≡ length (a .t .now) = u .same-length in
-    let room : 2048 ≤ length (a .t .now) = s .pre .0 .room in
-    (omega arith, omega arith, u .spelled ∙ ap (λ (r : List Range). length (rangesBytes r)) (sym (u .held)), rw (u .held) (normal-with (take (p .count) _) _ (s .pre .0 .normal)))
+    let room : p .ranges * rangeWidth ≤ length (a .t .now) = u .room in
+    (cap, omega arith, u .spelled ∙ ap (λ (r : List Range). length (rangesBytes r)) (sym (u .held)), rw (u .held) (normal-with (take (p .count) _) _ (s .pre .0 .ranges-stand .1)))
 
 add-stored : tie.Need-add-stored Inv-loop μ-loop
 add-stored c =
@@ -123,8 +123,7 @@ whole-of-requires c κs =
     let light : x .length ≤ 2 ^ 24 = rw (e .element-in-row .ensures) (s .pre .0 .short (p .place) i) in
     let small : p .bytes ≤ 2 ^ 24 * p .place = u .small in
     let fixed : a .b .fixed ≤ 2 ^ 32 = s .pre .1 in
-    let cap : p .ranges ≤ a .b .most = u .carried in
-    let most : a .b .most ≤ 512 = s .pre .0 .most-carried in
+    let cap : p .ranges ≤ mostSaid = u .carried in
     omega (arith, price-most v priced)
 
 add-is-sendable : tie.Need-add-is-sendable Inv-loop μ-loop
@@ -157,8 +156,7 @@ stop-requires c κs =
     let few-elements : a .n ≤ mostElements = s .pre .0 .few in
     let small : p .bytes ≤ 2 ^ 24 * p .place = u .small in
     let fixed : a .b .fixed ≤ 2 ^ 32 = s .pre .1 in
-    let cap : p .ranges ≤ a .b .most = u .carried in
-    let most : a .b .most ≤ 512 = s .pre .0 .most-carried in
+    let cap : p .ranges ≤ mostSaid = u .carried in
     let spelled : p .spelled ≤ 36 * p .ranges = spelled-most u in
     omega arith
 
@@ -197,10 +195,9 @@ take-requires c κs =
     let light : x .length ≤ 2 ^ 24 = rw (e .element-in-row .ensures) (s .pre .0 .short (p .place) i) in
     let small : p .bytes ≤ 2 ^ 24 * p .place = u .small in
     let few : p .count ≤ p .place = u .few in
-    let cap : p .ranges ≤ a .b .most = u .carried in
-    let most : a .b .most ≤ 512 = s .pre .0 .most-carried in
+    let held : p .ranges * rangeWidth ≤ length (a .t .now) = u .room in
     let long : length (l .loop .t) ≡ length (a .t .now) = u .same-length in
-    let room : 2048 ≤ length (a .t .now) = s .pre .0 .room in
+    let room : a .b .most * rangeWidth ≤ length (a .t .now) = s .pre .0 .room in
     let f = rw (c .before .before .before .before .whole-of .ensures) at (sym (c .before .before .is-sendable .ensures) ∙ not-false (c .before .before .is-sendable .result) (c .before .if3 .left)) in
     let g : q .ranges ≤ a .b .most = sendable-ranges (a .b .most) (a .b .limit) (a .b .room) (p .count + 1) (p .bytes + x .length) (q .ranges) _ f in
     let priced = rw (k .before .serial-range .ensures) at (k .price-of .ensures) in
@@ -233,11 +230,9 @@ loop-again-2 c =
     let v = under-same u (chosen-one (a .rows .now) (a .ids .now) (a .n) (a .flags .now) (p .place) i (omega arith) (e .before .if2 .left) (e .element-in-row .ensures)) in
     let priced = rw (k .before .serial-range .ensures) at (k .price-of .ensures) in
     let light : x .length ≤ 2 ^ 24 = rw (e .element-in-row .ensures) (s .pre .0 .short (p .place) i) in
-    let most : a .b .most ≤ 512 = s .pre .0 .most-carried in
-    let room : 2048 ≤ length (a .t .now) = s .pre .0 .room in
     let d = c .before .before in
     let f = rw (d .before .before .before .before .before .whole-of .ensures) at (sym (d .before .before .before .is-sendable .ensures) ∙ not-false (d .before .before .before .is-sendable .result) (d .before .before .if3 .left)) in
-    rw (d .take .ensures .0) (omega arith, under-take v priced (d .take .last .1 .0) (omega arith) light (d .take .ensures .1) f)
+    rw (d .take .ensures .0) (omega arith, under-take v priced (d .take .last .1 .0) (s .pre .0 .most-carried) (s .pre .0 .room) light (d .take .ensures .1) f)
 
 end-requires : tie.Need-end-requires Inv-loop μ-loop
 end-requires c κs =
@@ -250,8 +245,7 @@ end-requires c κs =
     let small : p .bytes ≤ 2 ^ 24 * p .place = u .small in
     let fixed : a .b .fixed ≤ 2 ^ 32 = s .pre .1 in
     let inside : p .place ≤ a .n = l .loop .inv .0 in
-    let cap : p .ranges ≤ a .b .most = u .carried in
-    let most : a .b .most ≤ 512 = s .pre .0 .most-carried in
+    let cap : p .ranges ≤ mostSaid = u .carried in
     let spelled : p .spelled ≤ 36 * p .ranges = spelled-most u in
     omega arith
 
