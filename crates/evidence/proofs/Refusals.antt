@@ -26,7 +26,7 @@ use Rattle.request.specs.Message.{requestIn}
 use Rattle.request.specs.declared.message.Request.the-variants as request′
 use Rattle.request.proofs.FaultNumbers.{request-number, request-input, request-needed}
 use Rattle.request.proofs.Places.{request-fault}
-use Rattle.pages.specs.Answer.{Ask, Outcome, refused, pageBytes, pageRanges, pageOutcome, onRequest, onStore, outcome, answerOf}
+use Rattle.pages.specs.Answer.{Ask, Outcome, refused, pageBytes, pageRanges, pageOutcome, onRequest, onStore, outcome, answerOf, knowledgeNumbers}
 use Rattle.pages.specs.Cases.{smallest, Few, Asks}
 use Rattle.pages.proofs.PageCases.{nine-if, fourteen-if, page-answered}
 use Rattle.pages.proofs.Refusing.{Course, course, thirteen-if, tables-fine, call-of-fourteen, call-of-nine}
@@ -44,11 +44,11 @@ use Rattle.evidence.specs.BenchRefusing.{WhyAsk, WhyRead, WhyElement}
 -- ---- the tables come first
 
 pub by-tables : (s q : List ℕ) (rows ranges room : ℕ)
-    → (((rows < 1536) ⊎ (ranges < 2048)) × (answerOf s q rows ranges room ≡ refused (faultAt 13 0)))
+    → (((rows < 1536) ⊎ (ranges < knowledgeNumbers)) × (answerOf s q rows ranges room ≡ refused (faultAt 13 0)))
     ⊎ (Tables rows ranges × (answerOf s q rows ranges room ≡ outcome s q room))
 by-tables s q rows ranges room =
     by-lt rows 1536 (λ l. inl (inl l, thirteen-if s q rows ranges room (inl l)))
-    (λ l. by-lt ranges 2048 (λ m. inl (inr m, thirteen-if s q rows ranges room (inr m))) (λ m. inr ((l, m), tables-fine s q rows ranges room l m)))
+    (λ l. by-lt ranges knowledgeNumbers (λ m. inl (inr m, thirteen-if s q rows ranges room (inr m))) (λ m. inr ((l, m), tables-fine s q rows ranges room l m)))
 
 -- ---- the answering call: refused exactly when
 

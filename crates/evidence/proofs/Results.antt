@@ -17,7 +17,7 @@ use Rattle.store.specs.Accessor.{tellFound}
 use Rattle.store.specs.declared.accessor.Found.{Found}
 use Rattle.store.specs.declared.accessor.Found.the-variants as found
 use Rattle.store.specs.declared.element.Element.{Element}
-use Rattle.pages.specs.Answer.{Outcome, refused, answered, numberIn, told, rowsAfter, rangesAfter, answerOf, Gives, Answers, outputAfter as answerAfter}
+use Rattle.pages.specs.Answer.{Outcome, refused, answered, numberIn, told, rowsAfter, rangesAfter, answerOf, Gives, Answers, outputAfter as answerAfter, knowledgeNumbers}
 use Rattle.pages.specs.Cases.{Sends}
 use Rattle.pages.specs.declared.answer.Answered.{Answered}
 use Rattle.pages.specs.declared.answer.Answered.the-variants.{Sent, Refused}
@@ -108,16 +108,16 @@ module _ (s q : List ℕ) (r : Answered) (rows rows′ ranges ranges′ out out�
 module _ (s q : List ℕ) (number : ℕ) (out out′ report report′ : List ℕ) where
   abbrev HubAnswerComes : Type 0
   HubAnswerComes =
-      ExportComes (s ∷ q ∷ []) (AnswerGiven s q out out′ report report′) (Why s q 1536 2048 (length out)) number out out′ report report′
+      ExportComes (s ∷ q ∷ []) (AnswerGiven s q out out′ report report′) (Why s q 1536 knowledgeNumbers (length out)) number out out′ report report′
 
   hub-answer-by : (o : Outcome) → hubOutcome s q (length out) ≡ o → HubGives o number out out′ report report′ → HubAnswerComes
   unfolding numberIn answerAfter reportBytes
   hub-answer-by (refused x) e h =
-      let y = refused-why s q 1536 2048 (length out) x e in
-      refuses x (h .0, why-fault s q 1536 2048 (length out) x y, h .1, h .2) y (λ z w. let j = why-refused s q 1536 2048 (length out) z w in cc)
+      let y = refused-why s q 1536 knowledgeNumbers (length out) x e in
+      refuses x (h .0, why-fault s q 1536 knowledgeNumbers (length out) x y, h .1, h .2) y (λ z w. let j = why-refused s q 1536 knowledgeNumbers (length out) z w in cc)
   hub-answer-by (answered w all l) e h =
-      gives (h .0, (length w, length all, length l, result-of s q 1536 2048 out out′ w all l e (h .1) .0, h .2))
-      (λ z y. let j = why-refused s q 1536 2048 (length out) z y in impossible (cc))
+      gives (h .0, (length w, length all, length l, result-of s q 1536 knowledgeNumbers out out′ w all l e (h .1) .0, h .2))
+      (λ z y. let j = why-refused s q 1536 knowledgeNumbers (length out) z y in impossible (cc))
 
   pub hub-answer-comes : HubAnswers s q number out out′ report report′ → HubAnswerComes
   hub-answer-comes h = hub-answer-by (hubOutcome s q (length out)) refl h

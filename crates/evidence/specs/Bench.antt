@@ -8,6 +8,7 @@ use Prim.Native.Nat.{ℕ, _+_, _-_, _^_, _≤_, _<_}
 use lib.ListN.{length, take, drop}
 use Rattle.objects.specs.Steps.{valueOf}
 use Rattle.objects.specs.declared.reading.Reading.the-variants.{At}
+use Rattle.store.specs.Knowledge.{mostSaid}
 use Rattle.store.specs.declared.element.Key.{Key}
 use Rattle.talk.specs.Series.{Chain, done, next}
 use Rattle.request.specs.Meaning.{Filter, filtersRead}
@@ -28,7 +29,7 @@ abbrev pub knowsBy : List ℕ → Key → Bool
 knowsBy k = knowsKey (knowledgeOf k .ranges)
 
 abbrev pub saidBy : List ℕ → ℕ
-saidBy k = 512 - knowledgeOf k .left
+saidBy k = mostSaid - knowledgeOf k .left
 
 -- ---- the turns
 

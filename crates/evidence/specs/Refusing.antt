@@ -12,7 +12,7 @@ use Rattle.store.specs.Store.{storeWalk, Stands}
 use Rattle.store.specs.Tables.{rowNumbers}
 use Rattle.request.specs.Message.{requestIn}
 use Rattle.request.specs.declared.message.Request.the-variants as request′
-use Rattle.pages.specs.Answer.{Ask, pageBytes, pageRanges}
+use Rattle.pages.specs.Answer.{Ask, pageBytes, pageRanges, knowledgeNumbers}
 use Rattle.pages.specs.Cases.{Few, smallest, Asks}
 
 -- "one of the numbered refusals of document 01, with the place of the fault": a number from 1 to 14, one of the inputs, a place that lies
@@ -27,7 +27,7 @@ pub record Fault (inputs : List (List ℕ)) (r : Refusal) : Type 0 where
 
 -- the tables are long enough
 abbrev pub Tables : ℕ → ℕ → Type 0
-Tables rows ranges = (rowNumbers ≤ rows) × (2048 ≤ ranges)
+Tables rows ranges = (rowNumbers ≤ rows) × (knowledgeNumbers ≤ ranges)
 
 -- some numbers are told exactly where something holds
 abbrev pub IfAndOnlyIf : Type 0 → Type 0 → Type 0
@@ -36,7 +36,7 @@ IfAndOnlyIf A B = (A → B) × (B → A)
 -- why a call on the store s and the request q, lent tables of so many numbers and an output of so many bytes, refuses with r
 pub data Why (s q : List ℕ) (rows ranges room : ℕ) (r : Refusal) : Type 0 where
   -- 13: "store table under 1,536 numbers or knowledge table under 2,048"
-  tables : (rows < rowNumbers) ⊎ (ranges < 2048) → r ≡ faultAt 13 0 → Why s q rows ranges room r
+  tables : (rows < rowNumbers) ⊎ (ranges < knowledgeNumbers) → r ≡ faultAt 13 0 → Why s q rows ranges room r
   -- the first fault that reading the store meets
   store : Tables rows ranges → storeWalk s .last ≡ reading.Refused r → Why s q rows ranges room r
   -- the store is read, and this is the first fault that reading the request meets

@@ -9,6 +9,7 @@ use lib.ListN.{length, drop}
 use Rattle.laws.specs.Placed.{placed}
 use Rattle.numbers.specs.declared.refusal.Refusal.{Refusal}
 use Rattle.talk.specs.declared.range.Range.{Range}
+use Rattle.ranges.specs.RangeTable.{rangeWidth}
 use Rattle.store.specs.Tables.{rowWidth, rowsOf}
 use Rattle.store.specs.declared.accessor.Found.the-variants as found
 use Rattle.store.specs.declared.element.Element.{Element}
@@ -43,7 +44,7 @@ pub record Result (s q out out′ : List ℕ) (n rowCount rangeCount : ℕ) : Ty
 -- their contents"
 abbrev pub TablesHold : List Element → List Range → List ℕ → List ℕ → List ℕ → List ℕ → Type 0
 TablesHold elements l rows rows′ ranges ranges′ =
-    (rows′ ≡ rowsOf elements ++ drop (length elements * rowWidth) rows) × (ranges′ ≡ rangeRows l ++ drop (length l * 4) ranges)
+    (rows′ ≡ rowsOf elements ++ drop (length elements * rowWidth) rows) × (ranges′ ≡ rangeRows l ++ drop (length l * rangeWidth) ranges)
 
 -- so the call that is lent tables gives an answer
 abbrev pub AnswerSent : List ℕ → List ℕ → Answered → List ℕ → List ℕ → List ℕ → List ℕ → List ℕ → List ℕ → Type 0

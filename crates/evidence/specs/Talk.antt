@@ -11,6 +11,7 @@ use Rattle.numbers.specs.declared.extended_guid.ExtendedGuid.{ExtendedGuid}
 use Rattle.talk.specs.Series.{Answer, Trace}
 use Rattle.talk.specs.Wanted.{wanted}
 use Rattle.talk.specs.declared.range.Range.{Range}
+use Rattle.store.specs.Knowledge.{mostSaid}
 use Rattle.store.specs.Store.{storeWalk}
 use Rattle.store.specs.declared.element.Element.{Element}
 use Rattle.store.specs.declared.element.Key.{Key}
@@ -48,9 +49,9 @@ wantedOf s fs know = wanted serialOf (leavesIn s fs) know (elementsOf s)
 abbrev pub SameSet : (Key → Bool) → List Range → Type 0
 SameSet know l = (k : Key) → KeyFits k → know k ≡ knowsKey l k
 
--- how many ranges and entries the knowledge of a request has: `left` is how many of the 512 could still come
+-- how many ranges and entries the knowledge of a request has: `left` is how many could still come
 abbrev pub saidIn : List ℕ → ℕ
-saidIn q = 512 - requestKnowing q [] .left
+saidIn q = mostSaid - requestKnowing q [] .left
 
 -- what a bench reads in an answer: the ranges of its knowledge
 abbrev pub rangesIn : List ℕ → List Range

@@ -8,7 +8,7 @@ use mathlib.Core.List.{List}
 use lib.ListN.{length}
 use Rattle.laws.specs.Placed.{placed}
 use Rattle.store.specs.Tables.{rowNumbers}
-use Rattle.pages.specs.Answer.{Outcome, refused, answered, numberIn, answerOf, outputAfter}
+use Rattle.pages.specs.Answer.{Outcome, refused, answered, numberIn, knowledgeNumbers, answerOf, outputAfter}
 use Rattle.report.specs.Report.{threeNumbers, refusalReport}
 
 -- the report: "input (0 or 1), place and length"
@@ -18,7 +18,7 @@ reportBytes (answered w all l) = threeNumbers 0 0 (length w)
 
 -- "has tables of its own": of as many numbers as the answering call asks for
 abbrev pub hubOutcome : List ℕ → List ℕ → ℕ → Outcome
-hubOutcome s q room = answerOf s q rowNumbers 2048 room
+hubOutcome s q room = answerOf s q rowNumbers knowledgeNumbers room
 
 -- what is promised where the outcome is o: "the refusal number or 0", the output and the report at exit
 abbrev pub HubGives : Outcome → ℕ → List ℕ → List ℕ → List ℕ → List ℕ → Type 0

@@ -16,6 +16,7 @@ use client::ask::write_request;
 use numbers::extended_guid::ExtendedGuid;
 use numbers::refusal::Wrote;
 use pages::answer::Answered;
+use pages::answer::KNOWLEDGE_NUMBERS;
 use pages::answer::answer;
 use report::done;
 use report::put_report;
@@ -31,7 +32,7 @@ pub extern "C" fn hub_answer(store: &[u8], request: &[u8], out: &mut [u8], repor
     ensures { λ r. ⌜ HubAnswers (now (store .entry)) (now (request .entry)) r (now (out .entry)) (now (out .exit)) (now (report .entry)) (now (report .exit)) ⌝ }
 {
     let mut rows = [0u64; ROW_NUMBERS];
-    let mut ranges = [0u64; 2048];
+    let mut ranges = [0u64; KNOWLEDGE_NUMBERS];
     match answer(store, request, &mut rows, &mut ranges, out) {
         Answered::Refused(r) => refuse(report, r),
         Answered::Sent(n, _, _) => done(report, 0, n),
