@@ -11,7 +11,7 @@ pub mod Carry
 pub mod ItemsAt
 pub mod NullId
 pub mod Keep
-pub mod FaultNumbers
+pub mod InputFaults
 pub mod Forward
 pub mod WholeHeaders
 pub mod Calls

@@ -4,6 +4,7 @@
 -- that was read last.
 -- Assumes nothing.
 use Prim.Native.Nat.{ℕ, _+_, _-_, _≤_}
+use mathlib.Core.Path.{_≡_}
 use mathlib.Core.Bool.{Bool, true, false}
 use mathlib.Core.List.{List, []}
 use lib.ListN.{length, take, drop}
@@ -249,10 +250,21 @@ abbrev pub Behind : ℕ → Reading → Type 0
 Behind p (At at v) = p ≤ at
 Behind p (Refused r) = Unit {0}
 
--- within the m bytes of a part, a fault's place too
+-- the number of a fault that a layout gives
+abbrev pub FaultNumber : ℕ → Type 0
+FaultNumber k = (2 ≤ k) × (k ≤ 12)
+
+-- such a fault of the first input, within the m bytes of a part; it needs no length
+pub record FaultWithin (m : ℕ) (r : Refusal) : Type 0 where
+  pub number : FaultNumber (r .number)
+  pub input : r .input ≡ 0
+  pub place : r .place ≤ m
+  pub needed : r .needed ≡ 0
+
+-- within the m bytes of a part, or such a fault
 abbrev pub GoodIn : ℕ → Reading → Type 0
 GoodIn m (At p v) = p ≤ m
-GoodIn m (Refused r) = r .place ≤ m
+GoodIn m (Refused r) = FaultWithin m r
 
 abbrev pub Good : List ℕ → Reading → Type 0
 Good d f = GoodIn (length d) f

@@ -16,6 +16,7 @@ carry-requires : tie.Need-carry-requires
 carry-requires c κs =
     let k = c .before in
     let g : GoodIn (k .before .before .args .m) (Refused (k .f .given .0 .0)) = rw (k .f .given .1) at (k .before .before .pre .1) in
+    let p = g .place in
     omega arith
 
 enum-known-f-2 : tie.Need-enum-known-f-2
