@@ -17,7 +17,7 @@ use Rattle.objects.specs.declared.reading.ReadingId.{ReadingId}
 use Rattle.objects.specs.declared.reading.ReadingId.the-variants as id′
 use Rattle.objects.specs.declared.reading.ReadingSerial.{ReadingSerial}
 use Rattle.objects.specs.declared.reading.ReadingSerial.the-variants as serial′
-use Rattle.objects.proofs.Keep.{good-front, good-place, good-id, good-serial, good-number, good-start, good-closed, good-inside}
+use Rattle.objects.proofs.Keep.{fault-within, good-front, good-place, good-id, good-serial, good-number, good-start, good-closed, good-inside}
 use Rattle.objects.proofs.Forward.{behind-place, behind-start, behind-closed, behind-inside}
 use Rattle.store.specs.Element.{sameKey, namedKey, numberedKey, freshKey, keyHere, onKey, idField, serialField, fieldsOf, opened, dataOf, elementOn, elementAt}
 use Rattle.store.specs.declared.element.Key.{Key}
@@ -30,19 +30,19 @@ use Rattle.store.specs.declared.element.ReadElement.the-variants as elem
 
 good-named : (d : List ℕ) (p : ℕ) (c : ReadingId) → p ≤ length d → Good d (onId c) → Good d (onKey (namedKey p c))
 unfolding onId namedKey onKey
-good-named d p (id′.At q id.Null) h g = h
+good-named d p (id′.At q id.Null) h g = fault-within (length d) 10 p (omega arith) h
 good-named d p (id′.At q (id.Named i x)) h g = g
 good-named d p (id′.Refused r) h g = g
 
 good-numbered : (d : List ℕ) (p : ℕ) (c : ReadingSerial) → p ≤ length d → Good d (onSerial c) → Good d (onKey (numberedKey p c))
 unfolding onSerial numberedKey onKey
-good-numbered d p (serial′.At q number.Null) h g = h
+good-numbered d p (serial′.At q number.Null) h g = fault-within (length d) 10 p (omega arith) h
 good-numbered d p (serial′.At q (number.Numbered i x)) h g = g
 good-numbered d p (serial′.Refused r) h g = g
 
 good-fresh : (d : List ℕ) (p : ℕ) (was : Bool) (c : ReadingKey) → p ≤ length d → Good d (onKey c) → Good d (onKey (freshKey p was c))
 unfolding freshKey onKey
-good-fresh d p true (At q k) h g = h
+good-fresh d p true (At q k) h g = fault-within (length d) 11 p (omega arith) h
 good-fresh d p false (At q k) h g = g
 good-fresh d p was (Refused r) h g = g
 

@@ -34,7 +34,7 @@ good-from d = good-number d _ (good-guid d (At 0 0) (good-front d 0))
 
 pub good-range-fields : (d : List ℕ) → Good d (rangeFields d .last)
 unfolding rangeFields
-good-range-fields d = good-need d _ 12 _ (toField d) (good-place d (fromField d) (good-from d)) (good-number d (fromField d) (good-from d))
+good-range-fields d = good-need d _ 12 _ (toField d) (omega arith) (good-place d (fromField d) (good-from d)) (good-number d (fromField d) (good-from d))
 
 pub good-entry-fields : (d : List ℕ) → Good d (onSerial (entrySerial d))
 good-entry-fields d = good-serial d (At 0 0) (good-front d 0)

@@ -19,7 +19,6 @@ pub mod Uniting
 pub mod KnowledgeForward
 pub mod Learning
 pub mod KnowledgeHeld
-pub mod FaultNumbers
 pub mod RangeOrder
 pub mod KnowledgeLengths
 pub mod KnowledgeWrongAnswers

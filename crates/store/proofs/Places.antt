@@ -1,4 +1,5 @@
--- A fault's place lies within the input, and a store that is read ends with its package's end.
+-- A fault of a package or a store has a number from 2 to 12 and its place within, or is 1 where the store is over-long; and a store that
+-- is read ends with its package's end.
 -- Assumes nothing.
 use mathlib.Core.Path.{_≡_, refl, subst}
 use mathlib.Core.Bool.{true, false}
@@ -10,10 +11,12 @@ use borrow.Author.Tests.{lt-ltb, le-ltb}
 use Rattle.laws.proofs.Cases.{by-bool, by-lt, impossible}
 use Rattle.numbers.specs.Refusals.{longestInput}
 use Rattle.numbers.specs.declared.refusal.Refusal.{Refusal}
-use Rattle.objects.specs.Steps.{nothingOpen, placeOf, endHere, finish, nextIs, inside, Good}
+use Rattle.objects.specs.Steps.{nothingOpen, placeOf, endHere, finish, nextIs, inside, FaultWithin, Good}
 use Rattle.objects.specs.declared.reading.Reading.{Reading}
 use Rattle.objects.specs.declared.reading.Reading.the-variants as reading
 use Rattle.objects.proofs.Keep.{good-front, good-start, good-end, good-inside, good-finish}
+use Rattle.objects.proofs.Forward.{Past, past-end}
+use Rattle.objects.proofs.InputFaults.{InputFault, input-fault}
 use Rattle.store.specs.Element.{dataOf, elementOn, elementAt, idsIn, serialsIn}
 use Rattle.store.specs.Store.{packageStart, onElement, walkFrom, packageWalk, storeWalk, Stands}
 use Rattle.store.specs.declared.element.Key.{Key}
@@ -25,7 +28,7 @@ use Rattle.store.proofs.Fields.{good-data, element-within}
 use Rattle.store.proofs.Walks.{good-package, walk-ends, walk-over, walk-element}
 use Rattle.store.proofs.Chains.{StoreRead}
 
--- ---- a fault's place
+-- ---- a fault
 
 refused-on : (at : ℕ) (f : Fields) (kind : ℕ) (e : Reading) (r : Refusal) → elementOn at f kind e ≡ element.Refused r → e ≡ reading.Refused r
 unfolding elementOn
@@ -33,7 +36,7 @@ refused-on at f kind (reading.At e v) r h = impossible (cc)
 refused-on at f kind (reading.Refused q) r h = cc
 
 pub element-fault : (depth : ℕ) (ids serials : List Key) (s : List ℕ) (c : Reading) (r : Refusal) → elementAt depth ids serials s c ≡ element.Refused r
-    → Good s c → r .place ≤ length s
+    → Good s c → FaultWithin (length s) r
 unfolding elementAt
 element-fault depth ids serials s c r h g =
     subst (Good s) (refused-on _ _ _ (inside s depth 0x01 (dataOf ids serials s c)) r h)
@@ -60,26 +63,22 @@ walk-good (suc left) s done c g =
 pub package-good : (outer : ℕ) (s : List ℕ) (c : Reading) → Good s c → Good s (packageWalk outer s c .last)
 package-good outer s c g = walk-good 256 s [] (packageStart outer s c) (good-package outer s c g)
 
-pub store-good : (s : List ℕ) → Good s (storeWalk s .last)
+pub store-fault : (s : List ℕ) (r : Refusal) → storeWalk s .last ≡ reading.Refused r → InputFault longestInput s r
 unfolding storeWalk
-store-good s =
-    by-lt longestInput (length s) (λ l. rw (lt-ltb longestInput (length s) l) (omega arith))
-    (λ l.
-    rw (le-ltb longestInput (length s) l)
-    (good-finish s (packageWalk nothingOpen s (reading.At 0 0) .last) (package-good nothingOpen s (reading.At 0 0) (good-front s 0))))
-
-pub store-fault : (s : List ℕ) (r : Refusal) → storeWalk s .last ≡ reading.Refused r → r .place ≤ length s
-store-fault s r h = subst (Good s) h (store-good s)
+store-fault s r h =
+    let c = packageWalk nothingOpen s (reading.At 0 0) .last in
+    input-fault longestInput s (storeWalk s .last) (finish s c) r (λ l. rw (lt-ltb longestInput (length s) l)) (λ l. rw (le-ltb longestInput (length s) l))
+    (good-finish s c (package-good nothingOpen s (reading.At 0 0) (good-front s 0))) h
 
 -- ---- the store's end
 
-finish-whole : (s : List ℕ) (c : Reading) → Good s (finish s c) → Stands (finish s c) → placeOf c ≡ length s
+finish-whole : (s : List ℕ) (c : Reading) → Past s 0 c → Stands (finish s c) → placeOf c ≡ length s
 unfolding finish placeOf
-finish-whole s (reading.At at v) g h =
-    by-lt at (length s) (λ l. absurd (rw (lt-ltb at (length s) l) at h)) (λ l. let b : at ≤ length s = rw (le-ltb at (length s) l) at g in omega arith)
-finish-whole s (reading.Refused r) g h = absurd h
+finish-whole s (reading.At at v) w h = by-lt at (length s) (λ l. absurd (rw (lt-ltb at (length s) l) at h)) (λ l. omega arith)
+finish-whole s (reading.Refused r) w h = absurd h
 
 -- "one data element package, and nothing after it": behind the elements stands the package's end, which ends the store
 pub store-covered : (s : List ℕ) → Stands (storeWalk s .last) → (r : StoreRead s) → placeOf (endHere s 0x15 (reading.At (r .end) (r .value))) ≡ length s
 store-covered s h r =
-    finish-whole s (endHere s 0x15 (reading.At (r .end) (r .value))) (subst (Good s) (r .ends) (store-good s)) (subst Stands (r .ends) h)
+    let c = reading.At (r .end) (r .value) in
+    finish-whole s (endHere s 0x15 c) (past-end s 0x15 0 c (omega arith)) (subst Stands (r .ends) h)
