@@ -4,7 +4,6 @@ pub mod Whole
 pub mod RequestFits
 pub mod FiltersCarry
 pub mod Places
-pub mod FaultNumbers
 pub mod OneAnswers
 pub mod WrongAnswers
 pub mod Choosing

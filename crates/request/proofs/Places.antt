@@ -1,6 +1,7 @@
--- A request that is read, and the place of a fault, lie within the request.
+-- A request that is read lies within its bytes; a fault of it has a number from 2 to 12, its place within and the second input, or is 1
+-- where the request is over-long.
 -- Assumes nothing.
-use mathlib.Core.Path.{_≡_}
+use mathlib.Core.Path.{_≡_, refl}
 use mathlib.Core.Bool.{true, false}
 use mathlib.Core.List.{List}
 use Prim.Native.Nat.{ℕ, zero, suc, _-_, _≤_}
@@ -8,13 +9,14 @@ use native.Mathlib.Omega.{arith}
 use lib.ListN.{length}
 use borrow.Author.Tests.{lt-ltb, le-ltb}
 use lib.Dec.{eqb}
-use Rattle.laws.proofs.Cases.{by-lt, pick-all, impossible}
+use Rattle.laws.proofs.Cases.{pick-all, impossible}
 use Rattle.numbers.specs.Refusals.{longestInput, overLong}
 use Rattle.numbers.specs.declared.refusal.Refusal.{Refusal}
-use Rattle.objects.specs.Steps.{placeOf, nothingOpen, startHere, runHere, closed, nextIs, Good}
+use Rattle.objects.specs.Steps.{placeOf, nothingOpen, startHere, runHere, closed, endHere, nextIs, finish, Good}
 use Rattle.objects.specs.declared.reading.Reading.{Reading}
 use Rattle.objects.specs.declared.reading.Reading.the-variants.{At, Refused}
 use Rattle.objects.proofs.Keep.{good-front, good-place, good-fixed, good-valued, good-skip, good-start, good-start-of-length, good-closed, good-inside, good-end, good-finish}
+use Rattle.objects.proofs.InputFaults.{InputFault, input-fault}
 use Rattle.store.specs.Knowledge.{mostSaid, Knowing}
 use Rattle.store.proofs.KnowledgeHeld.{knowledge-good}
 use Rattle.request.specs.Filter.{filterFields, oneNumber, typePart, idsField, idsPart, kindPart, filterStart, filterKind, filterOpened, filterAt, filtersFrom}
@@ -52,7 +54,8 @@ good-filters (suc left) s c g =
 pub good-versions : (signature : ℕ) (s : List ℕ) → Good s (versions signature s)
 unfolding versions
 good-versions signature s =
-    good-fixed s 8 signature signature 7 _ (good-fixed s 2 0 12 7 _ (good-fixed s 2 12 0xFFFF 7 (At 0 0) (good-front s 0)))
+    good-fixed s 8 signature signature 7 _ (omega arith)
+    (good-fixed s 2 0 12 7 _ (omega arith) (good-fixed s 2 12 0xFFFF 7 (At 0 0) (omega arith) (good-front s 0)))
 
 good-user-agent : (s : List ℕ) (c : Reading) → Good s c → Good s (userAgent s c)
 unfolding userAgent
@@ -98,15 +101,23 @@ good-ended s c g = good-finish s _ (good-end s 0x40 _ (good-package-part s _ (go
 pub filters-within : (s : List ℕ) → placeOf (constrained s) ≤ length s
 filters-within s = good-place s (constrained s) (good-constrained s)
 
-answer-fault : (c : Reading) (a b p n m : ℕ) (r : Refusal) (s : List ℕ) → Good s c → requestAnswer c a b p n m ≡ request.Refused r → r .place ≤ length s
+-- a fault of the request is told of the second input
+answer-fault : (c : Reading) (a b p n m : ℕ) (r : Refusal) → requestAnswer c a b p n m ≡ request.Refused r → (q : Refusal) × (c ≡ Refused q) × (r ≡ inRequest q)
 unfolding requestAnswer
-answer-fault (At e v) a b p n m r s g h = impossible (cc)
-answer-fault (Refused q) a b p n m r s g h = let e : inRequest q ≡ r = cc in rw (← e) g
+answer-fault (At e v) a b p n m r h = impossible (cc)
+answer-fault (Refused q) a b p n m r h = (q, refl, cc)
 
--- and so does a fault, or it is the limit of a request that is longer
-pub request-fault : (s t : List ℕ) (r : Refusal) → requestIn s t ≡ request.Refused r → r .place ≤ length s
+-- an over-long request is refused to the end
+over-ended : (s : List ℕ) → ended s (Refused overLong) ≡ Refused overLong
+unfolding ended endHere packagePart nextIs finish
+over-ended s = refl
+
+pub request-fault : (s t : List ℕ) (r : Refusal) → requestIn s t ≡ request.Refused r → (q : Refusal) × (r ≡ inRequest q) × InputFault longestInput s q
 unfolding requestIn requestKnowing
 request-fault s t r h =
-    by-lt longestInput (length s)
-    (λ l. answer-fault (ended s (Refused overLong)) _ _ _ _ _ r s (good-ended s (Refused overLong) (omega arith)) (rw (lt-ltb _ _ l) at h))
-    (λ l. answer-fault (ended s (knowledgePart s t (filtered s) .last)) _ _ _ _ _ r s (good-ended s _ (good-knowledge-part s t (filtered s) (good-filtered s))) (rw (le-ltb _ _ l) at h))
+    let c = knowledgePart s t (filtered s) .last in
+    let (q, e, i) = answer-fault (ended s (requestKnowing s t .last)) _ _ _ _ _ r h in
+    let g = good-ended s c (good-knowledge-part s t (filtered s) (good-filtered s)) in
+    let f = input-fault longestInput s (ended s (requestKnowing s t .last)) (ended s c) q (λ l. rw (lt-ltb longestInput (length s) l) (over-ended s))
+    (λ l. rw (le-ltb longestInput (length s) l)) g e in
+    (q, i, f)
