@@ -13,14 +13,15 @@ use Rattle.numbers.specs.Refusals.{faultAt, tooShort, longestInput, overLong}
 use Rattle.numbers.specs.declared.refusal.Refusal.{Refusal}
 use Rattle.objects.specs.declared.reading.Reading.{Reading}
 use Rattle.objects.specs.declared.reading.Reading.the-variants as reading
+use Rattle.objects.proofs.InputFaults.{input-told}
 use Rattle.talk.specs.declared.range.Range.{Range}
 use Rattle.store.specs.Store.{storeWalk, Stands}
 use Rattle.store.specs.declared.element.Element.{Element}
-use Rattle.store.proofs.FaultNumbers.{store-number}
+use Rattle.store.proofs.Places as store
 use Rattle.request.specs.Message.{inRequest, requestIn}
 use Rattle.request.specs.declared.message.Request.{Request}
 use Rattle.request.specs.declared.message.Request.the-variants as request
-use Rattle.request.proofs.FaultNumbers.{request-number}
+use Rattle.request.proofs.Places as asked
 use Rattle.request.proofs.Whole.{over-long-read}
 use Rattle.pages.specs.Decision.{mostCarried, decision}
 use Rattle.store.specs.Tables.{rowNumbers}
@@ -81,14 +82,13 @@ tables-fine s q rows ranges room h g = rw (le-ltb rows rowNumbers h, le-ltb rang
 
 -- the other refusals have other numbers
 fault-number : (s : List ℕ) (r : Refusal) → storeWalk s .last ≡ reading.Refused r → (1 ≤ r .number) × (r .number ≤ 12)
-fault-number s r e =
-    by-lt longestInput (length s) (λ l. rw (store-number s r e .1 l) (omega arith, omega arith))
-    (λ l. let w = store-number s r e .0 l in (omega arith, w .1))
+fault-number s r e = let w = input-told longestInput s r (store.store-fault s r e) in (w .least, w .most)
 
 request-fault-number : (q : List ℕ) (r : Refusal) → requestIn q [] ≡ request.Refused r → (1 ≤ r .number) × (r .number ≤ 12)
 request-fault-number q r e =
-    by-lt longestInput (length q) (λ l. rw (request-number q [] r e .1 l) (omega arith, omega arith))
-    (λ l. let w = request-number q [] r e .0 l in (omega arith, w .1))
+    let (x, i, f) = asked.request-fault q [] r e in
+    let w = input-told longestInput q x f in
+    rw i (w .least, w .most)
 
 never-thirteen-on : (s q : List ℕ) (room : ℕ) (o : Outcome) → Course s q room o → numberIn o ≡ 13 → ⊥
 unfolding numberIn
@@ -109,9 +109,14 @@ thirteen-only-if s q rows ranges room h =
 
 one-on : (s q : List ℕ) (room : ℕ) (o : Outcome) → Course s q room o → numberIn o ≡ 1 → OverLong s q
 unfolding numberIn
-one-on s q room _ (store-fault r e) h = by-lt longestInput (length s) inl (λ l. let w = store-number s r e .0 l in absurd (omega arith))
+one-on s q room _ (store-fault r e) h = by-lt longestInput (length s) inl (λ l. let n = store.store-fault s r e .within l .number in absurd (omega arith))
 one-on s q room _ (request-fault r g e) h =
-    by-lt longestInput (length q) (λ l. inr (g, l)) (λ l. let w = request-number q [] r e .0 l in absurd (omega arith))
+    by-lt longestInput (length q) (λ l. inr (g, l))
+    (λ l.
+    let (x, i, f) = asked.request-fault q [] r e in
+    let n = f .within l .number in
+    let z : x .number ≡ 1 = rw i at h in
+    absurd (omega arith))
 one-on s q room _ (page a x) h = absurd (⊎-elim (λ z. omega arith) (λ w. ⊎-elim (λ z. omega arith) (λ z. omega arith) w) (page-numbers a room))
 
 pub one-only-if : (s q : List ℕ) (room : ℕ) → numberIn (outcome s q room) ≡ 1 → OverLong s q
