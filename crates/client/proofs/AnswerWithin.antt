@@ -1,5 +1,6 @@
--- The parts of an answer that is read stay within it: the place so far, or that of a fault.
+-- The parts of an answer that is read stay within it, or give a fault from 2 to 12 within it; an over-long answer gives 1.
 -- Assumes nothing.
+use mathlib.Core.Path.{_≡_}
 use mathlib.Core.Bool.{true, false}
 use mathlib.Core.List.{List, []}
 use Prim.Native.Nat.{ℕ, _%_}
@@ -7,11 +8,12 @@ use native.Mathlib.Omega.{arith}
 use lib.ListN.{length}
 use lib.Dec.{eqb}
 use borrow.Author.Tests.{lt-ltb, le-ltb}
-use Rattle.laws.proofs.Cases.{by-lt}
+use Rattle.numbers.specs.declared.refusal.Refusal.{Refusal}
 use Rattle.objects.specs.Steps.{nothingOpen, placeOf, valueOf, fixedIn, onId, startHere, runHere, Good}
 use Rattle.objects.specs.declared.reading.Reading.{Reading}
-use Rattle.objects.specs.declared.reading.Reading.the-variants.{At}
+use Rattle.objects.specs.declared.reading.Reading.the-variants.{At, Refused}
 use Rattle.objects.proofs.Keep.{good-front, good-fixed, good-need, good-place, good-valued, good-number, good-number-is, good-id, good-start, good-closed, good-end, good-finish}
+use Rattle.objects.proofs.InputFaults.{InputFault, input-fault}
 use Rattle.request.proofs.Places.{good-versions}
 use Rattle.store.specs.Knowledge.{mostSaid}
 use Rattle.store.proofs.Places.{package-good}
@@ -24,7 +26,7 @@ use Rattle.client.specs.Read.{longestAnswer, statusByte, responseFields,
 pub good-status : (d : List ℕ) (c : Reading) → Good d c → Good d (statusByte d c)
 unfolding statusByte
 good-status d c g =
-    good-need d (eqb (valueOf (fixedIn d 1 0 255 5 c) % 2) 0) 5 (placeOf c) _ (good-place d c g) (good-fixed d 1 0 255 5 c g)
+    good-need d (eqb (valueOf (fixedIn d 1 0 255 5 c) % 2) 0) 5 (placeOf c) _ (omega arith) (good-place d c g) (good-fixed d 1 0 255 5 c (omega arith) g)
 
 pub good-response-fields : (d : List ℕ) → Good d (responseFields d)
 unfolding responseFields
@@ -33,11 +35,11 @@ good-response-fields d = good-status d (At 0 0) (good-front d 0)
 pub good-sub-response-fields : (d : List ℕ) → Good d (subResponseFields d)
 unfolding subResponseFields
 good-sub-response-fields d =
-    good-valued d _ _ (good-status d _ (good-number-is d 2 8 _ (good-number d (At 0 0) (good-front d 0))))
+    good-valued d _ _ (good-status d _ (good-number-is d 2 8 _ (omega arith) (good-number d (At 0 0) (good-front d 0))))
 
 pub good-changes-fields : (d : List ℕ) → Good d (changesFields d)
 unfolding changesFields
-good-changes-fields d = good-fixed d 1 0 255 5 (onId (indexField d)) (good-id d (At 0 0) (good-front d 0))
+good-changes-fields d = good-fixed d 1 0 255 5 (onId (indexField d)) (omega arith) (good-id d (At 0 0) (good-front d 0))
 
 -- ---- the parts
 
@@ -73,9 +75,8 @@ good-rest s c g = good-ends s _ (good-valued s 0 _ (good-knowledge-in s (markAt 
 
 -- ---- the whole
 
--- of an over-long answer the limit lies within it, too
-pub good-answer : (s : List ℕ) → Good s (answerEnd s)
+pub answer-within : (s : List ℕ) (r : Refusal) → answerEnd s ≡ Refused r → InputFault longestAnswer s r
 unfolding answerEnd
-good-answer s =
-    by-lt longestAnswer (length s) (λ l. rw (lt-ltb longestAnswer (length s) l) (omega arith))
-    (λ l. rw (le-ltb longestAnswer (length s) l) (good-rest s (packageEnd s) (good-valued s 0 _ (package-good 0x62 s (responseStart s) (good-response-start s)))))
+answer-within s r h =
+    input-fault longestAnswer s (answerEnd s) (restOf s (packageEnd s)) r (λ l. rw (lt-ltb longestAnswer (length s) l)) (λ l. rw (le-ltb longestAnswer (length s) l))
+    (good-rest s (packageEnd s) (good-valued s 0 _ (package-good 0x62 s (responseStart s) (good-response-start s)))) h

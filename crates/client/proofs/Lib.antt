@@ -8,6 +8,6 @@ pub mod AnswerRest
 pub mod AnswerBack
 pub mod CallBack
 pub mod NextAsk
-pub mod FaultNumbers
+pub mod AskFaults
 pub mod OneAnswers
 pub mod WrongAnswers
