@@ -10,17 +10,17 @@ use borrow.Author.Tests.{lt-ltb, le-ltb}
 use Rattle.laws.proofs.Cases.{by-lt, impossible}
 use Rattle.numbers.specs.Refusals.{faultAt}
 use Rattle.numbers.specs.declared.refusal.Refusal.{Refusal}
-use Rattle.objects.specs.Steps.{placeOf, valued, startHere, runHere, closedAt, endHere, finish}
+use Rattle.objects.specs.Steps.{placeOf, valued, startHere, runHere, closedAt, endHere, finish, Behind}
 use Rattle.objects.specs.declared.reading.Reading.{Reading}
 use Rattle.objects.specs.declared.reading.Reading.the-variants.{At, Refused}
-use Rattle.objects.proofs.Forward.{Past, behind-place}
+use Rattle.objects.proofs.Keep.{behind-place}
 use Rattle.store.specs.Knowledge.{mostSaid}
 use Rattle.store.specs.Accessor.{elementIn}
 use Rattle.store.specs.Store.{packagedOf, laidRows, laidIds}
 use Rattle.store.specs.declared.accessor.Found.the-variants as found
 use Rattle.store.specs.declared.package.Packaged.the-variants as packaged
 use Rattle.store.proofs.KnowledgeCarry.{carries-knowledge}
-use Rattle.store.proofs.KnowledgeHeld.{knowledge-past}
+use Rattle.store.proofs.KnowledgeHeld.{onward-knowledge}
 use Rattle.client.specs.Read.{longestAnswer, packageIn, subResponse, changes, knowledgeIn, endsOf, markAt, knowledgeEnd, receivedFrom, restOf, answerEnd, answerOn, answerIn}
 use Rattle.client.specs.Accessor.{receivedAt, rowsReceived, idsReceived}
 use Rattle.client.specs.declared.answer.Received.{Received}
@@ -50,8 +50,8 @@ unfolding restOf knowledgeIn placeOf
 knowledge-forward s c e v h =
     let a = ends-reached s (knowledgeEnd s c) e v h in
     let b = valued-reached (knowledgeIn s (markAt s c) .last) (a .0) (a .1) (a .2) in
-    let p = knowledge-past mostSaid 13 0x41 (placeOf (markAt s c)) s [] (markAt s c) (behind-place (markAt s c)) in
-    let q : Past s (placeOf (markAt s c)) (At (a .0) (b .0)) = subst (Past s (placeOf (markAt s c))) (b .1) p in
+    let p = onward-knowledge mostSaid 13 0x41 s [] (markAt s c) .behind (placeOf (markAt s c)) (behind-place (markAt s c)) in
+    let q : Behind (placeOf (markAt s c)) (At (a .0) (b .0)) = subst (Behind (placeOf (markAt s c))) (b .1) p in
     rw (a .2) (omega arith)
 
 -- ---- the package

@@ -12,12 +12,12 @@ use Rattle.numbers.specs.declared.refusal.Refusal.{Refusal}
 use Rattle.objects.specs.Steps.{nothingOpen, placeOf, valueOf, fixedIn, onId, startHere, runHere, Good}
 use Rattle.objects.specs.declared.reading.Reading.{Reading}
 use Rattle.objects.specs.declared.reading.Reading.the-variants.{At, Refused}
-use Rattle.objects.proofs.Keep.{good-front, good-fixed, good-need, good-place, good-valued, good-number, good-number-is, good-id, good-start, good-closed, good-end, good-finish}
+use Rattle.objects.proofs.Keep.{good-front, onward-fixed, onward-need, good-place, onward-valued, onward-number, onward-number-is, onward-id, onward-start, onward-closed, onward-end, onward-finish}
 use Rattle.objects.proofs.InputFaults.{InputFault, input-fault}
 use Rattle.request.proofs.Places.{good-versions}
 use Rattle.store.specs.Knowledge.{mostSaid}
 use Rattle.store.proofs.Places.{package-good}
-use Rattle.store.proofs.KnowledgeHeld.{knowledge-good}
+use Rattle.store.proofs.KnowledgeHeld.{onward-knowledge}
 use Rattle.pages.specs.Written.{answerSignature}
 use Rattle.client.specs.Read.{longestAnswer, statusByte, responseFields, responseStart, subResponseFields, subResponse, indexField, changesFields, changesStart, changes, knowledgeIn, endsOf, markAt, restOf, packageEnd, answerEnd}
 
@@ -26,7 +26,7 @@ use Rattle.client.specs.Read.{longestAnswer, statusByte, responseFields,
 pub good-status : (d : List ℕ) (c : Reading) → Good d c → Good d (statusByte d c)
 unfolding statusByte
 good-status d c g =
-    good-need d (eqb (valueOf (fixedIn d 1 0 255 5 c) % 2) 0) 5 (placeOf c) _ (omega arith) (good-place d c g) (good-fixed d 1 0 255 5 c (omega arith) g)
+    onward-need d (eqb (valueOf (fixedIn d 1 0 255 5 c) % 2) 0) 5 (placeOf c) _ (omega arith) (good-place d c g) .good (onward-fixed d 1 0 255 5 c (omega arith) .good g)
 
 pub good-response-fields : (d : List ℕ) → Good d (responseFields d)
 unfolding responseFields
@@ -35,11 +35,11 @@ good-response-fields d = good-status d (At 0 0) (good-front d 0)
 pub good-sub-response-fields : (d : List ℕ) → Good d (subResponseFields d)
 unfolding subResponseFields
 good-sub-response-fields d =
-    good-valued d _ _ (good-status d _ (good-number-is d 2 8 _ (omega arith) (good-number d (At 0 0) (good-front d 0))))
+    onward-valued d _ _ .good (good-status d _ (onward-number-is d 2 8 _ (omega arith) .good (onward-number d (At 0 0) .good (good-front d 0))))
 
 pub good-changes-fields : (d : List ℕ) → Good d (changesFields d)
 unfolding changesFields
-good-changes-fields d = good-fixed d 1 0 255 5 (onId (indexField d)) (omega arith) (good-id d (At 0 0) (good-front d 0))
+good-changes-fields d = onward-fixed d 1 0 255 5 (onId (indexField d)) (omega arith) .good (onward-id d (At 0 0) .good (good-front d 0))
 
 -- ---- the parts
 
@@ -47,31 +47,31 @@ pub good-response-start : (s : List ℕ) → Good s (responseStart s)
 unfolding responseStart
 good-response-start s =
     let c = startHere s nothingOpen 0x62 true true _ in
-    good-closed s c (responseFields (runHere s c)) (good-start s nothingOpen 0x62 true true _ (good-versions answerSignature s)) (good-response-fields (runHere s c))
+    onward-closed s c (responseFields (runHere s c)) (good-response-fields (runHere s c)) .good (onward-start s nothingOpen 0x62 true true _ .good (good-versions answerSignature s))
 
 good-sub-response : (s : List ℕ) (c : Reading) → Good s c → Good s (subResponse s c)
 unfolding subResponse
 good-sub-response s c g =
     let o = startHere s 0x62 0x41 true true c in
-    good-closed s o (subResponseFields (runHere s o)) (good-start s 0x62 0x41 true true c g) (good-sub-response-fields (runHere s o))
+    onward-closed s o (subResponseFields (runHere s o)) (good-sub-response-fields (runHere s o)) .good (onward-start s 0x62 0x41 true true c .good g)
 
 good-changes : (s : List ℕ) (c : Reading) → Good s c → Good s (changes s c)
 unfolding changes
 good-changes s c g =
     let o = changesStart s c in
-    good-closed s o (changesFields (runHere s o)) (good-start s 0x41 0x5F false true c g) (good-changes-fields (runHere s o))
+    onward-closed s o (changesFields (runHere s o)) (good-changes-fields (runHere s o)) .good (onward-start s 0x41 0x5F false true c .good g)
 
 good-knowledge-in : (s : List ℕ) (c : Reading) → Good s c → Good s (knowledgeIn s c .last)
 unfolding knowledgeIn
-good-knowledge-in s c g = knowledge-good mostSaid 13 0x41 s [] c g
+good-knowledge-in s c g = onward-knowledge mostSaid 13 0x41 s [] c .good g
 
 good-ends : (s : List ℕ) (c : Reading) → Good s c → Good s (endsOf s c)
 unfolding endsOf
-good-ends s c g = good-finish s _ (good-end s 0x62 _ (good-end s 0x41 c g))
+good-ends s c g = onward-finish s _ .good (onward-end s 0x62 _ .good (onward-end s 0x41 c .good g))
 
 good-rest : (s : List ℕ) (c : Reading) → Good s c → Good s (restOf s c)
 unfolding restOf
-good-rest s c g = good-ends s _ (good-valued s 0 _ (good-knowledge-in s (markAt s c) (good-changes s (subResponse s c) (good-sub-response s c g))))
+good-rest s c g = good-ends s _ (onward-valued s 0 _ .good (good-knowledge-in s (markAt s c) (good-changes s (subResponse s c) (good-sub-response s c g))))
 
 -- ---- the whole
 
@@ -79,4 +79,4 @@ pub answer-within : (s : List ℕ) (r : Refusal) → answerEnd s ≡ Refused r �
 unfolding answerEnd
 answer-within s r h =
     input-fault longestAnswer s (answerEnd s) (restOf s (packageEnd s)) r (λ l. rw (lt-ltb longestAnswer (length s) l)) (λ l. rw (le-ltb longestAnswer (length s) l))
-    (good-rest s (packageEnd s) (good-valued s 0 _ (package-good 0x62 s (responseStart s) (good-response-start s)))) h
+    (good-rest s (packageEnd s) (onward-valued s 0 _ .good (package-good 0x62 s (responseStart s) (good-response-start s)))) h

@@ -13,10 +13,10 @@ use Rattle.numbers.specs.declared.refusal.Refusal.{Refusal}
 use Rattle.objects.specs.Steps.{Good, valued, finish}
 use Rattle.objects.specs.declared.reading.Reading.{Reading}
 use Rattle.objects.specs.declared.reading.Reading.the-variants.{At, Refused}
-use Rattle.objects.proofs.Keep.{good-front, good-valued, good-start, good-finish}
+use Rattle.objects.proofs.Keep.{good-front, onward-valued, onward-start, onward-finish}
 use Rattle.objects.proofs.InputFaults.{InputFault, input-fault}
 use Rattle.store.specs.Knowledge.{Knowing}
-use Rattle.store.proofs.KnowledgeHeld.{knowledge-good}
+use Rattle.store.proofs.KnowledgeHeld.{onward-knowledge}
 use Rattle.request.specs.Filter.{filtersFrom}
 use Rattle.request.proofs.Places.{good-filters}
 use Rattle.client.specs.Ask.{noMore, filtersGiven, knowledgeOf, knowledgeGiven}
@@ -24,7 +24,7 @@ use Rattle.client.specs.Ask.{noMore, filtersGiven, knowledgeOf, knowledg
 good-no-more : (s : List ℕ) (c : Reading) → Good s c → Good s (noMore s c)
 unfolding noMore
 good-no-more s (At at v) g =
-    pick-all (Good s) (ltb at (length s)) _ _ (λ e. good-start s 0x42 0x47 true true (At at v) g) (λ e. g)
+    pick-all (Good s) (ltb at (length s)) _ _ (λ e. onward-start s 0x42 0x47 true true (At at v) .good g) (λ e. g)
 good-no-more s (Refused r) g = g
 
 pub filters-fault : (f : List ℕ) (r : Refusal) → filtersGiven f ≡ Refused r → InputFault longestInput f r
@@ -37,11 +37,11 @@ filters-fault f r h =
 good-knowledge-of : (k : List ℕ) → Good k (knowledgeOf k .last)
 unfolding knowledgeOf
 good-knowledge-of k =
-    pick-all (λ (m : Knowing). Good k (m .last)) (eqb (length k) 0) _ _ (λ e. good-front k 0) (λ e. knowledge-good 12 0x42 k [] (At 0 0) (good-front k 0))
+    pick-all (λ (m : Knowing). Good k (m .last)) (eqb (length k) 0) _ _ (λ e. good-front k 0) (λ e. onward-knowledge 12 0x42 k [] (At 0 0) .good (good-front k 0))
 
 pub knowledge-fault : (k : List ℕ) (r : Refusal) → knowledgeGiven k ≡ Refused r → InputFault longestInput k r
 unfolding knowledgeGiven
 knowledge-fault k r h =
     let c = knowledgeOf k .last in
     input-fault longestInput k (knowledgeGiven k) (finish k (valued 0 c)) r (λ l. rw (lt-ltb longestInput (length k) l))
-    (λ l. rw (le-ltb longestInput (length k) l)) (good-finish k _ (good-valued k 0 c (good-knowledge-of k))) h
+    (λ l. rw (le-ltb longestInput (length k) l)) (onward-finish k _ .good (onward-valued k 0 c .good (good-knowledge-of k))) h

@@ -21,7 +21,7 @@ use Rattle.objects.specs.declared.reading.Reading.the-variants.{At, Refused}
 use Rattle.objects.proofs.Keep.{good-front}
 use Rattle.objects.proofs.StepsCarry.{opened-from}
 use Rattle.store.specs.Knowledge.{mostSaid, knowledgeAt}
-use Rattle.store.proofs.KnowledgeHeld.{knowledge-good}
+use Rattle.store.proofs.KnowledgeHeld.{onward-knowledge}
 use Rattle.request.specs.Filter.{filterAt, filtersFrom}
 use Rattle.request.specs.Message.{inRequest}
 use Rattle.request.proofs.Places.{good-filters}
@@ -65,7 +65,7 @@ finished k (Refused r) q v g h = impossible (cc)
 
 pub knowledge-whole : (k : List ℕ) (q v : ℕ) → knowledgeGiven k ≡ At q v → (length k ≡ 0 → ⊥) → AllRead k (knowledgeAt mostSaid 12 0x42 k [] (At 0 0) .last)
 knowledge-whole k q v h n =
-    finished k (knowledgeAt mostSaid 12 0x42 k [] (At 0 0) .last) q v (knowledge-good mostSaid 12 0x42 k [] (At 0 0) (good-front k 0))
+    finished k (knowledgeAt mostSaid 12 0x42 k [] (At 0 0) .last) q v (onward-knowledge mostSaid 12 0x42 k [] (At 0 0) .good (good-front k 0))
     (given-some k (knowledge-short k q v h) n ∙ h)
 
 -- ---- the filters

@@ -1,8 +1,9 @@
--- Every step stays within the part that it reads, or gives a fault whose place lies within, whose number is from 2 to 12, of the first
--- input, with no needed length; a place that is given to a step must lie within, and a number be from 2 to 12.
+-- Every step goes on from where it is: what is at or behind a place stays so, and what lies within the part that is read stays within it,
+-- or becomes a fault whose place lies within, whose number is from 2 to 12, of the first input, with no needed length. A place that is
+-- given to a step must lie within, and a number be from 2 to 12.
 -- Assumes nothing.
 use mathlib.Core.Path.{_≡_, refl}
-use mathlib.Core.Bool.{Bool, false}
+use mathlib.Core.Bool.{Bool, true, false}
 use mathlib.Core.Logic.{inl, inr}
 use mathlib.Core.List.{List}
 use Prim.Native.Nat.{ℕ, _-_, _+_, _<_, _≤_}
@@ -11,7 +12,7 @@ use lib.ListN.{length, take, drop, length-drop}
 use lib.Dec.{ltb, eqb}
 use borrow.Author.Tests.{ltb-false}
 use Rattle.laws.specs.Bytes.{le}
-use Rattle.laws.proofs.Cases.{pick-all}
+use Rattle.laws.proofs.Cases.{pick-all, impossible}
 use Rattle.numbers.specs.Refusals.{faultAt}
 use Rattle.numbers.specs.Compact.{readCompact}
 use Rattle.numbers.specs.ExtendedGuid.{readExtendedGuid}
@@ -27,7 +28,7 @@ use Rattle.numbers.specs.declared.serial.ReadSerial.the-variants as serial
 use Rattle.numbers.proofs.Within.{ItemFault, CompactWithin, compact-within, ExtendedGuidWithin, extended-guid-within, SerialWithin, serial-within}
 use Rattle.objects.specs.Header.{headerAt, lengthAt}
 use Rattle.objects.specs.Nesting.{runAt}
-use Rattle.objects.specs.Steps.{no, placeOf, valued, need, fixedIn, numberOn, number, numberIsOn, numberIs, nullIdOn, nullId, skip, guidHere, onGuid, idOn, idHere, onId, serialOn, serialHere, onSerial, sameBit, lengthTo, startOn, startHere, lengthIs, startOfLength, endOn, endHere, insideOn, inside, finish, runHere, closedAt, closed, FaultNumber, FaultWithin, Good}
+use Rattle.objects.specs.Steps.{then, no, placeOf, valued, need, fixedIn, numberOn, number, numberIsOn, numberIs, nullIdOn, nullId, skip, guidHere, onGuid, idOn, idHere, onId, serialOn, serialHere, onSerial, sameBit, lengthTo, startOn, startHere, lengthIs, startOfLength, endOn, endHere, startIs, nextIs, insideOn, inside, finish, runHere, closedAt, closed, Behind, FaultNumber, FaultWithin, Good}
 use Rattle.objects.specs.declared.header.Header.{Header}
 use Rattle.objects.specs.declared.header.Header.the-variants as header
 use Rattle.objects.specs.declared.header.Length.{Length}
@@ -40,170 +41,242 @@ use Rattle.objects.proofs.HeaderLaws.{Fits, header-fits, LengthFits, le
 use Rattle.objects.proofs.Ahead.{NestingFault, two, three, four, six, Ahead, run-ahead}
 use Rattle.objects.proofs.ItemsAt.{part-fits}
 
+-- ---- what a chain of steps that leads from c to e keeps
+
+pub record Onward (d : List ℕ) (c e : Reading) : Type 0 where
+  pub behind : (p : ℕ) → Behind p c → Behind p e
+  pub good : Good d c → Good d e
+
+pub stays : (d : List ℕ) (c : Reading) → Onward d c c
+stays d c = record { behind = λ p h. h; good = λ g. g }
+
+-- one chain and then the next
+pub onto : {d : List ℕ} {a b c : Reading} → Onward d a b → Onward d b c → Onward d a c
+onto f g = record { behind = λ p h. g .behind p (f .behind p h); good = λ h. g .good (f .good h) }
+
 -- a fault that a step gives
 pub fault-within : (m k p : ℕ) → FaultNumber k → p ≤ m → FaultWithin m (faultAt k p)
 fault-within m k p n h = record { number = n; input = refl; place = h; needed = refl }
 
+fails : (d : List ℕ) (c : Reading) (k p : ℕ) → FaultNumber k → (Good d c → p ≤ length d) → Onward d c (no k p)
+fails d c k p n h = record { behind = λ q b. tt; good = λ g. fault-within (length d) k p n (h g) }
+
+-- a step from `at` gets to c, at or behind `low`
+abbrev Gets : List ℕ → ℕ → ℕ → Reading → Type 0
+Gets d low at (At q v) = (low ≤ q) × (at ≤ length d → q ≤ length d)
+Gets d low at (Refused r) = at ≤ length d → FaultWithin (length d) r
+
+here : (d : List ℕ) (low at k : ℕ) → FaultNumber k → Gets d low at (no k at)
+here d low at k n = λ g. fault-within (length d) k at n g
+
+-- such a step, where no fault stands
+gets-on : (d : List ℕ) (at v : ℕ) (e : Reading) → Gets d at at e → Onward d (At at v) e
+gets-on d at v (At q u) w = record { behind = λ p h. omega arith; good = λ g. w .1 g }
+gets-on d at v (Refused r) w = record { behind = λ p h. tt; good = w }
+
+goes : (d : List ℕ) (c : Reading) (step : ℕ → Reading) → ((at : ℕ) → Gets d at at (step at)) → Onward d c (then c step)
+goes d (At at v) step f = gets-on d at v (step at) (f at)
+goes d (Refused r) step f = stays d (Refused r)
+
+-- ---- places
+
 pub good-front : (d : List ℕ) (v : ℕ) → Good d (At 0 v)
 good-front d v = omega arith
-
-pub good-valued : (d : List ℕ) (v : ℕ) (c : Reading) → Good d c → Good d (valued v c)
-unfolding valued
-good-valued d v (At at u) g = g
-good-valued d v (Refused r) g = g
-
-pub good-need : (d : List ℕ) (fine : Bool) (k p : ℕ) (c : Reading) → FaultNumber k → p ≤ length d → Good d c
-    → Good d (need fine k p c)
-unfolding need
-good-need d fine k p (At at v) n h g = pick-all (Good d) fine (At at v) (no k p) (λ e. g) (λ e. fault-within (length d) k p n h)
-good-need d fine k p (Refused r) n h g = g
-
--- ---- fields
-
--- n bytes that are there
-left-fits : (d : List ℕ) (at n : ℕ) → at ≤ length d → ltb (length d - at) n ≡ false → at + n ≤ length d
-left-fits d at n g e = let h = ltb-false (length d - at) n e in omega arith
-
-pub good-fixed : (d : List ℕ) (n least most k : ℕ) (c : Reading) → FaultNumber k → Good d c → Good d (fixedIn d n least most k c)
-unfolding fixedIn
-good-fixed d n least most k (At at v) h g =
-    let P = Good d in
-    let out = fault-within (length d) k at h g in
-    pick-all P (ltb (length d - at) n) _ _ (λ e. fault-within (length d) 2 at (omega arith) g)
-    (λ e.
-    pick-all P (ltb (le (take n (drop at d))) least) _ _ (λ f. out)
-    (λ f. pick-all P (ltb most (le (take n (drop at d)))) _ _ (λ i. out) (λ i. left-fits d at n g e)))
-good-fixed d n least most k (Refused r) h g = g
-
-pub good-skip : (d : List ℕ) (n : ℕ) (c : Reading) → Good d c → Good d (skip d n c)
-unfolding skip
-good-skip d n (At at v) g =
-    pick-all (Good d) (ltb (length d - at) n) _ _ (λ e. fault-within (length d) 2 at (omega arith) g) (λ e. left-fits d at n g e)
-good-skip d n (Refused r) g = g
-
--- an item of n bytes that lies within what is left
-item-fits : (d : List ℕ) (at n : ℕ) → at ≤ length d → (0 < n) × (n ≤ length (drop at d)) → at + n ≤ length d
-item-fits d at n g w = omega (arith, length-drop at d)
-
--- an item's own fault is 2 or 3, and is told at its place
-item-fault : (m at : ℕ) (r : Refusal) → ItemFault r → at ≤ m → FaultWithin m (faultAt (r .number) at)
-item-fault m at r (inl e) h = rw e (fault-within m 2 at (omega arith) h)
-item-fault m at r (inr e) h = rw e (fault-within m 3 at (omega arith) h)
-
-good-number-on : (d : List ℕ) (at : ℕ) (r : Compact) → at ≤ length d → CompactWithin (length (drop at d)) r → Good d (numberOn at r)
-good-number-on d at (compact.Value v n) g w = item-fits d at n g w
-good-number-on d at (compact.Refused r) g w = item-fault (length d) at r w g
-
-pub good-number : (d : List ℕ) (c : Reading) → Good d c → Good d (number d c)
-unfolding number
-good-number d (At at v) g = good-number-on d at (readCompact (drop at d)) g (compact-within (drop at d))
-good-number d (Refused r) g = g
-
-good-number-is-on : (d : List ℕ) (x k at : ℕ) (r : Compact) → FaultNumber k → at ≤ length d → CompactWithin (length (drop at d)) r
-    → Good d (numberIsOn x k at r)
-good-number-is-on d x k at (compact.Value v n) h g w =
-    pick-all (Good d) (eqb v x) (At (at + n) v) (no k at) (λ e. item-fits d at n g w) (λ e. fault-within (length d) k at h g)
-good-number-is-on d x k at (compact.Refused r) h g w = item-fault (length d) at r w g
-
-pub good-number-is : (d : List ℕ) (x k : ℕ) (c : Reading) → FaultNumber k → Good d c → Good d (numberIs d x k c)
-unfolding numberIs
-good-number-is d x k (At at v) h g = good-number-is-on d x k at (readCompact (drop at d)) h g (compact-within (drop at d))
-good-number-is d x k (Refused r) h g = g
-
-good-null-on : (d : List ℕ) (k at : ℕ) (r : ReadExtendedGuid) → FaultNumber k → at ≤ length d → ExtendedGuidWithin (length (drop at d)) r
-    → Good d (nullIdOn k at r)
-good-null-on d k at (extended.Value id.Null n) h g w = item-fits d at n g w
-good-null-on d k at (extended.Value (id.Named i x) n) h g w = fault-within (length d) k at h g
-good-null-on d k at (extended.Refused r) h g w = item-fault (length d) at r w g
-
-pub good-null-id : (d : List ℕ) (k : ℕ) (c : Reading) → FaultNumber k → Good d c → Good d (nullId d k c)
-unfolding nullId
-good-null-id d k (At at v) h g = good-null-on d k at (readExtendedGuid (drop at d)) h g (extended-guid-within (drop at d))
-good-null-id d k (Refused r) h g = g
-
-pub good-guid : (d : List ℕ) (c : Reading) → Good d c → Good d (onGuid (guidHere d c))
-unfolding guidHere onGuid
-good-guid d (At at v) g =
-    pick-all (λ r. Good d (onGuid r)) (ltb (length d - at) 16) _ _ (λ e. fault-within (length d) 2 at (omega arith) g) (λ e. left-fits d at 16 g e)
-good-guid d (Refused r) g = g
-
-good-id-on : (d : List ℕ) (at : ℕ) (r : ReadExtendedGuid) → at ≤ length d → ExtendedGuidWithin (length (drop at d)) r → Good d (onId (idOn at r))
-unfolding onId
-good-id-on d at (extended.Value x n) g w = item-fits d at n g w
-good-id-on d at (extended.Refused r) g w = item-fault (length d) at r w g
-
-pub good-id : (d : List ℕ) (c : Reading) → Good d c → Good d (onId (idHere d c))
-unfolding idHere onId
-good-id d (At at v) g = good-id-on d at (readExtendedGuid (drop at d)) g (extended-guid-within (drop at d))
-good-id d (Refused r) g = g
-
-good-serial-on : (d : List ℕ) (at : ℕ) (r : ReadSerial) → at ≤ length d → SerialWithin (length (drop at d)) r → Good d (onSerial (serialOn at r))
-unfolding onSerial
-good-serial-on d at (serial.Value x n) g w = item-fits d at n g w
-good-serial-on d at (serial.Refused r) g w = item-fault (length d) at r w g
-
-pub good-serial : (d : List ℕ) (c : Reading) → Good d c → Good d (onSerial (serialHere d c))
-unfolding serialHere onSerial
-good-serial d (At at v) g = good-serial-on d at (readSerial (drop at d)) g (serial-within (drop at d))
-good-serial d (Refused r) g = g
-
--- ---- objects
-
-good-length-to : (d : List ℕ) (at : ℕ) (l : Length) → at ≤ length d → LengthFits d at l → Good d (lengthTo l)
-good-length-to d at (length′.Is v from) g w = w .1 g
-good-length-to d at (length′.Refused r) g (inl e) = rw e (fault-within (length d) 2 at (omega arith) g)
-good-length-to d at (length′.Refused r) g (inr e) = rw e (fault-within (length d) 3 at (omega arith) g)
-
-good-start-on : (d : List ℕ) (outer kind : ℕ) (compound room : Bool) (at : ℕ) (h : Header) → at ≤ length d → Fits at (length d - at) h
-    → Good d (startOn d outer kind compound room at h)
-good-start-on d outer kind compound room at (header.Refused r) g w = rw w (fault-within (length d) 2 at (omega arith) g)
-good-start-on d outer kind compound room at (header.End k u) g w =
-    pick-all (Good d) (eqb k outer) (no 5 at) (no 4 at) (λ e. fault-within (length d) 5 at (omega arith) g)
-    (λ e. fault-within (length d) 4 at (omega arith) g)
-good-start-on d outer kind compound room at (header.Start k b n u) g w =
-    let P = Good d in
-    let five = fault-within (length d) 5 at (omega arith) g in
-    pick-all P (eqb k kind) _ _
-    (λ e.
-    pick-all P (sameBit b compound) _ _
-    (λ f.
-    pick-all P room _ _ (λ h. good-length-to d (at + u) (lengthAt d (at + u) n) (omega arith) (length-fits d (at + u) n))
-    (λ h. fault-within (length d) 9 at (omega arith) g))
-    (λ f. five))
-    (λ e. five)
-
-pub good-start : (d : List ℕ) (outer kind : ℕ) (compound room : Bool) (c : Reading) → Good d c → Good d (startHere d outer kind compound room c)
-unfolding startHere
-good-start d outer kind compound room (At at v) g = good-start-on d outer kind compound room at (headerAt d at) g (header-fits d at)
-good-start d outer kind compound room (Refused r) g = g
-
-pub good-length-is : (d : List ℕ) (n p : ℕ) (c : Reading) → p ≤ length d → Good d c → Good d (lengthIs n p c)
-unfolding lengthIs
-good-length-is d n p (At from v) h g =
-    pick-all (Good d) (eqb v n) (At from v) (no 5 p) (λ e. g) (λ e. fault-within (length d) 5 p (omega arith) h)
-good-length-is d n p (Refused r) h g = g
 
 pub good-place : (d : List ℕ) (c : Reading) → Good d c → placeOf c ≤ length d
 unfolding placeOf
 good-place d (At at v) g = g
 good-place d (Refused r) g = omega arith
 
-pub good-start-of-length : (d : List ℕ) (outer kind : ℕ) (compound room : Bool) (n : ℕ) (c : Reading) → Good d c
-    → Good d (startOfLength d outer kind compound room n c)
+pub behind-place : (c : Reading) → Behind (placeOf c) c
+unfolding placeOf
+behind-place (At at v) = omega arith
+behind-place (Refused r) = tt
+
+pub onward-valued : (d : List ℕ) (v : ℕ) (c : Reading) → Onward d c (valued v c)
+unfolding valued
+onward-valued d v c = goes d c (λ at. At at v) (λ at. (omega arith, λ g. g))
+
+pub onward-need : (d : List ℕ) (fine : Bool) (k p : ℕ) (c : Reading) → FaultNumber k → p ≤ length d → Onward d c (need fine k p c)
+unfolding need
+onward-need d fine k p (At at v) n h =
+    pick-all (Onward d (At at v)) fine (At at v) (no k p) (λ e. stays d (At at v)) (λ e. fails d (At at v) k p n (λ g. h))
+onward-need d fine k p (Refused r) n h = stays d (Refused r)
+
+-- ---- fields
+
+-- n bytes that are there
+left-fits : (d : List ℕ) (at n v : ℕ) → ltb (length d - at) n ≡ false → Gets d at at (At (at + n) v)
+left-fits d at n v e = let h = ltb-false (length d - at) n e in (omega arith, λ g. omega arith)
+
+pub onward-fixed : (d : List ℕ) (n least most k : ℕ) (c : Reading) → FaultNumber k → Onward d c (fixedIn d n least most k c)
+unfolding fixedIn
+onward-fixed d n least most k c h =
+    goes d c _
+    (λ at.
+    let P = Gets d at at in
+    pick-all P (ltb (length d - at) n) _ _ (λ e. here d at at 2 (omega arith))
+    (λ e.
+    pick-all P (ltb (le (take n (drop at d))) least) _ _ (λ f. here d at at k h)
+    (λ f. pick-all P (ltb most (le (take n (drop at d)))) _ _ (λ i. here d at at k h) (λ i. left-fits d at n 0 e))))
+
+pub onward-skip : (d : List ℕ) (n : ℕ) (c : Reading) → Onward d c (skip d n c)
+unfolding skip
+onward-skip d n c =
+    goes d c _ (λ at. pick-all (Gets d at at) (ltb (length d - at) n) _ _ (λ e. here d at at 2 (omega arith)) (λ e. left-fits d at n 0 e))
+
+-- an item that lies within what is left, and an item's own fault, which is 2 or 3, told at its place
+item-fits : (d : List ℕ) (at n v : ℕ) → (0 < n) × (n ≤ length (drop at d)) → Gets d at at (At (at + n) v)
+item-fits d at n v w = (omega arith, λ g. omega (arith, length-drop at d))
+
+item-fault : (d : List ℕ) (at : ℕ) (r : Refusal) → ItemFault r → Gets d at at (no (r .number) at)
+item-fault d at r (inl e) = rw e (here d at at 2 (omega arith))
+item-fault d at r (inr e) = rw e (here d at at 3 (omega arith))
+
+number-on : (d : List ℕ) (at : ℕ) (r : Compact) → CompactWithin (length (drop at d)) r → Gets d at at (numberOn at r)
+number-on d at (compact.Value v n) w = item-fits d at n v w
+number-on d at (compact.Refused r) w = item-fault d at r w
+
+pub onward-number : (d : List ℕ) (c : Reading) → Onward d c (number d c)
+unfolding number
+onward-number d c = goes d c _ (λ at. number-on d at (readCompact (drop at d)) (compact-within (drop at d)))
+
+number-is-on : (d : List ℕ) (x k at : ℕ) (r : Compact) → FaultNumber k → CompactWithin (length (drop at d)) r → Gets d at at (numberIsOn x k at r)
+number-is-on d x k at (compact.Value v n) h w =
+    pick-all (Gets d at at) (eqb v x) (At (at + n) v) (no k at) (λ e. item-fits d at n v w) (λ e. here d at at k h)
+number-is-on d x k at (compact.Refused r) h w = item-fault d at r w
+
+pub onward-number-is : (d : List ℕ) (x k : ℕ) (c : Reading) → FaultNumber k → Onward d c (numberIs d x k c)
+unfolding numberIs
+onward-number-is d x k c h = goes d c _ (λ at. number-is-on d x k at (readCompact (drop at d)) h (compact-within (drop at d)))
+
+null-on : (d : List ℕ) (k at : ℕ) (r : ReadExtendedGuid) → FaultNumber k → ExtendedGuidWithin (length (drop at d)) r → Gets d at at (nullIdOn k at r)
+null-on d k at (extended.Value id.Null n) h w = item-fits d at n 0 w
+null-on d k at (extended.Value (id.Named i x) n) h w = here d at at k h
+null-on d k at (extended.Refused r) h w = item-fault d at r w
+
+pub onward-null-id : (d : List ℕ) (k : ℕ) (c : Reading) → FaultNumber k → Onward d c (nullId d k c)
+unfolding nullId
+onward-null-id d k c h = goes d c _ (λ at. null-on d k at (readExtendedGuid (drop at d)) h (extended-guid-within (drop at d)))
+
+pub onward-guid : (d : List ℕ) (c : Reading) → Onward d c (onGuid (guidHere d c))
+unfolding guidHere onGuid
+onward-guid d (At at v) =
+    pick-all (λ r. Onward d (At at v) (onGuid r)) (ltb (length d - at) 16) _ _ (λ e. fails d (At at v) 2 at (omega arith) (λ g. g))
+    (λ e. gets-on d at v (At (at + 16) 0) (left-fits d at 16 0 e))
+onward-guid d (Refused r) = stays d (Refused r)
+
+id-on : (d : List ℕ) (at : ℕ) (r : ReadExtendedGuid) → ExtendedGuidWithin (length (drop at d)) r → Gets d at at (onId (idOn at r))
+unfolding onId
+id-on d at (extended.Value x n) w = item-fits d at n 0 w
+id-on d at (extended.Refused r) w = item-fault d at r w
+
+pub onward-id : (d : List ℕ) (c : Reading) → Onward d c (onId (idHere d c))
+unfolding idHere onId
+onward-id d (At at v) = gets-on d at v _ (id-on d at (readExtendedGuid (drop at d)) (extended-guid-within (drop at d)))
+onward-id d (Refused r) = stays d (Refused r)
+
+serial-on : (d : List ℕ) (at : ℕ) (r : ReadSerial) → SerialWithin (length (drop at d)) r → Gets d at at (onSerial (serialOn at r))
+unfolding onSerial
+serial-on d at (serial.Value x n) w = item-fits d at n 0 w
+serial-on d at (serial.Refused r) w = item-fault d at r w
+
+pub onward-serial : (d : List ℕ) (c : Reading) → Onward d c (onSerial (serialHere d c))
+unfolding serialHere onSerial
+onward-serial d (At at v) = gets-on d at v _ (serial-on d at (readSerial (drop at d)) (serial-within (drop at d)))
+onward-serial d (Refused r) = stays d (Refused r)
+
+-- ---- objects
+
+length-gets : (d : List ℕ) (low at u : ℕ) (l : Length) → low ≤ at + u → at + u ≤ length d → LengthFits d (at + u) l → Gets d low at (lengthTo l)
+length-gets d low at u (length′.Is v from) h i w = (omega arith, λ g. w .1 i)
+length-gets d low at u (length′.Refused r) h i (inl e) = rw e (λ g. fault-within (length d) 2 (at + u) (omega arith) i)
+length-gets d low at u (length′.Refused r) h i (inr e) = rw e (λ g. fault-within (length d) 3 (at + u) (omega arith) i)
+
+-- a start goes on by a byte at least
+start-on : (d : List ℕ) (outer kind : ℕ) (compound room : Bool) (at : ℕ) (h : Header) → Fits at (length d - at) h
+    → Gets d (at + 1) at (startOn d outer kind compound room at h)
+start-on d outer kind compound room at (header.Refused r) w = rw w (here d (at + 1) at 2 (omega arith))
+start-on d outer kind compound room at (header.End k u) w =
+    pick-all (Gets d (at + 1) at) (eqb k outer) (no 5 at) (no 4 at) (λ e. here d (at + 1) at 5 (omega arith)) (λ e. here d (at + 1) at 4 (omega arith))
+start-on d outer kind compound room at (header.Start k b n u) w =
+    let P = Gets d (at + 1) at in
+    let five = here d (at + 1) at 5 (omega arith) in
+    pick-all P (eqb k kind) _ _
+    (λ e.
+    pick-all P (sameBit b compound) _ _
+    (λ f.
+    pick-all P room _ _ (λ i. length-gets d (at + 1) at u (lengthAt d (at + u) n) (omega arith) (omega arith) (length-fits d (at + u) n))
+    (λ i. here d (at + 1) at 9 (omega arith)))
+    (λ f. five))
+    (λ e. five)
+
+-- so it goes on, and past the place where it is
+weaker : (d : List ℕ) (at : ℕ) (e : Reading) → Gets d (at + 1) at e → Gets d at at e
+weaker d at (At q v) w = (omega arith, w .1)
+weaker d at (Refused r) w = w
+
+gets-past : (d : List ℕ) (p at : ℕ) (e : Reading) → p ≤ at → Gets d (at + 1) at e → Behind (p + 1) e
+gets-past d p at (At q v) h w = omega arith
+gets-past d p at (Refused r) h w = tt
+
+pub onward-start : (d : List ℕ) (outer kind : ℕ) (compound room : Bool) (c : Reading) → Onward d c (startHere d outer kind compound room c)
+unfolding startHere
+onward-start d outer kind compound room c =
+    let step : ℕ → Reading = λ at. startOn d outer kind compound room at (headerAt d at) in
+    goes d c step (λ at. weaker d at (step at) (start-on d outer kind compound room at (headerAt d at) (header-fits d at)))
+
+pub past-start : (d : List ℕ) (outer kind : ℕ) (compound room : Bool) (p : ℕ) (c : Reading) → Behind p c
+    → Behind (p + 1) (startHere d outer kind compound room c)
+unfolding startHere
+past-start d outer kind compound room p (At at v) h =
+    let i = headerAt d at in
+    gets-past d p at (startOn d outer kind compound room at i) h (start-on d outer kind compound room at i (header-fits d at))
+past-start d outer kind compound room p (Refused r) h = tt
+
+onward-length-is : (d : List ℕ) (n : ℕ) (c e : Reading) → Onward d c e → Onward d c (lengthIs n (placeOf c) e)
+unfolding lengthIs
+onward-length-is d n c (At from v) w =
+    pick-all (Onward d c) (eqb v n) (At from v) (no 5 (placeOf c)) (λ i. w) (λ i. fails d c 5 (placeOf c) (omega arith) (good-place d c))
+onward-length-is d n c (Refused r) w = w
+
+pub onward-start-of-length : (d : List ℕ) (outer kind : ℕ) (compound room : Bool) (n : ℕ) (c : Reading)
+    → Onward d c (startOfLength d outer kind compound room n c)
 unfolding startOfLength
-good-start-of-length d outer kind compound room n c g =
-    good-length-is d n (placeOf c) (startHere d outer kind compound room c) (good-place d c g) (good-start d outer kind compound room c g)
+onward-start-of-length d outer kind compound room n c =
+    onward-length-is d n c (startHere d outer kind compound room c) (onward-start d outer kind compound room c)
 
-good-end-on : (d : List ℕ) (kind at : ℕ) (h : Header) → at ≤ length d → Fits at (length d - at) h → Good d (endOn kind at h)
-good-end-on d kind at (header.Refused r) g w = rw w (fault-within (length d) 2 at (omega arith) g)
-good-end-on d kind at (header.End k u) g w =
-    pick-all (Good d) (eqb k kind) (At (at + u) 0) (no 4 at) (λ e. omega arith) (λ e. fault-within (length d) 4 at (omega arith) g)
-good-end-on d kind at (header.Start k b n u) g w = fault-within (length d) 5 at (omega arith) g
+past-length-is : (n p q : ℕ) (e : Reading) → Behind p e → Behind p (lengthIs n q e)
+unfolding lengthIs
+past-length-is n p q (At from v) h = pick-all (Behind p) (eqb v n) (At from v) (no 5 q) (λ i. h) (λ i. tt)
+past-length-is n p q (Refused r) h = tt
 
-pub good-end : (d : List ℕ) (kind : ℕ) (c : Reading) → Good d c → Good d (endHere d kind c)
+pub past-start-of-length : (d : List ℕ) (outer kind : ℕ) (compound room : Bool) (n p : ℕ) (c : Reading) → Behind p c
+    → Behind (p + 1) (startOfLength d outer kind compound room n c)
+unfolding startOfLength
+past-start-of-length d outer kind compound room n p c h =
+    past-length-is n (p + 1) (placeOf c) (startHere d outer kind compound room c) (past-start d outer kind compound room p c h)
+
+end-on : (d : List ℕ) (kind at : ℕ) (h : Header) → Fits at (length d - at) h → Gets d at at (endOn kind at h)
+end-on d kind at (header.Refused r) w = rw w (here d at at 2 (omega arith))
+end-on d kind at (header.End k u) w =
+    pick-all (Gets d at at) (eqb k kind) (At (at + u) 0) (no 4 at) (λ e. (omega arith, λ g. omega arith)) (λ e. here d at at 4 (omega arith))
+end-on d kind at (header.Start k b n u) w = here d at at 5 (omega arith)
+
+pub onward-end : (d : List ℕ) (kind : ℕ) (c : Reading) → Onward d c (endHere d kind c)
 unfolding endHere
-good-end d kind (At at v) g = good-end-on d kind at (headerAt d at) g (header-fits d at)
-good-end d kind (Refused r) g = g
+onward-end d kind c = goes d c _ (λ at. end-on d kind at (headerAt d at) (header-fits d at))
+
+-- where a start stands next, the input goes on
+next-on : (kind at m : ℕ) (h : Header) → startIs kind h ≡ true → Fits at m h → 0 < m
+next-on kind at m (header.Refused r) e w = impossible (cc)
+next-on kind at m (header.End k u) e w = impossible (cc)
+next-on kind at m (header.Start k b n u) e w = omega arith
+
+pub next-within : (d : List ℕ) (kind : ℕ) (c : Reading) → nextIs d kind c ≡ true → placeOf c < length d
+unfolding nextIs placeOf
+next-within d kind (At at v) e = let w = next-on kind at (length d - at) (headerAt d at) e (header-fits d at) in omega arith
+next-within d kind (Refused r) e = impossible (cc)
 
 nesting-fault : (m : ℕ) (r : Refusal) → NestingFault r → r .place ≤ m → FaultWithin m r
 nesting-fault m _ (two p) h = fault-within m 2 p (omega arith) h
@@ -211,34 +284,41 @@ nesting-fault m _ (three p) h = fault-within m 3 p (omega arith) h
 nesting-fault m _ (four p) h = fault-within m 4 p (omega arith) h
 nesting-fault m _ (six p) h = fault-within m 6 p (omega arith) h
 
-good-inside-on : (d : List ℕ) (at : ℕ) (p : Passed) → at ≤ length d → Ahead d at p → Good d (insideOn p)
-good-inside-on d at (passed.To e) g a = a .1
-good-inside-on d at (passed.Refused r) g a = nesting-fault (length d) r (a .2) (a .1 g)
+inside-on : (d : List ℕ) (at : ℕ) (p : Passed) → Ahead d at p → Gets d at at (insideOn p)
+inside-on d at (passed.To e) a = (omega arith, λ g. a .1)
+inside-on d at (passed.Refused r) a = λ g. nesting-fault (length d) r (a .2) (a .1 g)
 
-pub good-inside : (d : List ℕ) (depth kind : ℕ) (c : Reading) → Good d c → Good d (inside d depth kind c)
+pub onward-inside : (d : List ℕ) (depth kind : ℕ) (c : Reading) → Onward d c (inside d depth kind c)
 unfolding inside
-good-inside d depth kind (At at v) g = good-inside-on d at (runAt d at depth kind) g (run-ahead d at depth kind)
-good-inside d depth kind (Refused r) g = g
+onward-inside d depth kind c = goes d c _ (λ at. inside-on d at (runAt d at depth kind) (run-ahead d at depth kind))
 
-pub good-finish : (d : List ℕ) (c : Reading) → Good d c → Good d (finish d c)
+pub onward-finish : (d : List ℕ) (c : Reading) → Onward d c (finish d c)
 unfolding finish
-good-finish d (At at v) g =
-    pick-all (Good d) (ltb at (length d)) (no 5 at) (At at v) (λ e. fault-within (length d) 5 at (omega arith) g) (λ e. g)
-good-finish d (Refused r) g = g
+onward-finish d (At at v) =
+    pick-all (Onward d (At at v)) (ltb at (length d)) (no 5 at) (At at v) (λ e. fails d (At at v) 5 at (omega arith) (λ g. g)) (λ e. stays d (At at v))
+onward-finish d (Refused r) = stays d (Refused r)
 
 -- ---- a data run, read by fields that stay within it
 
 run-fits : (d : List ℕ) (from n : ℕ) → from ≤ length d → from + length (take n (drop from d)) ≤ length d
 run-fits d from n g = part-fits d from n (length d) g (omega arith)
 
-pub good-closed : (d : List ℕ) (c f : Reading) → Good d c → Good (runHere d c) f → Good d (closed d c f)
+pub onward-closed : (d : List ℕ) (c f : Reading) → Good (runHere d c) f → Onward d c (closed d c f)
 unfolding runHere closedAt
-good-closed d (Refused r) f g h = g
-good-closed d (At from n) (Refused r) g h =
+onward-closed d (Refused r) f h = stays d (Refused r)
+onward-closed d (At from n) (Refused r) h =
     let p = h .place in
-    record { number = h .number; input = h .input; place = omega (arith, run-fits d from n g); needed = h .needed }
-good-closed d (At from n) (At p v) g h =
+    record {
+      behind = λ q b. tt;
+      good =
+          λ g.
+          record { number = h .number; input = h .input; place = omega (arith, run-fits d from n g); needed = h .needed };
+    }
+onward-closed d (At from n) (At p v) h =
+    let c = At from n in
     let m = length (take n (drop from d)) in
-    let P = Good d in
-    pick-all P (ltb p m) _ _ (λ e. fault-within (length d) 5 (from + p) (omega arith) (omega (arith, run-fits d from n g)))
-    (λ e. pick-all P (ltb m n) _ _ (λ k. fault-within (length d) 2 (from + m) (omega arith) (run-fits d from n g)) (λ k. run-fits d from n g))
+    let P = Onward d c in
+    pick-all P (ltb p m) _ _ (λ e. fails d c 5 (from + p) (omega arith) (λ g. omega (arith, run-fits d from n g)))
+    (λ e.
+    pick-all P (ltb m n) _ _ (λ k. fails d c 2 (from + m) (omega arith) (λ g. run-fits d from n g))
+    (λ k. record { behind = λ q b. omega arith; good = λ g. run-fits d from n g }))

@@ -12,7 +12,6 @@ pub mod ItemsAt
 pub mod NullId
 pub mod Keep
 pub mod InputFaults
-pub mod Forward
 pub mod WholeHeaders
 pub mod Calls
 pub mod HeadersBack

@@ -15,10 +15,10 @@ use Rattle.numbers.specs.declared.refusal.Refusal.{Refusal}
 use Rattle.objects.specs.Steps.{placeOf, nothingOpen, startHere, runHere, closed, endHere, nextIs, finish, Good}
 use Rattle.objects.specs.declared.reading.Reading.{Reading}
 use Rattle.objects.specs.declared.reading.Reading.the-variants.{At, Refused}
-use Rattle.objects.proofs.Keep.{good-front, good-place, good-fixed, good-valued, good-skip, good-start, good-start-of-length, good-closed, good-inside, good-end, good-finish}
+use Rattle.objects.proofs.Keep.{good-front, good-place, onward-fixed, onward-valued, onward-skip, onward-start, onward-start-of-length, onward-closed, onward-inside, onward-end, onward-finish}
 use Rattle.objects.proofs.InputFaults.{InputFault, input-fault}
 use Rattle.store.specs.Knowledge.{mostSaid, Knowing}
-use Rattle.store.proofs.KnowledgeHeld.{knowledge-good}
+use Rattle.store.proofs.KnowledgeHeld.{onward-knowledge}
 use Rattle.request.specs.Filter.{filterFields, oneNumber, typePart, idsField, idsPart, kindPart, filterStart, filterKind, filterOpened, filterAt, filtersFrom}
 use Rattle.request.specs.Message.{versions, requestSignature, userAgent, subRequestFields, subRequest, queryChanges, argumentFields, arguments, constraint, knowledgePart, packagePart, identified, constrainedFrom, constrained, filtered, ended, requestKnowing, inRequest, requestAnswer, requestIn}
 use Rattle.request.specs.declared.message.Request.the-variants as request
@@ -27,7 +27,7 @@ use Rattle.request.proofs.Inside.{good-one-number, good-sub-request-fie
 -- a start, and its data run read by fields that stay within it
 good-run : (s : List ℕ) (outer kind : ℕ) (fields : List ℕ → Reading) → ((d : List ℕ) → Good d (fields d)) → (c : Reading) → Good s c
     → Good s (closed s (startHere s outer kind false true c) (fields (runHere s (startHere s outer kind false true c))))
-good-run s outer kind fields f c g = good-closed s (startHere s outer kind false true c) _ (good-start s outer kind false true c g) (f (runHere s (startHere s outer kind false true c)))
+good-run s outer kind fields f c g = onward-closed s (startHere s outer kind false true c) _ (f (runHere s (startHere s outer kind false true c))) .good (onward-start s outer kind false true c .good g)
 
 -- ---- filters
 
@@ -41,39 +41,39 @@ good-filter : (s : List ℕ) (c : Reading) → Good s c → Good s (filterAt s c
 unfolding filterAt filterOpened
 good-filter s c g =
     let o = filterStart s c in
-    good-end s 0x47 _ (good-kind-part s (filterKind s c) _ (good-closed s o (filterFields (runHere s o) .last) (good-start s 0x42 0x47 true true c g) (good-filter-fields (runHere s o))))
+    onward-end s 0x47 _ .good (good-kind-part s (filterKind s c) _ (onward-closed s o (filterFields (runHere s o) .last) (good-filter-fields (runHere s o)) .good (onward-start s 0x42 0x47 true true c .good g)))
 
 pub good-filters : (left : ℕ) (s : List ℕ) (c : Reading) → Good s c → Good s (filtersFrom left s c)
 unfolding filtersFrom
-good-filters zero s c g = pick-all (Good s) (nextIs s 0x47 c) _ _ (λ e. good-start s 0x42 0x47 true false c g) (λ e. good-valued s 16 c g)
+good-filters zero s c g = pick-all (Good s) (nextIs s 0x47 c) _ _ (λ e. onward-start s 0x42 0x47 true false c .good g) (λ e. onward-valued s 16 c .good g)
 good-filters (suc left) s c g =
-    pick-all (Good s) (nextIs s 0x47 c) _ _ (λ e. good-filters left s (filterAt s c) (good-filter s c g)) (λ e. good-valued s (16 - suc left) c g)
+    pick-all (Good s) (nextIs s 0x47 c) _ _ (λ e. good-filters left s (filterAt s c) (good-filter s c g)) (λ e. onward-valued s (16 - suc left) c .good g)
 
 -- ---- the parts
 
 pub good-versions : (signature : ℕ) (s : List ℕ) → Good s (versions signature s)
 unfolding versions
 good-versions signature s =
-    good-fixed s 8 signature signature 7 _ (omega arith)
-    (good-fixed s 2 0 12 7 _ (omega arith) (good-fixed s 2 12 0xFFFF 7 (At 0 0) (omega arith) (good-front s 0)))
+    onward-fixed s 8 signature signature 7 _ (omega arith) .good
+    (onward-fixed s 2 0 12 7 _ (omega arith) .good (onward-fixed s 2 12 0xFFFF 7 (At 0 0) (omega arith) .good (good-front s 0)))
 
 good-user-agent : (s : List ℕ) (c : Reading) → Good s c → Good s (userAgent s c)
 unfolding userAgent
 good-user-agent s c g =
-    good-inside s 14 0x5D _ (good-start-of-length s 0x40 0x5D true true 0 _ (good-start-of-length s nothingOpen 0x40 true true 0 c g))
+    onward-inside s 14 0x5D _ .good (onward-start-of-length s 0x40 0x5D true true 0 _ .good (onward-start-of-length s nothingOpen 0x40 true true 0 c .good g))
 
 good-sub-request : (s : List ℕ) (c : Reading) → Good s c → Good s (subRequest s c)
 unfolding subRequest
 good-sub-request s c g =
     let o = startHere s 0x40 0x42 true true c in
-    good-closed s o (subRequestFields (runHere s o)) (good-start s 0x40 0x42 true true c g) (good-sub-request-fields (runHere s o))
+    onward-closed s o (subRequestFields (runHere s o)) (good-sub-request-fields (runHere s o)) .good (onward-start s 0x40 0x42 true true c .good g)
 
 good-constrained-from : (s : List ℕ) (c : Reading) → Good s c → Good s (constrainedFrom s c)
 unfolding constrainedFrom queryChanges arguments constraint
 good-constrained-from s c g =
-    let a = good-skip s 1 _ (good-start-of-length s 0x42 0x51 false true 1 c g) in
+    let a = onward-skip s 1 _ .good (onward-start-of-length s 0x42 0x51 false true 1 c .good g) in
     let b = good-run s 0x42 0x5B argumentFields good-argument-fields _ a in
-    pick-all (Good s) (nextIs s 0x59 _) _ _ (λ e. good-run s 0x42 0x59 oneNumber good-one-number _ b) (λ e. good-valued s 0xFFFFFFFFFFFFFFFF _ b)
+    pick-all (Good s) (nextIs s 0x59 _) _ _ (λ e. good-run s 0x42 0x59 oneNumber good-one-number _ b) (λ e. onward-valued s 0xFFFFFFFFFFFFFFFF _ .good b)
 
 good-constrained : (s : List ℕ) → Good s (constrained s)
 unfolding identified
@@ -84,16 +84,16 @@ good-filtered s = good-filters 16 s (constrained s) (good-constrained s)
 
 good-knowledge-part : (s t : List ℕ) (c : Reading) → Good s c → Good s (knowledgePart s t c .last)
 unfolding knowledgePart
-good-knowledge-part s t c g = pick-all (λ (k : Knowing). Good s (k .last)) (nextIs s 0x10 c) _ _ (λ e. knowledge-good mostSaid 12 0x42 s t c g) (λ e. g)
+good-knowledge-part s t c g = pick-all (λ (k : Knowing). Good s (k .last)) (nextIs s 0x10 c) _ _ (λ e. onward-knowledge mostSaid 12 0x42 s t c .good g) (λ e. g)
 
 good-package-part : (s : List ℕ) (c : Reading) → Good s c → Good s (packagePart s c)
 unfolding packagePart
 good-package-part s c g =
-    pick-all (Good s) (nextIs s 0x15 c) _ _ (λ e. good-inside s 14 0x15 _ (good-skip s 1 _ (good-start-of-length s 0x40 0x15 true true 1 c g))) (λ e. g)
+    pick-all (Good s) (nextIs s 0x15 c) _ _ (λ e. onward-inside s 14 0x15 _ .good (onward-skip s 1 _ .good (onward-start-of-length s 0x40 0x15 true true 1 c .good g))) (λ e. g)
 
 good-ended : (s : List ℕ) (c : Reading) → Good s c → Good s (ended s c)
 unfolding ended
-good-ended s c g = good-finish s _ (good-end s 0x40 _ (good-package-part s _ (good-end s 0x42 c g)))
+good-ended s c g = onward-finish s _ .good (onward-end s 0x40 _ .good (good-package-part s _ (onward-end s 0x42 c .good g)))
 
 -- ---- the whole
 

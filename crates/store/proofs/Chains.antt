@@ -13,7 +13,7 @@ use Rattle.laws.specs.Once.{once}
 use Rattle.laws.proofs.Cases.{by-bool, by-lt, pick-all, impossible, eqb-turn}
 use Rattle.laws.proofs.Twice.{once-more}
 use Rattle.numbers.specs.Refusals.{longestInput}
-use Rattle.objects.specs.Steps.{_▹_, no, sameBit, nothingOpen, placeOf, skip, startOn, startOfLength, startHere, endOn, endHere, startIs, nextIs, finish, Behind, insideOn, inside}
+use Rattle.objects.specs.Steps.{_▹_, no, sameBit, nothingOpen, placeOf, skip, startOn, startOfLength, startHere, endOn, endHere, startIs, nextIs, finish, Behind}
 use Rattle.objects.specs.Header.{headerAt}
 use Rattle.objects.specs.declared.header.Header.{Header}
 use Rattle.objects.specs.declared.header.Header.the-variants as header
@@ -27,11 +27,7 @@ use Rattle.store.specs.declared.element.Key.{Key}
 use Rattle.store.specs.declared.element.Element.{Element}
 use Rattle.store.specs.declared.element.ReadElement.{ReadElement}
 use Rattle.store.specs.declared.element.ReadElement.the-variants as element
-use Rattle.objects.specs.Nesting.{runAt}
-use Rattle.objects.specs.declared.nesting.Passed.{Passed}
-use Rattle.objects.specs.declared.nesting.Passed.the-variants as passed
-use Rattle.objects.proofs.Ahead.{run-next}
-use Rattle.store.proofs.Fields.{element-parts, data-at-least}
+use Rattle.store.proofs.Fields.{element-parts, element-past}
 use Rattle.store.proofs.ElementCarry.{element-made}
 use Rattle.store.proofs.Taken.{element-unseen}
 use Rattle.store.proofs.Walks.{walk-ends, walk-element}
@@ -111,22 +107,13 @@ walk-read (suc left) s done at v =
 
 -- ---- what a chain is
 
-passed-past : (s : List ℕ) (p q depth e v : ℕ) (r : Passed) → p ≤ q → runAt s q depth 0x01 ≡ r → insideOn r ≡ reading.At e v → p < e
-passed-past s p q depth e v (passed.To x) h a i = let w = run-next s q depth 0x01 x a in let z : x ≡ e = cc in omega arith
-passed-past s p q depth e v (passed.Refused r) h a i = impossible (cc)
-
-inside-past : (s : List ℕ) (p depth e v : ℕ) (c : Reading) → Behind p c → inside s depth 0x01 c ≡ reading.At e v → p < e
-unfolding inside
-inside-past s p depth e v (reading.At q u) h i = passed-past s p q depth e v (runAt s q depth 0x01) h refl i
-inside-past s p depth e v (reading.Refused r) h i = impossible (cc)
-
 -- an element stands where it was looked for, and is not empty
 element-some : (depth : ℕ) (ids serials : List Key) (s : List ℕ) (at v : ℕ) (x : Element) → elementAt depth ids serials s (reading.At at v) ≡ element.Is x
     → (x .place ≡ at) × (0 < x .length)
 unfolding placeOf
 element-some depth ids serials s at v x h =
     let p = element-parts depth ids serials s (reading.At at v) x h in
-    let b = inside-past s at depth (p .end) (p .stop) (dataOf ids serials s (reading.At at v)) (data-at-least ids serials s (reading.At at v)) (p .reached) in
+    let b : Behind (at + 1) (reading.At (p .end) (p .stop)) = subst (Behind (at + 1)) (p .reached) (element-past depth ids serials s (reading.At at v)) in
     let n = p .length′ in
     (p .place, omega arith)
 

@@ -17,8 +17,7 @@ use Rattle.objects.specs.declared.reading.ReadingId.{ReadingId}
 use Rattle.objects.specs.declared.reading.ReadingId.the-variants as id′
 use Rattle.objects.specs.declared.reading.ReadingSerial.{ReadingSerial}
 use Rattle.objects.specs.declared.reading.ReadingSerial.the-variants as serial′
-use Rattle.objects.proofs.Keep.{fault-within, good-front, good-place, good-id, good-serial, good-number, good-start, good-closed, good-inside}
-use Rattle.objects.proofs.Forward.{behind-place, behind-start, behind-closed, behind-inside}
+use Rattle.objects.proofs.Keep.{Onward, onto, fault-within, good-front, good-place, behind-place, onward-id, onward-serial, onward-number, onward-start, past-start, onward-closed, onward-inside}
 use Rattle.store.specs.Element.{sameKey, namedKey, numberedKey, freshKey, keyHere, onKey, idField, serialField, fieldsOf, opened, dataOf, elementOn, elementAt}
 use Rattle.store.specs.declared.element.Key.{Key}
 use Rattle.store.specs.declared.element.Element.{Element}
@@ -51,7 +50,7 @@ unfolding idField
 good-id-field ids d =
     let c = namedKey 0 (idHere d (reading.At 0 0)) in
     good-fresh d 0 (seen sameKey (keyHere c) ids) c (omega arith)
-    (good-named d 0 (idHere d (reading.At 0 0)) (omega arith) (good-id d (reading.At 0 0) (good-front d 0)))
+    (good-named d 0 (idHere d (reading.At 0 0)) (omega arith) (onward-id d (reading.At 0 0) .good (good-front d 0)))
 
 pub good-serial-field : (serials : List Key) (d : List ℕ) (c : Reading) → Good d c → Good d (onKey (serialField serials d c))
 unfolding serialField
@@ -59,37 +58,37 @@ good-serial-field serials d c g =
     let p = placeOf c in
     let k = numberedKey p (serialHere d c) in
     good-fresh d p (seen sameKey (keyHere k) serials) k (good-place d c g)
-    (good-numbered d p (serialHere d c) (good-place d c g) (good-serial d c g))
+    (good-numbered d p (serialHere d c) (good-place d c g) (onward-serial d c .good g))
 
 pub good-fields : (ids serials : List Key) (d : List ℕ) → Good d (fieldsOf ids serials d .last)
 unfolding fieldsOf
 good-fields ids serials d =
-    good-number d (onKey (serialField serials d (onKey (idField ids d)))) (good-serial-field serials d (onKey (idField ids d)) (good-id-field ids d))
+    onward-number d (onKey (serialField serials d (onKey (idField ids d)))) .good (good-serial-field serials d (onKey (idField ids d)) (good-id-field ids d))
 
 -- ---- the element
 
-pub good-data : (ids serials : List Key) (s : List ℕ) (c : Reading) → Good s c → Good s (dataOf ids serials s c)
+pub onward-data : (ids serials : List Key) (s : List ℕ) (c : Reading) → Onward s c (dataOf ids serials s c)
 unfolding dataOf
-good-data ids serials s c g =
-    good-closed s (opened s c) (fieldsOf ids serials (runHere s (opened s c)) .last) (good-start s 0x15 0x01 true true c g)
-    (good-fields ids serials (runHere s (opened s c)))
+onward-data ids serials s c =
+    let o = opened s c in
+    onto (onward-start s 0x15 0x01 true true c) (onward-closed s o (fieldsOf ids serials (runHere s o) .last) (good-fields ids serials (runHere s o)))
 
-pub data-at-least : (ids serials : List Key) (s : List ℕ) (c : Reading) → Behind (placeOf c) (dataOf ids serials s c)
-unfolding dataOf
-data-at-least ids serials s c =
-    behind-closed s (placeOf c) (opened s c) (fieldsOf ids serials (runHere s (opened s c)) .last)
-    (behind-start s 0x15 0x01 true true (placeOf c) c (behind-place c))
-
-pub behind-element : (depth : ℕ) (ids serials : List Key) (s : List ℕ) (c : Reading)
-    → Behind (placeOf c) (inside s depth 0x01 (dataOf ids serials s c))
-unfolding dataOf
-behind-element depth ids serials s c = behind-inside s depth 0x01 (placeOf c) (dataOf ids serials s c) (data-at-least ids serials s c)
+pub onward-element : (depth : ℕ) (ids serials : List Key) (s : List ℕ) (c : Reading) → Onward s c (inside s depth 0x01 (dataOf ids serials s c))
+onward-element depth ids serials s c = onto (onward-data ids serials s c) (onward-inside s depth 0x01 (dataOf ids serials s c))
 
 -- the same, with what the element's data is made of written out
 pub data-behind : (depth : ℕ) (ids serials : List Key) (s : List ℕ) (c : Reading)
     → Behind (placeOf c) (inside s depth 0x01 (closed s (opened s c) (fieldsOf ids serials (runHere s (opened s c)) .last)))
 unfolding dataOf
-data-behind depth ids serials s c = behind-element depth ids serials s c
+data-behind depth ids serials s c = onward-element depth ids serials s c .behind (placeOf c) (behind-place c)
+
+-- by a byte at least
+pub element-past : (depth : ℕ) (ids serials : List Key) (s : List ℕ) (c : Reading) → Behind (placeOf c + 1) (inside s depth 0x01 (dataOf ids serials s c))
+unfolding dataOf
+element-past depth ids serials s c =
+    let o = opened s c in
+    let d = onward-closed s o (fieldsOf ids serials (runHere s o) .last) (good-fields ids serials (runHere s o)) in
+    onto d (onward-inside s depth 0x01 (dataOf ids serials s c)) .behind (placeOf c + 1) (past-start s 0x15 0x01 true true (placeOf c) c (behind-place c))
 
 -- what an element that was read is made of
 pub record Parts (depth : ℕ) (ids serials : List Key) (s : List ℕ) (c : Reading) (x : Element) : Type 0 where
@@ -120,6 +119,7 @@ pub element-within : (depth : ℕ) (ids serials : List Key) (s : List ℕ) (c : 
     → Good s c → (x .place ≡ placeOf c) × (x .place + x .length ≤ length s)
 element-within depth ids serials s c x h g =
     let p = element-parts depth ids serials s c x h in
-    let w : Good s (reading.At (p .end) (p .stop)) = subst (Good s) (p .reached) (good-inside s depth 0x01 (dataOf ids serials s c) (good-data ids serials s c g)) in
-    let b : Behind (placeOf c) (reading.At (p .end) (p .stop)) = subst (Behind (placeOf c)) (p .reached) (behind-element depth ids serials s c) in
+    let o = onward-element depth ids serials s c in
+    let w : Good s (reading.At (p .end) (p .stop)) = subst (Good s) (p .reached) (o .good g) in
+    let b : Behind (placeOf c) (reading.At (p .end) (p .stop)) = subst (Behind (placeOf c)) (p .reached) (o .behind (placeOf c) (behind-place c)) in
     (p .place, omega arith)

@@ -10,13 +10,12 @@ use lib.Dec.{leb}
 use borrow.Author.Tests.{leb-true}
 use Rattle.laws.proofs.Cases.{pick-all}
 use Rattle.numbers.specs.declared.serial.Serial.the-variants as number
-use Rattle.objects.specs.Steps.{valueOf, need, onSerial, runHere, closed, nextIs, Behind, Good}
+use Rattle.objects.specs.Steps.{valueOf, need, onSerial, runHere, closed, nextIs, Good}
 use Rattle.objects.specs.declared.reading.Reading.{Reading}
 use Rattle.objects.specs.declared.reading.Reading.the-variants.{At, Refused}
 use Rattle.objects.specs.declared.reading.ReadingSerial.{ReadingSerial}
 use Rattle.objects.specs.declared.reading.ReadingSerial.the-variants as serial′
-use Rattle.objects.proofs.Keep.{good-front, good-need, good-place, good-number, good-guid, good-serial, good-start, good-closed}
-use Rattle.objects.proofs.Forward.{behind-start, behind-closed}
+use Rattle.objects.proofs.Keep.{Onward, onto, good-front, onward-need, good-place, onward-number, onward-guid, onward-serial, onward-start, onward-closed}
 use Rattle.talk.specs.Ranges.{Normal}
 use Rattle.talk.specs.declared.range.Range.{Range}
 use Rattle.talk.proofs.Insertion.{length-insert, normal-insert}
@@ -30,14 +29,14 @@ use Rattle.store.proofs.Taken.{stands-closed}
 -- ---- the fields stay within the data run
 
 good-from : (d : List ℕ) → Good d (fromField d)
-good-from d = good-number d _ (good-guid d (At 0 0) (good-front d 0))
+good-from d = onward-number d _ .good (onward-guid d (At 0 0) .good (good-front d 0))
 
 pub good-range-fields : (d : List ℕ) → Good d (rangeFields d .last)
 unfolding rangeFields
-good-range-fields d = good-need d _ 12 _ (toField d) (omega arith) (good-place d (fromField d) (good-from d)) (good-number d (fromField d) (good-from d))
+good-range-fields d = onward-need d _ 12 _ (toField d) (omega arith) (good-place d (fromField d) (good-from d)) .good (onward-number d (fromField d) .good (good-from d))
 
 pub good-entry-fields : (d : List ℕ) → Good d (onSerial (entrySerial d))
-good-entry-fields d = good-serial d (At 0 0) (good-front d 0)
+good-entry-fields d = onward-serial d (At 0 0) .good (good-front d 0)
 
 -- ---- what holds of the place behind an item holds of where the reading goes on
 
@@ -69,17 +68,11 @@ module _ (P : Reading → Type 0) (f : (e v : ℕ) → P (At e v) → P (At e 0)
       (λ e. on-range P f (rangeFields (runHere s (rangeStart s c)) .range) (closed s (rangeStart s c) (rangeFields (runHere s (rangeStart s c)) .last)) a)
       (λ e. on-entry P f (entrySerial (runHere s (entryStart s c))) s (entryStart s c) b)
 
-pub good-item : (s : List ℕ) (c : Reading) → Good s c → Good s (onItem (itemAt s c))
-good-item s c g =
-    on-item (Good s) (λ e v h. h) s c
-    (good-closed s (rangeStart s c) _ (good-start s 0x14 0x0F false true c g) (good-range-fields (runHere s (rangeStart s c))))
-    (good-closed s (entryStart s c) _ (good-start s 0x14 0x17 false true c g) (good-entry-fields (runHere s (entryStart s c))))
-
-pub behind-item : (s : List ℕ) (p : ℕ) (c : Reading) → Behind p c → Behind p (onItem (itemAt s c))
-behind-item s p c h =
-    on-item (Behind p) (λ e v g. g) s c
-    (behind-closed s p (rangeStart s c) _ (behind-start s 0x14 0x0F false true p c h))
-    (behind-closed s p (entryStart s c) _ (behind-start s 0x14 0x17 false true p c h))
+pub onward-item : (s : List ℕ) (c : Reading) → Onward s c (onItem (itemAt s c))
+onward-item s c =
+    on-item (Onward s c) (λ e v h. record { behind = h .behind; good = h .good }) s c
+    (onto (onward-start s 0x14 0x0F false true c) (onward-closed s (rangeStart s c) _ (good-range-fields (runHere s (rangeStart s c)))))
+    (onto (onward-start s 0x14 0x17 false true c) (onward-closed s (entryStart s c) _ (good-entry-fields (runHere s (entryStart s c)))))
 
 -- ---- from is not above to
 

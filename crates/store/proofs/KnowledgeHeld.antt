@@ -11,11 +11,10 @@ use lib.Seq.{drop-drop, drop-at}
 use Rattle.laws.specs.Pick.{pick}
 use Rattle.laws.proofs.Cases.{by-bool, pick-all, impossible}
 use Rattle.laws.proofs.Loops.{iterate-ind}
-use Rattle.objects.specs.Steps.{onGuid, startOfLength, nextIs, Behind, Good}
+use Rattle.objects.specs.Steps.{onGuid, startOfLength, nextIs}
 use Rattle.objects.specs.declared.reading.Reading.{Reading}
 use Rattle.objects.specs.declared.reading.Reading.the-variants.{At, Refused}
-use Rattle.objects.proofs.Keep.{good-start-of-length, good-end}
-use Rattle.objects.proofs.Forward.{behind-start-of-length, Past, past-behind, past-end}
+use Rattle.objects.proofs.Keep.{Onward, onto, onward-start-of-length, onward-end}
 use Rattle.talk.specs.Ranges.{within, holds, Normal}
 use Rattle.talk.specs.declared.range.Range.{Range}
 use Rattle.talk.proofs.Membership.{holds-insert}
@@ -26,7 +25,7 @@ use Rattle.store.specs.declared.item.Item.the-variants as item
 use Rattle.store.specs.declared.knowledge.ReadKnowledge.the-variants as read
 use Rattle.ranges.proofs.RangeRows.{length-numbers, laid-rows, length-laid}
 use Rattle.store.proofs.Items.{sound-item, united-normal, length-united}
-use Rattle.store.proofs.KnowledgeForward.{knowledge-falls, knowledge-more, knowledge-end, turn-more, past-specialized, good-specialized}
+use Rattle.store.proofs.KnowledgeForward.{knowledge-falls, knowledge-more, knowledge-end, turn-more, onward-specialized}
 
 -- ---- what holds at the start and is kept by each range and entry holds at the end
 
@@ -112,32 +111,18 @@ united-holds (item.Refused r) l a b n o = refl
 
 -- ---- the place
 
-good-from : (depth : ℕ) (s : List ℕ) (k : Knowing) → Good s (k .last) → Good s (knowledgeFrom depth s k .last)
-good-from depth s =
-    iterate-ind (λ m. knowledgeTurn depth s m) (λ m. toGo s (m .last)) unreached (knowledge-falls depth s) (λ (k : Knowing). Good s (k .last) → Good s (knowledgeFrom depth s k .last))
-    (λ k h g.
+onward-from : (depth : ℕ) (s : List ℕ) (k : Knowing) → Onward s (k .last) (knowledgeFrom depth s k .last)
+onward-from depth s =
+    iterate-ind (λ m. knowledgeTurn depth s m) (λ m. toGo s (m .last)) unreached (knowledge-falls depth s) (λ (k : Knowing). Onward s (k .last) (knowledgeFrom depth s k .last))
+    (λ k h.
     by-bool (nextIs s 0x44 (k .last))
-    (λ e. rw (knowledge-more depth s k e) (h (specializedFrom depth s k) (turn-more depth s k e) (good-specialized depth s k g)))
-    (λ e. rw (knowledge-end depth s k e) (good-end s 0x10 (k .last) g)))
+    (λ e. rw (knowledge-more depth s k e) (onto (onward-specialized depth s k) (h (specializedFrom depth s k) (turn-more depth s k e))))
+    (λ e. rw (knowledge-end depth s k e) (onward-end s 0x10 (k .last))))
 
-pub knowledge-good : (allowed depth outer : ℕ) (s t : List ℕ) (c : Reading) → Good s c → Good s (knowledgeAt allowed depth outer s t c .last)
+pub onward-knowledge : (allowed depth outer : ℕ) (s t : List ℕ) (c : Reading) → Onward s c (knowledgeAt allowed depth outer s t c .last)
 unfolding knowledgeAt
-knowledge-good allowed depth outer s t c g =
-    good-from depth s (knowing [] t allowed (startOfLength s outer 0x10 true true 0 c)) (good-start-of-length s outer 0x10 true true 0 c g)
-
--- it goes forward, by a byte at least
-past-from : (depth p : ℕ) (s : List ℕ) (k : Knowing) → Behind p (k .last) → Past s p (knowledgeFrom depth s k .last)
-past-from depth p s =
-    iterate-ind (λ m. knowledgeTurn depth s m) (λ m. toGo s (m .last)) unreached (knowledge-falls depth s) (λ (k : Knowing). Behind p (k .last) → Past s p (knowledgeFrom depth s k .last))
-    (λ k h b.
-    by-bool (nextIs s 0x44 (k .last))
-    (λ e. rw (knowledge-more depth s k e) (h (specializedFrom depth s k) (turn-more depth s k e) (past-behind s p (specializedFrom depth s k .last) (past-specialized depth s k p b))))
-    (λ e. rw (knowledge-end depth s k e) (past-end s 0x10 p (k .last) b)))
-
-pub knowledge-past : (allowed depth outer p : ℕ) (s t : List ℕ) (c : Reading) → Behind p c → Past s p (knowledgeAt allowed depth outer s t c .last)
-unfolding knowledgeAt
-knowledge-past allowed depth outer p s t c b =
-    past-from depth p s (knowing [] t allowed (startOfLength s outer 0x10 true true 0 c)) (behind-start-of-length s outer 0x10 true true 0 p c b)
+onward-knowledge allowed depth outer s t c =
+    onto (onward-start-of-length s outer 0x10 true true 0 c) (onward-from depth s (knowing [] t allowed (startOfLength s outer 0x10 true true 0 c)))
 
 -- ---- as a caller has it: the rows that the answer counts are in normal form
 

@@ -14,8 +14,7 @@ use Rattle.numbers.specs.declared.refusal.Refusal.{Refusal}
 use Rattle.objects.specs.Steps.{nothingOpen, placeOf, endHere, finish, nextIs, inside, FaultWithin, Good}
 use Rattle.objects.specs.declared.reading.Reading.{Reading}
 use Rattle.objects.specs.declared.reading.Reading.the-variants as reading
-use Rattle.objects.proofs.Keep.{good-front, good-start, good-end, good-inside, good-finish}
-use Rattle.objects.proofs.Forward.{Past, past-end}
+use Rattle.objects.proofs.Keep.{good-front, onward-start, onward-end, onward-finish}
 use Rattle.objects.proofs.InputFaults.{InputFault, input-fault}
 use Rattle.store.specs.Element.{dataOf, elementOn, elementAt, idsIn, serialsIn}
 use Rattle.store.specs.Store.{packageStart, onElement, walkFrom, packageWalk, storeWalk, Stands}
@@ -24,9 +23,9 @@ use Rattle.store.specs.declared.element.Fields.{Fields}
 use Rattle.store.specs.declared.element.Element.{Element}
 use Rattle.store.specs.declared.element.ReadElement.{ReadElement}
 use Rattle.store.specs.declared.element.ReadElement.the-variants as element
-use Rattle.store.proofs.Fields.{good-data, element-within}
+use Rattle.store.proofs.Fields.{onward-element, element-within}
 use Rattle.store.proofs.Walks.{good-package, walk-ends, walk-over, walk-element}
-use Rattle.store.proofs.Chains.{StoreRead}
+use Rattle.store.proofs.Chains.{StoreRead, over-long}
 
 -- ---- a fault
 
@@ -39,8 +38,7 @@ pub element-fault : (depth : ℕ) (ids serials : List Key) (s : List ℕ) (c : R
     → Good s c → FaultWithin (length s) r
 unfolding elementAt
 element-fault depth ids serials s c r h g =
-    subst (Good s) (refused-on _ _ _ (inside s depth 0x01 (dataOf ids serials s c)) r h)
-    (good-inside s depth 0x01 (dataOf ids serials s c) (good-data ids serials s c g))
+    subst (Good s) (refused-on _ _ _ (inside s depth 0x01 (dataOf ids serials s c)) r h) (onward-element depth ids serials s c .good g)
 
 element-good : (left : ℕ) (s : List ℕ) (done : List Element) (c : Reading) (r : ReadElement) → elementAt 14 (idsIn done) (serialsIn done) s c ≡ r
     → ((x : Element) → x .place + x .length ≤ length s → Good s (walkFrom left s (done ++ (x ∷ [])) (reading.At (x .place + x .length) 0) .last))
@@ -50,35 +48,41 @@ element-good left s done c (element.Refused r) q more g = element-fault 14 (idsI
 
 walk-good : (left : ℕ) (s : List ℕ) (done : List Element) (c : Reading) → Good s c → Good s (walkFrom left s done c .last)
 walk-good zero s done c g =
-    by-bool (nextIs s 0x01 c) (λ e. rw (walk-over s done c e) (good-start s 0x15 0x01 true false c g))
-    (λ e. rw (walk-ends 0 s done c e) (good-end s 0x15 c g))
+    by-bool (nextIs s 0x01 c) (λ e. rw (walk-over s done c e) (onward-start s 0x15 0x01 true false c .good g))
+    (λ e. rw (walk-ends 0 s done c e) (onward-end s 0x15 c .good g))
 walk-good (suc left) s done c g =
     by-bool (nextIs s 0x01 c)
     (λ e.
     rw (walk-element left s done c e (elementAt 14 (idsIn done) (serialsIn done) s c) refl)
     (element-good left s done c (elementAt 14 (idsIn done) (serialsIn done) s c) refl
     (λ x w. walk-good left s (done ++ (x ∷ [])) (reading.At (x .place + x .length) 0) w) g))
-    (λ e. rw (walk-ends (suc left) s done c e) (good-end s 0x15 c g))
+    (λ e. rw (walk-ends (suc left) s done c e) (onward-end s 0x15 c .good g))
 
 pub package-good : (outer : ℕ) (s : List ℕ) (c : Reading) → Good s c → Good s (packageWalk outer s c .last)
 package-good outer s c g = walk-good 256 s [] (packageStart outer s c) (good-package outer s c g)
 
+finished-good : (s : List ℕ) → Good s (finish s (packageWalk nothingOpen s (reading.At 0 0) .last))
+finished-good s = onward-finish s _ .good (package-good nothingOpen s (reading.At 0 0) (good-front s 0))
+
 pub store-fault : (s : List ℕ) (r : Refusal) → storeWalk s .last ≡ reading.Refused r → InputFault longestInput s r
 unfolding storeWalk
 store-fault s r h =
-    let c = packageWalk nothingOpen s (reading.At 0 0) .last in
-    input-fault longestInput s (storeWalk s .last) (finish s c) r (λ l. rw (lt-ltb longestInput (length s) l)) (λ l. rw (le-ltb longestInput (length s) l))
-    (good-finish s c (package-good nothingOpen s (reading.At 0 0) (good-front s 0))) h
+    input-fault longestInput s (storeWalk s .last) (finish s (packageWalk nothingOpen s (reading.At 0 0) .last)) r
+    (λ l. rw (lt-ltb longestInput (length s) l)) (λ l. rw (le-ltb longestInput (length s) l)) (finished-good s) h
 
 -- ---- the store's end
 
-finish-whole : (s : List ℕ) (c : Reading) → Past s 0 c → Stands (finish s c) → placeOf c ≡ length s
+store-good : (s : List ℕ) → Stands (storeWalk s .last) → Good s (storeWalk s .last)
+unfolding storeWalk
+store-good s h = by-lt longestInput (length s) (λ l. absurd (over-long s l h)) (λ l. rw (le-ltb longestInput (length s) l) (finished-good s))
+
+finish-whole : (s : List ℕ) (c : Reading) → Good s (finish s c) → Stands (finish s c) → placeOf c ≡ length s
 unfolding finish placeOf
-finish-whole s (reading.At at v) w h = by-lt at (length s) (λ l. absurd (rw (lt-ltb at (length s) l) at h)) (λ l. omega arith)
-finish-whole s (reading.Refused r) w h = absurd h
+finish-whole s (reading.At at v) g h =
+    by-lt at (length s) (λ l. absurd (rw (lt-ltb at (length s) l) at h)) (λ l. let b : at ≤ length s = rw (le-ltb at (length s) l) at g in omega arith)
+finish-whole s (reading.Refused r) g h = absurd h
 
 -- "one data element package, and nothing after it": behind the elements stands the package's end, which ends the store
 pub store-covered : (s : List ℕ) → Stands (storeWalk s .last) → (r : StoreRead s) → placeOf (endHere s 0x15 (reading.At (r .end) (r .value))) ≡ length s
 store-covered s h r =
-    let c = reading.At (r .end) (r .value) in
-    finish-whole s (endHere s 0x15 c) (past-end s 0x15 0 c (omega arith)) (subst Stands (r .ends) h)
+    finish-whole s (endHere s 0x15 (reading.At (r .end) (r .value))) (subst (Good s) (r .ends) (store-good s h)) (subst Stands (r .ends) h)

@@ -19,7 +19,7 @@ use Rattle.objects.specs.Steps.{guidHere, onGuid, runHere, closedAt, closed, le
 use Rattle.objects.specs.declared.reading.Reading.{Reading}
 use Rattle.objects.specs.declared.reading.Reading.the-variants.{At, Refused}
 use Rattle.objects.specs.declared.reading.ReadingGuid.the-variants as guid′
-use Rattle.objects.proofs.Keep.{good-front, good-guid}
+use Rattle.objects.proofs.Keep.{good-front, onward-guid}
 use Rattle.store.specs.Knowledge.{guidField, isCell, specializedGuid}
 
 -- a start whose data run has sixteen bytes, or a fault
@@ -99,7 +99,7 @@ specializedStart s c = startOfLength s 0x10 0x44 true true 16 c
 
 module _ (s : List ℕ) (c o : Reading) (d : List ℕ) (starts : o ≡ specializedStart s c) (run : d ≡ runHere s o) where
   pub run-good : Good (runHere s o) (onGuid (guidField d))
-  run-good = rw run (good-guid (runHere s o) (At 0 0) (good-front (runHere s o) 0))
+  run-good = rw run (onward-guid (runHere s o) (At 0 0) .good (good-front (runHere s o) 0))
 
   pub run-closed : closed s o (onGuid (guidField d)) ≡ onGuid (specializedGuid s c)
   unfolding specializedGuid

@@ -13,7 +13,7 @@ use Rattle.numbers.specs.declared.refusal.Refusal.{Refusal}
 use Rattle.objects.specs.Steps.{_▹_, startOfLength, startHere, endHere, nextIs, finish, Good}
 use Rattle.objects.specs.declared.reading.Reading.{Reading}
 use Rattle.objects.specs.declared.reading.Reading.the-variants.{At, Refused}
-use Rattle.objects.proofs.Keep.{good-start-of-length, good-skip}
+use Rattle.objects.proofs.Keep.{onward-start-of-length, onward-skip}
 use Rattle.laws.specs.Once.{seen}
 use Rattle.laws.proofs.Cases.{by-bool, by-lt, by-eq, impossible}
 use Rattle.laws.proofs.Twice.{seen-append}
@@ -66,7 +66,7 @@ pub record Held (s : List ℕ) (c : Reading) (rows₀ ids₀ rows rowmarks ids i
 pub good-package : (outer : ℕ) (s : List ℕ) (c : Reading) → Good s c → Good s (packageStart outer s c)
 unfolding packageStart
 good-package outer s c g =
-    good-skip s 1 (startOfLength s outer 0x15 true true 1 c) (good-start-of-length s outer 0x15 true true 1 c g)
+    onward-skip s 1 (startOfLength s outer 0x15 true true 1 c) .good (onward-start-of-length s outer 0x15 true true 1 c .good g)
 
 none-marked : (marks : List ℕ) → Marked marks []
 unfolding seen
