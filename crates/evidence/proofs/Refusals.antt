@@ -15,16 +15,15 @@ use Rattle.numbers.specs.declared.refusal.Wrote.{Wrote}
 use Rattle.numbers.specs.declared.refusal.Wrote.the-variants as wrote
 use Rattle.objects.specs.declared.reading.Reading.{Reading}
 use Rattle.objects.specs.declared.reading.Reading.the-variants as reading
+use Rattle.objects.proofs.InputFaults.{InputTold, input-told}
 use Rattle.store.specs.Store.{storeWalk, Stands}
 use Rattle.store.specs.Accessor.{elementIn, foundOn, foundIn}
 use Rattle.store.specs.declared.accessor.Found.the-variants as found
 use Rattle.store.specs.declared.element.Element.{Element}
-use Rattle.store.proofs.FaultNumbers.{store-number, store-input, store-needed}
 use Rattle.store.proofs.Found.{found-none}
 use Rattle.store.proofs.Places.{store-fault}
-use Rattle.request.specs.Message.{requestIn}
+use Rattle.request.specs.Message.{inRequest, requestIn}
 use Rattle.request.specs.declared.message.Request.the-variants as request′
-use Rattle.request.proofs.FaultNumbers.{request-number, request-input, request-needed}
 use Rattle.request.proofs.Places.{request-fault}
 use Rattle.pages.specs.Answer.{Ask, Outcome, refused, pageBytes, pageRanges, pageOutcome, onRequest, onStore, outcome, answerOf, knowledgeNumbers}
 use Rattle.pages.specs.Cases.{smallest, Few, Asks}
@@ -36,7 +35,8 @@ use Rattle.client.specs.Read.{longestAnswer, packageIn, answerEnd, answerOn, an
 use Rattle.client.specs.Accessor.{receivedAt}
 use Rattle.client.specs.declared.answer.ReadAnswer.the-variants as answer
 use Rattle.client.proofs.AnswerRest.{answer-fault}
-use Rattle.client.proofs.FaultNumbers.{answer-number, answer-rest, answer-place, ask-refused}
+use Rattle.client.proofs.AnswerWithin.{answer-within}
+use Rattle.client.proofs.AskFaults.{filters-fault, knowledge-fault}
 use Rattle.hub.specs.Bench.{elementFound}
 use Rattle.evidence.specs.Refusing.{Fault, Tables, Why}
 use Rattle.evidence.specs.BenchRefusing.{WhyAsk, WhyRead, WhyElement}
@@ -103,10 +103,15 @@ module _ (s q : List ℕ) (rows ranges room : ℕ) (r : Refusal) where
 -- ---- its refusals are faults
 
 -- of the first input, or of the second
-first-fault : (x : List ℕ) (more : List (List ℕ)) (r : Refusal) → 1 ≤ r .number → r .number ≤ 12 → r .input ≡ 0 → r .place ≤ length x → r .needed ≡ 0
-    → Fault (x ∷ more) r
-first-fault x more r a b i p n =
-    record { least = a; most = omega arith; input = rw i (omega arith); place = rw i p; needed = λ z. n }
+first-fault : (x : List ℕ) (more : List (List ℕ)) (r : Refusal) → InputTold x r → Fault (x ∷ more) r
+first-fault x more r t =
+    let m = t .most in
+    record { least = t .least; most = omega arith; input = rw (t .input) (omega arith); place = rw (t .input) (t .place); needed = λ z. t .needed }
+
+second-fault : (x y : List ℕ) (r : Refusal) → InputTold y r → Fault (x ∷ y ∷ []) (inRequest r)
+second-fault x y r t =
+    let m = t .most in
+    record { least = t .least; most = omega arith; input = omega arith; place = t .place; needed = λ z. t .needed }
 
 -- at the front of the first: it falls on no item
 front-fault : (x : List ℕ) (more : List (List ℕ)) (k : ℕ) → 1 ≤ k → k ≤ 14 → Fault (x ∷ more) (faultAt k 0)
@@ -116,19 +121,12 @@ short-fault : (x : List ℕ) (more : List (List ℕ)) (n : ℕ) → Fault (x ∷
 short-fault x more n = record { least = omega arith; most = omega arith; input = omega arith; place = omega arith; needed = λ z. absurd (z refl) }
 
 pub of-store : (s : List ℕ) (more : List (List ℕ)) (r : Refusal) → storeWalk s .last ≡ reading.Refused r → Fault (s ∷ more) r
-of-store s more r h =
-    let n : (1 ≤ r .number) × (r .number ≤ 12) =
-    by-lt longestInput (length s) (λ l. rw (store-number s r h .1 l) (omega arith, omega arith))
-    (λ l. let w = store-number s r h .0 l in (omega arith, w .1)) in
-    first-fault s more r (n .0) (n .1) (store-input s r h) (store-fault s r h) (store-needed s r h)
+of-store s more r h = first-fault s more r (input-told longestInput s r (store-fault s r h))
 
 of-request : (s q : List ℕ) (r : Refusal) → requestIn q [] ≡ request′.Refused r → Fault (s ∷ q ∷ []) r
 of-request s q r h =
-    let n : (1 ≤ r .number) × (r .number ≤ 12) =
-    by-lt longestInput (length q) (λ l. rw (request-number q [] r h .1 l) (omega arith, omega arith))
-    (λ l. let w = request-number q [] r h .0 l in (omega arith, w .1)) in
-    let i = request-input q [] r h in
-    record { least = n .0; most = omega arith; input = rw i (omega arith); place = rw i (request-fault q [] r h); needed = λ z. request-needed q [] r h }
+    let (x, e, f) = request-fault q [] r h in
+    rw e (second-fault s q x (input-told longestInput q x f))
 
 pub why-fault : (s q : List ℕ) (rows ranges room : ℕ) (r : Refusal) → Why s q rows ranges room r → Fault (s ∷ q ∷ []) r
 why-fault s q rows ranges room r (Why.tables l e) = rw e (front-fault s (q ∷ []) 13 (omega arith) (omega arith))
@@ -206,21 +204,27 @@ module _ (id limit : ℕ) (f k : List ℕ) (room : ℕ) (r : Refusal) where
       filters-passed (filtersGiven f) _ a ∙ knowledge-passed (knowledgeGiven k) _ b
       ∙ rw (le-ltb longestInput (length sent) l, lt-ltb room (length sent) m, e)
 
+  filters-told : filtersGiven f ≡ reading.Refused r → InputTold f r
+  filters-told h = input-told longestInput f r (filters-fault f r h)
+
+  knowledge-told : (x : Refusal) → knowledgeGiven k ≡ reading.Refused x → InputTold k x
+  knowledge-told x h = input-told longestInput k x (knowledge-fault k x h)
+
+  why-ask-fault : AskWhy → Fault (f ∷ k ∷ []) r
+  why-ask-fault (WhyAsk.filters h) = first-fault f (k ∷ []) r (filters-told h)
+  why-ask-fault (WhyAsk.knowledge x a h e) = rw e (second-fault f k x (knowledge-told x h))
+  why-ask-fault (WhyAsk.long a b l e) = rw e (front-fault f (k ∷ []) 1 (omega arith) (omega arith))
+  why-ask-fault (WhyAsk.short a b l m e) = rw e (short-fault f (k ∷ []) (length sent))
+
   pub ask-fault : askWrote id limit f k room ≡ wrote.Refused r → Fault (f ∷ k ∷ []) r
-  ask-fault h =
-      let t = ask-refused id limit f k room r h in
-      let n : (1 ≤ r .number) × (r .number ≤ 14) =
-      by-eq (r .number) 14 (λ e. (omega arith, omega arith)) (λ z. let w = t .number z in (w .0, omega arith)) in
-      let i = t .input in
-      record {
-        least = n .0;
-        most = n .1;
-        input = omega arith;
-        place =
-            by-eq (r .input) 0 (λ e. rw e (t .first e))
-            (λ z. let e : r .input ≡ 1 = omega arith in rw e (t .second e));
-        needed = λ z. t .number z .2;
-      }
+  ask-fault h = why-ask-fault (ask-why h)
+
+  -- 14 is given only where the request is not over-long and longer than the output
+  pub why-ask-short : AskWhy → r .number ≡ 14 → (length sent ≤ longestInput) × (room < length sent)
+  why-ask-short (WhyAsk.filters h) z = let m = filters-told h .most in absurd (omega arith)
+  why-ask-short (WhyAsk.knowledge x a h e) z = let m = knowledge-told x h .most in let n : x .number ≡ 14 = rw e at z in absurd (omega arith)
+  why-ask-short (WhyAsk.long a b l e) z = let n : _≡_ {A = ℕ} 1 14 = rw e at z in absurd (omega arith)
+  why-ask-short (WhyAsk.short a b l m e) z = (l, m)
 
 -- where nothing is refused, all of the request was written
 module _ (w : List ℕ) (n : ℕ) where
@@ -265,12 +269,7 @@ unfolding answerIn answerOn
 why-read w r h = rw h
 
 pub read-fault : (w : List ℕ) (r : Refusal) → answerIn w ≡ answer.Refused r → Fault (w ∷ []) r
-read-fault w r h =
-    let n : (1 ≤ r .number) × (r .number ≤ 12) =
-    by-lt longestAnswer (length w) (λ l. rw (answer-number w r h .1 l) (omega arith, omega arith))
-    (λ l. let v = answer-number w r h .0 l in (omega arith, v .1)) in
-    let e = answer-rest w r h in
-    first-fault w [] r (n .0) (n .1) (e .0) (answer-place w r h) (e .1)
+read-fault w r h = first-fault w [] r (input-told longestAnswer w r (answer-within w r (read-why w r h)))
 
 -- ---- one element by its position
 

@@ -32,7 +32,6 @@ use Rattle.client.specs.Ask.{askWrote, filtersGiven, knowledgeGiven}
 use Rattle.client.specs.AskWritten.{askBytes}
 use Rattle.client.specs.Read.{longestAnswer}
 use Rattle.client.proofs.CallBack.{asked-size}
-use Rattle.client.proofs.FaultNumbers.{ask-refused}
 use Rattle.client.proofs.NextAsk.{filters-fine, knowledge-fine, room-enough}
 use Rattle.hub.specs.Bench.{HubAsks}
 use Rattle.hub.specs.Call.{HubAnswers}
@@ -40,7 +39,7 @@ use Rattle.evidence.specs.Calling.{GivesAnswer}
 use Rattle.evidence.proofs.Calling.{gave-outcome, read-within}
 use Rattle.evidence.proofs.DemandOne.{demand-one-hub-numbers}
 use Rattle.evidence.proofs.DemandTwo.{demand-two}
-use Rattle.evidence.proofs.Refusals.{request-written}
+use Rattle.evidence.proofs.Refusals.{request-written, ask-why, why-ask-short}
 
 -- so many bytes of output, for an answer from the store s: HUB_LARGEST_ANSWER, 16,842,752, or the store's length and
 -- HUB_ANSWER_OVER_STORE
@@ -93,7 +92,7 @@ written-suffices : (id limit : ℕ) (f k : List ℕ) (room : ℕ) → longestInp
     → tellWrote o .number ≡ 14 → ⊥
 written-suffices id limit f k room enough (wrote.Done n) is e = omega arith
 written-suffices id limit f k room enough (wrote.Refused r) is e =
-    let (filters, knowledge, short, needs, told) = ask-refused id limit f k room r is .short e in
+    let (short, needs) = why-ask-short id limit f k room r (ask-why id limit f k room r is) e in
     omega arith
 
 pub hub-ask-suffices : (id limit : ℕ) (f k : List ℕ) (number : ℕ) (out out′ report report′ : List ℕ) → longestInput ≤ length out
