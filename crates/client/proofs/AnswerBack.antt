@@ -19,7 +19,6 @@ use Rattle.objects.specs.Header.{startBytes, endBytes}
 use Rattle.objects.specs.Steps.{_▹_, nothingOpen, placeOf, valueOf, valued, need, fixedIn, number, numberIs, onId, startHere, runHere, inRun, endHere}
 use Rattle.objects.specs.declared.reading.Reading.the-variants.{At}
 use Rattle.objects.specs.declared.reading.ReadingId.the-variants as id′
-use Rattle.objects.proofs.Ahead.{run-next}
 use Rattle.objects.proofs.Written.{Reads, behind, reads-then, reads-fixed, reads-number, reads-number-is, reads-skip, reads-run, id-written, finish-written}
 use Rattle.objects.proofs.ObjectsWritten.{reads-start, reads-start-of-length, reads-end}
 use Rattle.talk.specs.Each.{Each}
@@ -37,9 +36,10 @@ use Rattle.store.specs.declared.element.Element.{Element}
 use Rattle.store.specs.declared.element.ReadElement.the-variants.{Is}
 use Rattle.store.proofs.Chains.{package-walked}
 use Rattle.store.proofs.ElementWritten.{compact-most}
-use Rattle.store.proofs.ElementCarry.{element-made, element-carry}
+use Rattle.store.proofs.ElementCarry.{element-carry}
 use Rattle.store.proofs.Found.{found-none}
 use Rattle.store.proofs.KnowledgeBack.{knowledge-back}
+use Rattle.store.proofs.Taken.{element-some}
 use Rattle.request.specs.Message.{versions}
 use Rattle.pages.specs.Tables.{answerFront, answerMiddle}
 use Rattle.pages.specs.Written.{versionBytes, answerSignature, responseBytes, storedBytes, elementsBytes, subResponseData, subResponseBytes, partialByte, changesData, changesBytes, endsBytes, answerBytes}
@@ -52,11 +52,7 @@ use Rattle.client.specs.Accessor.{receivedAt, receivedBytes}
 
 -- an element that stands in a store lies within it
 stands-within : (s : List ℕ) (x : Element) → StandsIn s x → x .place + x .length ≤ length s
-stands-within s x h =
-    let m = element-made 14 (h .0) (h .1) s (x .place) 0 x (h .2) in
-    let b = run-next s (x .place + (m .shape .from + m .shape .size)) 14 0x01 (x .place + m .shape .end) (m .stands .within) in
-    let n = m .length′ in
-    omega arith
+stands-within s x h = element-some 14 (h .0) (h .1) s (x .place) 0 x (h .2) .2
 
 stored-length : (s : List ℕ) (x : Element) → StandsIn s x → length (storedBytes s x) ≡ x .length
 unfolding storedBytes

@@ -1,9 +1,9 @@
--- The one loop: a bound that is proved not to matter, its equation, induction, uniqueness, and a loop over moved states.
+-- The one loop: a bound that is proved not to matter, its equation, induction and uniqueness.
 -- Assumes nothing.
 use mathlib.Core.Path.{_≡_, refl, sym, ap, subst, _∙_}
 use Prim.Native.Nat.{ℕ, zero, suc, _<_}
 use native.Mathlib.Omega.{arith}
-use Rattle.laws.specs.Loop.{Turn, after, turns, iterate, mapTurn}
+use Rattle.laws.specs.Loop.{Turn, after, turns, iterate}
 use Rattle.laws.specs.Loop.Turn.{more, done}
 
 -- `size` falls at a turn that goes on
@@ -48,15 +48,3 @@ module _ {A R : Type 0} (step : A → Turn A R) (size : A → ℕ) (out : R) (fa
   -- whatever satisfies the equation is the loop
   pub iterate-only : (go : A → R) → ((a : A) → go a ≡ after go (step a)) → (a : A) → iterate step size out a ≡ go a
   iterate-only go e = iterate-ind (λ a. iterate step size out a ≡ go a) (λ a h. iterate-eq a ∙ after-same (λ b. iterate step size out b) go (step a) h ∙ sym (e a))
-
-after-map : {A B R S : Type 0} (f : A → B) (g : R → S) (go : A → R) (go′ : B → S) (t : Turn A R) → ((a : A) → t ≡ more a → go′ (f a) ≡ g (go a)) → after go′ (mapTurn f g t) ≡ g (after go t)
-after-map f g go go′ (more a) h = h a refl
-after-map f g go go′ (done r) h = refl
-
--- a loop over moved states is the loop, with its answer moved
-pub iterate-map : {A B R S : Type 0} (step : A → Turn A R) (size : A → ℕ) (out : R) → ((a : A) → Falls size a (step a)) → (step′ : B → Turn B S) (size′ : B → ℕ) (out′ : S) → ((b : B) → Falls size′ b (step′ b))
-    → (f : A → B) (g : R → S) → ((a : A) → step′ (f a) ≡ mapTurn f g (step a)) → (a : A) → iterate step′ size′ out′ (f a) ≡ g (iterate step size out a)
-iterate-map {A} step size out falls step′ size′ out′ falls′ f g e =
-    iterate-ind step size out falls (λ (a : A). iterate step′ size′ out′ (f a) ≡ g (iterate step size out a))
-    (λ a h. iterate-at step′ size′ out′ falls′ (f a) (mapTurn f g (step a)) (e a)
-    ∙ after-map f g (λ b. iterate step size out b) (λ b. iterate step′ size′ out′ b) (step a) h ∙ ap g (sym (iterate-eq step size out falls a)))

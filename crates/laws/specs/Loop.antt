@@ -18,8 +18,3 @@ turns step out (suc f) a = after (λ b. turns step out f b) (step a)
 -- the loop from a; `size` falls with each turn (the laws ask for it), so that `out` is never the answer
 unfoldable pub iterate : {A R : Type 0} → (A → Turn A R) → (A → ℕ) → R → A → R
 iterate step size out a = turns step out (suc (size a)) a
-
--- a turn over moved states
-abbrev pub mapTurn : {A B R S : Type 0} → (A → B) → (R → S) → Turn A R → Turn B S
-mapTurn f g (more a) = more (f a)
-mapTurn f g (done r) = done (g r)

@@ -3,11 +3,9 @@ pub mod HeaderForms
 pub mod Ahead
 pub mod Short
 pub mod Next
-pub mod Shift
 pub mod Rules
 pub mod Local
 pub mod Deeper
-pub mod Carry
 pub mod ItemsAt
 pub mod NullId
 pub mod Keep

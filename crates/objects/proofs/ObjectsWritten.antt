@@ -1,22 +1,20 @@
 -- What was written of objects reads back by the steps: starts, ends, contents that are nested, and whether a start of a type
 -- stands next.
 -- Assumes nothing.
-use mathlib.Core.Path.{_≡_, refl, sym, ap, _∙_}
+use mathlib.Core.Path.{_≡_, refl}
 use mathlib.Core.Bool.{Bool, true, false}
 use mathlib.Core.List.{List, _++_}
 use Prim.Native.Nat.{ℕ, _+_, _^_, _<_, _≤_}
-use native.Mathlib.Omega.{arith}
-use lib.ListN.{length, drop, length-append}
-use lib.Seq.{take-length, take-append-seam}
+use native.Mathlib.Nat.{zero-add}
+use lib.ListN.{length, drop}
 use borrow.Author.Tests.{eq-eqb, ne-eqb}
-use Rattle.laws.proofs.Agreement.{Agree}
+use Rattle.laws.proofs.Agreement.{same-whole}
 use Rattle.objects.specs.Header.{startBytes, endBytes}
 use Rattle.objects.specs.Nesting.{runAt}
 use Rattle.objects.specs.Steps.{sameBit, startHere, lengthIs, startOfLength, endHere, nextIs, inside}
 use Rattle.objects.specs.declared.nesting.Passed.the-variants as passed
 use Rattle.objects.specs.declared.reading.Reading.the-variants.{At}
 use Rattle.objects.proofs.HeadersBack.{start-written, end-written}
-use Rattle.objects.proofs.Shift.{run-moved}
 use Rattle.objects.proofs.Local.{run-local}
 use Rattle.objects.proofs.Written.{Reads}
 
@@ -60,9 +58,6 @@ pub next-end : (s : List ℕ) (at u kind k : ℕ) (t : List ℕ) → k ≤ 0x3FF
 unfolding nextIs
 next-end s at u kind k t hk h = rw (end-written s at k t hk h)
 
-within : (w t : List ℕ) → Agree w (w ++ t) (length w)
-within w t = record { long = omega (arith, length-append w t); same = take-length w ∙ sym (take-append-seam w t) }
-
 -- contents that read to the end of their own bytes w, wherever these stand and whatever follows
 pub reads-inside : (u d k : ℕ) (w : List ℕ) → runAt w 0 d k ≡ passed.To (length w) → Reads (λ s r. inside s d k r) u w 0
 unfolding inside
@@ -70,9 +65,6 @@ reads-inside u d k w e =
     record {
       here =
           λ s at t h.
-          let l : runAt (w ++ t) 0 d k ≡ passed.To (length w) = run-local w (w ++ t) 0 d k (length w) (within w t) e in
-          let m = run-moved s (w ++ t) at h 0 d k in
-          let z : at + 0 ≡ at = omega arith in
-          let r : runAt s at d k ≡ passed.To (at + length w) = sym (ap (λ (p : ℕ). runAt s p d k) z) ∙ m ∙ rw l in
+          let r : runAt s at d k ≡ passed.To (at + length w) = run-local w 0 s at d k (length w) (rw zero-add e) (same-whole w s at t h) in
           rw r;
     }

@@ -5,17 +5,16 @@ use mathlib.Core.Path.{_≡_, refl, sym, ap, subst, _∙_}
 use mathlib.Core.Bool.{Bool, true, false}
 use mathlib.Core.List.{List}
 use Prim.Native.Nat.{ℕ, _+_, _-_, _<_, _≤_}
-use native.Mathlib.Nat.{add-zero, zero-add}
+use native.Mathlib.Nat.{add-zero}
 use native.Mathlib.Omega.{arith}
-use lib.ListN.{length, take, drop, length-drop, length-take, length-append}
-use lib.Seq.{drop-drop, take-all, take-append-seam}
+use lib.ListN.{length, take, drop, length-drop, length-take}
 use lib.Dec.{eqb}
 use borrow.Author.Tests.{lt-ltb, le-ltb, eq-eqb, eqb-true}
 use Rattle.laws.specs.Pick.{pick}
 use Rattle.laws.specs.Bytes.{le}
 use Rattle.laws.proofs.Cases.{by-bool, by-lt, impossible}
-use Rattle.laws.proofs.Parts.{same-part, part-length}
-use Rattle.laws.proofs.Agreement.{Agree, agree-less, agree-drop}
+use Rattle.laws.proofs.Parts.{same-part}
+use Rattle.laws.proofs.Agreement.{agree-less, Same, same-less, same-on}
 use Rattle.numbers.specs.Refusals.{faultAt}
 use Rattle.numbers.specs.Compact.{readCompact}
 use Rattle.numbers.specs.Guid.{guidAt}
@@ -51,28 +50,9 @@ use Rattle.objects.specs.declared.reading.ReadingId.{ReadingId}
 use Rattle.objects.specs.declared.reading.ReadingId.the-variants as id′
 use Rattle.objects.specs.declared.reading.ReadingSerial.{ReadingSerial}
 use Rattle.objects.specs.declared.reading.ReadingSerial.the-variants as serial′
-use Rattle.objects.proofs.Written.{Reads}
 use Rattle.objects.proofs.HeaderLaws.{compact-fits, length-fits-at}
 use Rattle.objects.proofs.Ahead.{run-next}
-use Rattle.objects.proofs.Shift.{movedHeader, movedLength, moved, header-moved, length-moved, run-moved}
-use Rattle.objects.proofs.Local.{header-own, length-own, run-local}
-
--- ---- the same bytes
-
--- the n bytes of s at p stand in t at p′
-abbrev pub Same : List ℕ → ℕ → List ℕ → ℕ → ℕ → Type 0
-Same s p t p′ n = Agree (drop p s) (drop p′ t) n
-
-pub same-less : (s : List ℕ) (p : ℕ) (t : List ℕ) (p′ n m : ℕ) → m ≤ n → Same s p t p′ n → Same s p t p′ m
-same-less s p t p′ n m l a = agree-less (drop p s) (drop p′ t) n m l a
-
--- from behind the first n of them
-pub same-on : (s : List ℕ) (p : ℕ) (t : List ℕ) (p′ n m : ℕ) → Same s p t p′ (n + m) → Same s (p + n) t (p′ + n) m
-same-on s p t p′ n m a = rw (← drop-drop n p s, ← drop-drop n p′ t) (agree-drop (drop p s) (drop p′ t) n m a)
-
--- as two parts, one of which lies within its input
-pub same-of : (s : List ℕ) (p : ℕ) (t : List ℕ) (p′ n : ℕ) → take n (drop p′ t) ≡ take n (drop p s) → p′ + n ≤ length t → Same s p t p′ n
-same-of s p t p′ n e l = record { long = omega (arith, length-drop p′ t); same = sym e }
+use Rattle.objects.proofs.Local.{start-local, end-local, length-local, run-local}
 
 -- ---- what a step took
 
@@ -90,7 +70,7 @@ pub record Carries (step : List ℕ → Reading → Reading) : Type 0 where
 pub record Gives {A : Type 0} (step : List ℕ → Reading → Reading) (got : List ℕ → Reading → A) : Type 0 where
   pub alike : (s : List ℕ) (p u n v : ℕ) → step s (At p u) ≡ At (p + n) v → (t : List ℕ) (p′ : ℕ) → Same s p t p′ n → got t (At p′ u) ≡ got s (At p u)
 
--- so many bytes, as the place behind them says
+-- what was read without fault, set down anywhere and followed by anything
 pub carries-to : {step : List ℕ → Reading → Reading} → Carries step → (s : List ℕ) (p u n v : ℕ) → step s (At p u) ≡ At (p + n) v
     → (t : List ℕ) (p′ : ℕ) → Same s p t p′ n → step t (At p′ u) ≡ At (p′ + n) v
 carries-to {step} f s p u n v e t p′ a =
@@ -99,54 +79,10 @@ carries-to {step} f s p u n v e t p′ a =
     let b : Same s p t p′ (k .size) = rw (← z) a in
     rw z (k .there t p′ b)
 
-pub carries-forward : {step : List ℕ → Reading → Reading} → Carries step → (s : List ℕ) (p u q v : ℕ) → step s (At p u) ≡ At q v → p ≤ q
-carries-forward {step} f s p u q v e = let k = f .took s p u q v e in let y = k .past in omega arith
-
--- what was read without fault, set down anywhere and followed by anything
-pub carries-there : {step : List ℕ → Reading → Reading} → Carries step → (s : List ℕ) (p u q v : ℕ) → step s (At p u) ≡ At q v
-    → (t : List ℕ) (p′ : ℕ) → take (q - p) (drop p′ t) ≡ take (q - p) (drop p s) → p′ + (q - p) ≤ length t
-    → step t (At p′ u) ≡ At (p′ + (q - p)) v
-carries-there {step} f s p u q v e t p′ a l =
-    let y = carries-forward f s p u q v e in
-    let z : q ≡ p + (q - p) = omega arith in
-    let d : step s (At p u) ≡ At (p + (q - p)) v = rw (← z) e in
-    carries-to f s p u (q - p) v d t p′ (same-of s p t p′ (q - p) a l)
-
--- a part that its step read whole is read wherever it stands
-pub carries-whole : {step : List ℕ → Reading → Reading} → Carries step → (d : List ℕ) (u v : ℕ) → step d (At 0 u) ≡ At (length d) v → Reads step u d v
-carries-whole {step} f d u v e =
-    let n : length d ≡ 0 + length d = omega arith in
-    let g : step d (At 0 u) ≡ At (0 + length d) v = e ∙ ap (λ (m : ℕ). At m v) n in
-    record {
-      here =
-          λ t p′ r h.
-          let a : Same d 0 t p′ (length d) =
-          record {
-            long = rw h (omega (arith, length-append d r));
-            same = take-all (length d) d (omega arith) ∙ sym (take-append-seam d r) ∙ ap (take (length d)) (sym h);
-          } in
-          carries-to f d 0 u (length d) v g t p′ a;
-    }
-
--- and so is what it read from within an input
-pub carries-reads : {step : List ℕ → Reading → Reading} → Carries step → (s : List ℕ) (p u q v : ℕ) → step s (At p u) ≡ At q v → q ≤ length s
-    → Reads step u (take (q - p) (drop p s)) v
-carries-reads {step} f s p u q v e l =
-    let y = carries-forward f s p u q v e in
-    let w = take (q - p) (drop p s) in
-    let n : length w ≡ q - p = part-length p (q - p) s (omega arith) in
-    let z : q ≡ p + length w = omega arith in
-    let g : step s (At p u) ≡ At (p + length w) v = e ∙ ap (λ (m : ℕ). At m v) z in
-    record {
-      here =
-          λ t p′ r h.
-          let a : Same s p t p′ (length w) =
-          record {
-            long = rw h (omega (arith, length-append w r));
-            same = ap (λ (m : ℕ). take m (drop p s)) n ∙ sym (take-append-seam w r) ∙ ap (take (length w)) (sym h);
-          } in
-          carries-to f s p u (length w) v g t p′ a;
-    }
+-- as far as the place behind it
+pub carries-span : {step : List ℕ → Reading → Reading} → Carries step → (s : List ℕ) (p u q v : ℕ) → step s (At p u) ≡ At q v
+    → step s (At p u) ≡ At (p + (q - p)) v
+carries-span {step} f s p u q v e = let y = f .took s p u q v e .past in e ∙ ap (λ (n : ℕ). At n v) (omega arith)
 
 -- ---- one step and then the next
 
@@ -671,62 +607,6 @@ module _ {A : Type 0} (of : ReadingSerial → A) (free : (p q : ℕ) (x : Serial
   pub gives-serial : Gives serialStep (λ s c. of (serialHere s c))
   gives-serial = record { alike = λ s p u n v e t p′ a. serial-alike s p u n v (serialHere s (At p u)) refl e t p′ a }
 
--- ---- headers
-
-header-back : (p : ℕ) (h : Header) (k : ℕ) (c : Bool) (n u : ℕ) → movedHeader p h ≡ header.Start k c n u → h ≡ header.Start k c n u
-header-back p (header.Start k′ c′ n′ u′) k c n u e = e
-header-back p (header.End k′ u′) k c n u e = impossible (cc)
-header-back p (header.Refused r) k c n u e = impossible (cc)
-
-end-back : (p : ℕ) (h : Header) (k u : ℕ) → movedHeader p h ≡ header.End k u → h ≡ header.End k u
-end-back p (header.Start k′ c′ n′ u′) k u e = impossible (cc)
-end-back p (header.End k′ u′) k u e = e
-end-back p (header.Refused r) k u e = impossible (cc)
-
-length-back : (p : ℕ) (l : Length) (v from : ℕ) → movedLength p l ≡ length′.Is v (p + from) → l ≡ length′.Is v from
-length-back p (length′.Is v′ f) v from e =
-    let a : v′ ≡ v = cc in let b : p + f ≡ p + from = cc in let c : f ≡ from = omega arith in rw (a, c)
-length-back p (length′.Refused r) v from e = impossible (cc)
-
-run-back : (p : ℕ) (r : Passed) (e : ℕ) → moved p r ≡ passed.To (p + e) → r ≡ passed.To e
-run-back p (passed.To x) e q = let b : p + x ≡ p + e = cc in let c : x ≡ e = omega arith in rw c
-run-back p (passed.Refused r) e q = impossible (cc)
-
-module _ (s : List ℕ) (p : ℕ) (t : List ℕ) (p′ : ℕ) where
-  abbrev xs : List ℕ
-  xs = drop p s
-
-  abbrev ys : List ℕ
-  ys = drop p′ t
-
-  pub start-there : (k : ℕ) (c : Bool) (n u : ℕ) → headerAt s p ≡ header.Start k c n u → Same s p t p′ u → headerAt t p′ ≡ header.Start k c n u
-  start-there k c n u e a =
-      let f : headerAt s p ≡ movedHeader p (headerAt xs 0) = rw add-zero at (header-moved s xs p refl 0) in
-      let b = header-back p (headerAt xs 0) k c n u (sym f ∙ e) in
-      let d = header-own xs ys 0 (header.Start k c n u) b (rw zero-add a) in
-      let g : headerAt t p′ ≡ movedHeader p′ (headerAt ys 0) = rw add-zero at (header-moved t ys p′ refl 0) in
-      g ∙ ap (movedHeader p′) d
-
-  pub end-there : (k u : ℕ) → headerAt s p ≡ header.End k u → Same s p t p′ u → headerAt t p′ ≡ header.End k u
-  end-there k u e a =
-      let f : headerAt s p ≡ movedHeader p (headerAt xs 0) = rw add-zero at (header-moved s xs p refl 0) in
-      let b = end-back p (headerAt xs 0) k u (sym f ∙ e) in
-      let d = header-own xs ys 0 (header.End k u) b (rw zero-add a) in
-      let g : headerAt t p′ ≡ movedHeader p′ (headerAt ys 0) = rw add-zero at (header-moved t ys p′ refl 0) in
-      g ∙ ap (movedHeader p′) d
-
-  pub length-there : (u n v from : ℕ) → lengthAt s (p + u) n ≡ length′.Is v (p + from) → Same s p t p′ from → lengthAt t (p′ + u) n ≡ length′.Is v (p′ + from)
-  length-there u n v from e a =
-      let b = length-back p (lengthAt xs u n) v from (sym (length-moved s xs p refl u n) ∙ e) in
-      length-moved t ys p′ refl u n ∙ ap (movedLength p′) (length-own xs ys u n v from b a)
-
-  pub run-there : (d kind n : ℕ) → runAt s p d kind ≡ passed.To (p + n) → Same s p t p′ n → runAt t p′ d kind ≡ passed.To (p′ + n)
-  run-there d kind n e a =
-      let f : runAt s p d kind ≡ moved p (runAt xs 0 d kind) = rw add-zero at (run-moved s xs p refl 0 d kind) in
-      let b = run-back p (runAt xs 0 d kind) n (sym f ∙ e) in
-      let g : runAt t p′ d kind ≡ moved p′ (runAt ys 0 d kind) = rw add-zero at (run-moved t ys p′ refl 0 d kind) in
-      g ∙ ap (moved p′) (run-local xs ys 0 d kind n a b)
-
 -- ---- a start
 
 -- the header that a start read, and the data's length behind it
@@ -734,13 +614,12 @@ pub record Opened (s : List ℕ) (kind : ℕ) (compound room : Bool) (p from v :
   pub bit : Bool
   pub field : ℕ
   pub used : ℕ
-  pub size : ℕ
+  pub rest : ℕ  -- the true length's own bytes
   pub start : headerAt s p ≡ header.Start kind bit field used
   pub same : sameBit bit compound ≡ true
   pub free : room ≡ true
-  pub true-length : lengthAt s (p + used) field ≡ length′.Is v (p + size)
-  pub past : from ≡ p + size
-  pub first : used ≤ size
+  pub true-length : lengthAt s (p + used) field ≡ length′.Is v (p + used + rest)
+  pub past : from ≡ p + (used + rest)
 
 length-to : (l : Length) (from v : ℕ) → lengthTo l ≡ At from v → l ≡ length′.Is v from
 length-to (length′.Is v′ f) from v e = cc
@@ -764,18 +643,17 @@ opened-on s outer kind compound room p from v (header.Start k bit n u) e q =
     let z : lengthTo (lengthAt s (p + u) n) ≡ At from v = rw (b, c, d) at q in
     let l = length-to (lengthAt s (p + u) n) from v z in
     let w = length-fits-at s (p + u) n (length′.Is v from) l in
-    let y : from ≡ p + (from - p) = omega arith in
+    let y : from ≡ p + u + (from - (p + u)) = omega arith in
     record {
       bit = bit;
       field = n;
       used = u;
-      size = from - p;
+      rest = from - (p + u);
       start = rw i at e;
       same = c;
       free = d;
-      true-length = rw (← y) l;
-      past = y;
-      first = omega arith;
+      true-length = l ∙ ap (λ (m : ℕ). length′.Is v m) y;
+      past = omega arith;
     })
     (λ d. let z : no 9 p ≡ At from v = rw (b, c, d) at q in impossible (cc)))
     (λ c. let z : no 5 p ≡ At from v = rw (b, c) at q in impossible (cc)))
@@ -788,9 +666,9 @@ opened-from s outer kind compound room p u from v q = opened-on s outer kind com
 
 -- the header there
 opened-there : (s : List ℕ) (kind : ℕ) (compound room : Bool) (p from v : ℕ) (o : Opened s kind compound room p from v) (t : List ℕ) (p′ : ℕ)
-    → Same s p t p′ (o .size) → headerAt t p′ ≡ header.Start kind (o .bit) (o .field) (o .used)
+    → Same s p t p′ (o .used + o .rest) → headerAt t p′ ≡ header.Start kind (o .bit) (o .field) (o .used)
 opened-there s kind compound room p from v o t p′ a =
-    start-there s p t p′ kind (o .bit) (o .field) (o .used) (o .start) (same-less s p t p′ (o .size) (o .used) (o .first) a)
+    start-local s p t p′ kind (o .bit) (o .field) (o .used) (o .start) (same-less s p t p′ (o .used + o .rest) (o .used) (omega arith) a)
 
 start-at : (outer kind : ℕ) (compound room bit : Bool) (t : List ℕ) (p u n used v from : ℕ) → headerAt t p ≡ header.Start kind bit n used
     → sameBit bit compound ≡ true → room ≡ true → lengthAt t (p + used) n ≡ length′.Is v from → startHere t outer kind compound room (At p u) ≡ At from v
@@ -802,12 +680,13 @@ start-took : (outer kind : ℕ) (compound room : Bool) (s : List ℕ) (p u q v :
 start-took outer kind compound room s p u q v e =
     let o = opened-from s outer kind compound room p u q v e in
     record {
-      size = o .size;
+      size = o .used + o .rest;
       past = o .past;
       there =
           λ t p′ a.
-          start-at outer kind compound room (o .bit) t p′ u (o .field) (o .used) v (p′ + o .size) (opened-there s kind compound room p q v o t p′ a) (o .same) (o .free)
-          (length-there s p t p′ (o .used) (o .field) v (o .size) (o .true-length) a);
+          start-at outer kind compound room (o .bit) t p′ u (o .field) (o .used) v (p′ + o .used + o .rest) (opened-there s kind compound room p q v o t p′ a) (o .same) (o .free)
+          (length-local s (p + o .used) t (p′ + o .used) (o .field) v (o .rest) (o .true-length) (same-on s p t p′ (o .used) (o .rest) a))
+          ∙ ap (λ (m : ℕ). At m v) (omega arith);
     }
 
 pub carries-start : (outer kind : ℕ) (compound room : Bool) → Carries (λ s c. startHere s outer kind compound room c)
@@ -822,8 +701,8 @@ gives-next-is x outer kind compound room =
       alike =
           λ s p u n v e t p′ a.
           let o = opened-from s outer kind compound room p u (p + n) v e in
-          let z : n ≡ o .size = let y = o .past in omega arith in
-          let b : Same s p t p′ (o .size) = rw z at a in
+          let z : n ≡ o .used + o .rest = let y = o .past in omega arith in
+          let b : Same s p t p′ (o .used + o .rest) = rw z at a in
           rw (opened-there s kind compound room p (p + n) v o t p′ b, o .start);
     }
 
@@ -898,7 +777,7 @@ end-took kind s p u q v e =
     record {
       size = o .used;
       past = o .past;
-      there = λ t p′ a. end-at kind t p′ u (o .used) v (end-there s p t p′ kind (o .used) (o .end) a) (o .value);
+      there = λ t p′ a. end-at kind t p′ u (o .used) v (end-local s p t p′ kind (o .used) (o .end) a) (o .value);
     }
 
 pub carries-end : (kind : ℕ) → Carries (λ s c. endHere s kind c)
@@ -915,7 +794,7 @@ gives-next-is-end x kind =
           let o = ended-from s kind p u (p + n) v e in
           let z : n ≡ o .used = let y = o .past in omega arith in
           let b : Same s p t p′ (o .used) = rw z at a in
-          rw (end-there s p t p′ kind (o .used) (o .end) b, o .end);
+          rw (end-local s p t p′ kind (o .used) (o .end) b, o .end);
     }
 
 -- ---- a start that does not stand there: what does not depend on the fault
@@ -936,7 +815,7 @@ module _ {A : Type 0} (of : List ℕ → Reading → A) (faulted : (s t : List �
         alike =
             λ s p u n v h t p′ a.
             let w = opened-from s o k b r p u (p + n) v h in
-            let z : n ≡ w .size = let y = w .past in omega arith in
+            let z : n ≡ w .used + w .rest = let y = w .past in omega arith in
             let i = opened-there s k b r p (p + n) v w t p′ (rw z at a) in
             ap (of t) (other-start t p′ u k (w .bit) (w .field) (w .used) i e) ∙ faulted t s (faultAt 5 p′) (faultAt 5 p)
             ∙ ap (of s) (sym (other-start s p u k (w .bit) (w .field) (w .used) (w .start) e));
@@ -958,7 +837,7 @@ module _ {A : Type 0} (of : List ℕ → Reading → A) (faulted : (s t : List �
             λ s p u n v h t p′ a.
             let w = ended-from s k p u (p + n) v h in
             let z : n ≡ w .used = let y = w .past in omega arith in
-            let i = end-there s p t p′ k (w .used) (w .end) (rw z at a) in
+            let i = end-local s p t p′ k (w .used) (w .end) (rw z at a) in
             ap (of t) (no-start t p′ u k (w .used) i) ∙ either-fault (eqb k outer) s t p p′ ∙ ap (of s) (sym (no-start s p u k (w .used) (w .end)));
       }
 
@@ -975,7 +854,7 @@ inside-took d kind s p u q v e =
     let n = run-next s p d kind q (w .0) in
     let y : q ≡ p + (q - p) = omega arith in
     let z : runAt s p d kind ≡ passed.To (p + (q - p)) = w .0 ∙ ap (λ (m : ℕ). passed.To m) y in
-    record { size = q - p; past = y; there = λ t p′ a. rw (run-there s p t p′ d kind (q - p) z a, ← w .1) }
+    record { size = q - p; past = y; there = λ t p′ a. rw (run-local s p t p′ d kind (q - p) z a, ← w .1) }
 
 pub carries-inside : (d kind : ℕ) → Carries (λ s c. inside s d kind c)
 unfolding inside

@@ -5,10 +5,10 @@ use mathlib.Core.Path.{_≡_, refl, sym, subst, _∙_}
 use mathlib.Core.Bool.{Bool}
 use mathlib.Core.Logic.{_⊎_, inl, inr}
 use mathlib.Core.List.{List}
-use Prim.Native.Nat.{ℕ, _+_, _<_, _≤_}
+use Prim.Native.Nat.{ℕ, _+_, _-_, _<_, _≤_}
 use native.Mathlib.Omega.{arith}
 use lib.ListN.{length}
-use Rattle.laws.proofs.Agreement.{Agree, agree-less}
+use Rattle.laws.proofs.Agreement.{Agree, agree-less, agree-drop}
 use Rattle.numbers.specs.Refusals.{faultAt}
 use Rattle.objects.specs.Header.{headerOf, headerAt, lengthAt, lengthened, withLength, wholeHeader}
 use Rattle.objects.specs.declared.header.Header.{Header}
@@ -17,7 +17,7 @@ use Rattle.objects.specs.declared.header.Length.{Length}
 use Rattle.objects.specs.declared.header.Length.the-variants.{Is}
 use Rattle.objects.specs.declared.header.Length.the-variants as length′
 use Rattle.objects.proofs.HeaderLaws.{Fits, header-of-fits, LengthFits, length-fits}
-use Rattle.objects.proofs.Local.{header-own, length-own}
+use Rattle.objects.proofs.Local.{start-local, end-local, length-local}
 
 -- 2 or 3, at a place within the part
 abbrev pub WholeWithin : ℕ → Header → Type 0
@@ -57,20 +57,17 @@ unfolding wholeHeader
 lengthened-own s t k c n u (Is v from) e q h =
     λ a.
     let w : LengthFits s u (Is v from) = subst (LengthFits s u) q (length-fits s u n) in
-    let z : 0 + u ≡ u = omega arith in
-    let b : Agree s t (0 + u) = rw z (agree-less s t from u (omega arith) a) in
-    let f : headerOf 0 t ≡ Start k c n u = sym (front t) ∙ header-own s t 0 (Start k c n u) (front s ∙ e) b in
-    rw (f, length-own s t u n v from q a)
+    let f : headerOf 0 t ≡ Start k c n u = sym (front t) ∙ start-local s 0 t 0 k c n u (front s ∙ e) (agree-less s t from u (omega arith) a) in
+    let i : u + (from - u) ≡ from = omega arith in
+    let g = length-local s u t u n v (from - u) (rw i q) (agree-drop s t u (from - u) (rw i a)) in
+    rw (f, g, i)
 lengthened-own s t k c n u (length′.Refused r) e q h = tt
 
 with-length-own : (s t : List ℕ) (h : Header) → headerOf 0 s ≡ h → Fits 0 (length s) h → WholeOwn s t (withLength s h)
 unfolding wholeHeader
 with-length-own s t (Start k c n u) e w = lengthened-own s t k c n u (lengthAt s u n) e refl (w .1)
 with-length-own s t (End k u) e w =
-    λ a.
-    let z : 0 + u ≡ u = omega arith in
-    let f : headerOf 0 t ≡ End k u = sym (front t) ∙ header-own s t 0 (End k u) (front s ∙ e) (rw z a) in
-    rw f
+    λ a. let f : headerOf 0 t ≡ End k u = sym (front t) ∙ end-local s 0 t 0 k u (front s ∙ e) a in rw f
 with-length-own s t (Refused r) e w = tt
 
 whole-own : (s t : List ℕ) → WholeOwn s t (wholeHeader s)

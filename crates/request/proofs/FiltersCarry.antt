@@ -7,16 +7,17 @@ use mathlib.Core.List.{List, _++_}
 use Prim.Native.Nat.{ℕ, zero, suc, _+_, _-_, _≤_, _<_}
 use native.Mathlib.Nat.{add-zero}
 use native.Mathlib.Omega.{arith}
-use lib.ListN.{length, take, drop, length-append}
-use lib.Seq.{take-all, take-append-seam, drop-append-seam}
+use lib.ListN.{length}
+use lib.Seq.{drop-append-seam}
 use lib.Dec.{eqb}
 use Rattle.laws.specs.Pick.{pick}
+use Rattle.laws.proofs.Agreement.{Same, same-less, same-on, same-whole}
 use Rattle.laws.proofs.Cases.{by-bool, impossible}
 use Rattle.numbers.specs.declared.refusal.Refusal.{Refusal}
 use Rattle.objects.specs.Steps.{valueOf, valued, startHere, runHere, closedAt, inRun, endHere, nextIs}
 use Rattle.objects.specs.declared.reading.Reading.{Reading}
 use Rattle.objects.specs.declared.reading.Reading.the-variants.{At, Refused}
-use Rattle.objects.proofs.StepsCarry.{Same, same-less, same-on, Carries, Gives, carries-then, gives-first, gives-next, gives-value, gives-by, gives-both, carries-by, gives-by-first, gives-by-next, carries-start, gives-next-is, carries-end, carries-run, gives-run, opened-from, gives-other-start, gives-no-start}
+use Rattle.objects.proofs.StepsCarry.{Carries, Gives, carries-then, gives-first, gives-next, gives-value, gives-by, gives-both, carries-by, gives-by-first, gives-by-next, carries-start, gives-next-is, carries-end, carries-run, gives-run, opened-from, gives-other-start, gives-no-start}
 use Rattle.store.specs.declared.element.Key.{Key}
 use Rattle.request.specs.Filter.{filterFields, oneNumber, typePart, idsField, idsPart, kindPart, filterStart, filterOpened, filterKind, filterAt, filtersFrom}
 use Rattle.request.specs.Meaning.{Filter, keysIn, filterRead, filtersRead}
@@ -276,12 +277,7 @@ pub filters-between : (f : List ℕ) (n : ℕ) → filtersFrom 16 f (At 0 0) ≡
     × (filtersRead n (pre ++ (f ++ post)) (At (length pre) v) ≡ filtersRead n f (At 0 0))
 filters-between f n e pre post v h =
     let t = pre ++ (f ++ post) in
-    let d : drop (length pre) t ≡ f ++ post = drop-append-seam pre (f ++ post) in
-    let a : Same f 0 t (length pre) (length f) =
-    record {
-      long = rw d (omega (arith, length-append f post));
-      same = take-all (length f) f (omega arith) ∙ sym (take-append-seam f post) ∙ ap (take (length f)) (sym d);
-    } in
+    let a = same-whole f t (length pre) post (drop-append-seam pre (f ++ post)) in
     let z : length f - 0 ≡ length f = omega arith in
     subst
     (λ (m : ℕ).

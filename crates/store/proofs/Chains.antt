@@ -13,13 +13,13 @@ use Rattle.laws.specs.Once.{once}
 use Rattle.laws.proofs.Cases.{by-bool, by-lt, pick-all, impossible, eqb-turn}
 use Rattle.laws.proofs.Twice.{once-more}
 use Rattle.numbers.specs.Refusals.{longestInput}
-use Rattle.objects.specs.Steps.{_▹_, no, sameBit, nothingOpen, placeOf, skip, startOn, startOfLength, startHere, endOn, endHere, startIs, nextIs, finish, Behind}
+use Rattle.objects.specs.Steps.{_▹_, no, sameBit, nothingOpen, placeOf, skip, startOn, startOfLength, startHere, endOn, endHere, startIs, nextIs, runHere, finish}
 use Rattle.objects.specs.Header.{headerAt}
 use Rattle.objects.specs.declared.header.Header.{Header}
 use Rattle.objects.specs.declared.header.Header.the-variants as header
 use Rattle.objects.specs.declared.reading.Reading.{Reading}
 use Rattle.objects.specs.declared.reading.Reading.the-variants as reading
-use Rattle.store.specs.Element.{sameKey, elementAt, dataOf, idsIn, serialsIn}
+use Rattle.store.specs.Element.{sameKey, fieldsOf, opened, dataOf, elementAt, idsIn, serialsIn}
 use Rattle.store.specs.Tables.{mostElements}
 use Rattle.store.specs.Store.{packageStart, Walk, walked, closing, onElement, walkFrom, packageWalk, finished, storeWalk, Stands}
 use Rattle.store.specs.Chain.{Chain, Fresh, Tiles}
@@ -27,9 +27,8 @@ use Rattle.store.specs.declared.element.Key.{Key}
 use Rattle.store.specs.declared.element.Element.{Element}
 use Rattle.store.specs.declared.element.ReadElement.{ReadElement}
 use Rattle.store.specs.declared.element.ReadElement.the-variants as element
-use Rattle.store.proofs.Fields.{element-parts, element-past}
-use Rattle.store.proofs.ElementCarry.{element-made}
-use Rattle.store.proofs.Taken.{element-unseen}
+use Rattle.objects.proofs.StepsCarry.{opened-from}
+use Rattle.store.proofs.Taken.{stands-closed, data-stands, element-some, element-unseen}
 use Rattle.store.proofs.Walks.{walk-ends, walk-element}
 
 -- ---- the walk
@@ -107,16 +106,6 @@ walk-read (suc left) s done at v =
 
 -- ---- what a chain is
 
--- an element stands where it was looked for, and is not empty
-element-some : (depth : ℕ) (ids serials : List Key) (s : List ℕ) (at v : ℕ) (x : Element) → elementAt depth ids serials s (reading.At at v) ≡ element.Is x
-    → (x .place ≡ at) × (0 < x .length)
-unfolding placeOf
-element-some depth ids serials s at v x h =
-    let p = element-parts depth ids serials s (reading.At at v) x h in
-    let b : Behind (at + 1) (reading.At (p .end) (p .stop)) = subst (Behind (at + 1)) (p .reached) (element-past depth ids serials s (reading.At at v)) in
-    let n = p .length′ in
-    (p .place, omega arith)
-
 pub chain-tiles : (s : List ℕ) (done xs : List Element) (at e : ℕ) → Chain s done at xs e → Tiles at xs e
 chain-tiles s done [] at e c = c
 chain-tiles s done (x ∷ xs) at e c =
@@ -169,10 +158,18 @@ unfolding endHere nextIs
 end-no-start s kind other at v q u e = end-on-no-start kind other at q u (headerAt s at) e
 
 -- where an element was read, its start stands
+start-next : (s : List ℕ) (at v : ℕ) (c : Reading) → opened s (reading.At at v) ≡ c → Stands c → nextIs s 0x01 (reading.At at v) ≡ true
+unfolding nextIs
+start-next s at v (reading.At from n) e h = rw (opened-from s 0x15 0x01 true true at v from n e .start)
+start-next s at v (reading.Refused r) e h = absurd h
+
 element-next : (depth : ℕ) (ids serials : List Key) (s : List ℕ) (at v : ℕ) (x : Element) → elementAt depth ids serials s (reading.At at v) ≡ element.Is x
     → nextIs s 0x01 (reading.At at v) ≡ true
-unfolding nextIs
-element-next depth ids serials s at v x h = rw (element-made depth ids serials s at v x h .stands .start)
+unfolding dataOf
+element-next depth ids serials s at v x h =
+    let c = reading.At at v in
+    let o = opened s c in
+    start-next s at v o refl (stands-closed s o (fieldsOf ids serials (runHere s o) .last) (data-stands depth ids serials s c x h) .0)
 
 any-end : (s : List ℕ) (kind at v : ℕ) → endHere s kind (reading.At at 0) ≡ endHere s kind (reading.At at v)
 unfolding endHere

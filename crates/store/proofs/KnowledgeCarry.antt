@@ -8,6 +8,7 @@ use Prim.Native.Nat.{ℕ, zero, suc, _+_, _-_, _≤_}
 use native.Mathlib.Omega.{arith}
 use lib.ListN.{length, take, drop}
 use Rattle.laws.specs.Pick.{pick}
+use Rattle.laws.proofs.Agreement.{Same, same-less, same-on, same-of}
 use Rattle.laws.proofs.Cases.{by-bool, impossible}
 use Rattle.laws.proofs.Loops.{iterate-ind}
 use Rattle.numbers.specs.declared.refusal.Refusal.{Refusal}
@@ -19,7 +20,7 @@ use Rattle.objects.specs.declared.reading.Reading.the-variants.{At, Refused}
 use Rattle.objects.specs.declared.reading.ReadingGuid.the-variants as guid′
 use Rattle.objects.specs.declared.reading.ReadingSerial.{ReadingSerial}
 use Rattle.objects.specs.declared.reading.ReadingSerial.the-variants as serial′
-use Rattle.objects.proofs.StepsCarry.{Same, same-less, same-on, same-of, Took, Carries, Gives, carries-to, carries-forward, carries-then, gives-first, gives-next, gives-all, gives-free, gives-by, gives-both, carries-same, gives-same, carries-by, gives-by-first, gives-by-next, carries-pick, gives-picked, gives-pick, carries-still, carries-guid, gives-guid, carries-start, gives-next-is, carries-start-of-length, gives-next-is-of-length, carries-end, gives-next-is-end, carries-inside, carries-run, gives-run, opened-from}
+use Rattle.objects.proofs.StepsCarry.{Took, Carries, Gives, carries-to, carries-span, carries-then, gives-first, gives-next, gives-all, gives-free, gives-by, gives-both, carries-same, gives-same, carries-by, gives-by-first, gives-by-next, carries-pick, gives-picked, gives-pick, carries-still, carries-guid, gives-guid, carries-start, gives-next-is, carries-start-of-length, gives-next-is-of-length, carries-end, gives-next-is-end, carries-inside, carries-run, gives-run, opened-from}
 use Rattle.talk.specs.declared.range.Range.{Range}
 use Rattle.ranges.specs.RangeTable.{laidRanges}
 use Rattle.store.specs.Knowledge.{rangeFields, itemOf, rangeStart, rangeItem, entryOf, entryStart, entrySerial, entryItem, itemNext, itemKind, itemAt, onItem, united, Knowing, knowing, standing, itemsFrom, isCell, specializedGuid, cellFrom, specializedFrom, knowledgeTurn, toGo, unreached, knowledgeFrom, knowledgeAt}
@@ -426,9 +427,7 @@ pub knowledge-carry : (allowed depth outer : ℕ) (s t t′ : List ℕ) (p u q v
     × (knowledgeAt allowed depth outer w t′ (At p′ u) .ranges ≡ knowledgeAt allowed depth outer s t (At p u) .ranges)
 knowledge-carry allowed depth outer s t t′ p u q v e w p′ h l =
     let f = carries-knowledge allowed depth outer t in
-    let y = carries-forward f s p u q v e in
-    let z : q ≡ p + (q - p) = omega arith in
-    let d : knowledgeAt allowed depth outer s t (At p u) .last ≡ At (p + (q - p)) v = e ∙ ap (λ (n : ℕ). At n v) z in
+    let d = carries-span f s p u q v e in
     let a = same-of s p w p′ (q - p) h l in
     let k = table-free allowed depth outer w t′ t (At p′ u) in
     (k .last ∙ carries-to f s p u (q - p) v d w p′ a, k .ranges ∙ gives-knowledge allowed depth outer t .alike s p u (q - p) v d w p′ a)

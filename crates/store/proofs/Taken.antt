@@ -1,13 +1,21 @@
--- An element that was read had no fault on the way: its id and serial number were not seen before.
+-- An element that was read had no fault on the way: its id and serial number were not seen before. It stands where it was
+-- looked for, is not empty and ends within the input.
 -- Assumes nothing.
 use mathlib.Core.Path.{_≡_, refl, sym, subst}
 use mathlib.Core.Bool.{Bool, true, false}
 use mathlib.Core.List.{List}
-use Prim.Native.Nat.{ℕ}
+use Prim.Native.Nat.{ℕ, _+_, _<_, _≤_}
+use native.Mathlib.Omega.{arith}
+use lib.ListN.{length}
 use Rattle.laws.specs.Once.{seen}
-use Rattle.objects.specs.Steps.{placeOf, serialHere, idHere, runHere, closedAt, closed, inside, number}
+use Rattle.laws.proofs.Cases.{impossible}
+use Rattle.objects.specs.Nesting.{runAt}
+use Rattle.objects.specs.Steps.{placeOf, serialHere, idHere, runHere, closedAt, closed, insideOn, inside, number, Behind}
+use Rattle.objects.specs.declared.nesting.Passed.{Passed}
+use Rattle.objects.specs.declared.nesting.Passed.the-variants as passed
 use Rattle.objects.specs.declared.reading.Reading.{Reading}
 use Rattle.objects.specs.declared.reading.Reading.the-variants as reading
+use Rattle.objects.proofs.Ahead.{run-next}
 use Rattle.store.specs.Element.{sameKey, namedKey, numberedKey, freshKey, keyHere, onKey, judged, idField, serialField, fieldsOf, opened, dataOf, elementAt}
 use Rattle.store.specs.Store.{Stands}
 use Rattle.store.specs.declared.element.Key.{Key}
@@ -15,10 +23,10 @@ use Rattle.store.specs.declared.element.Element.{Element}
 use Rattle.store.specs.declared.element.ReadingKey.{ReadingKey}
 use Rattle.store.specs.declared.element.ReadingKey.the-variants.{At, Refused}
 use Rattle.store.specs.declared.element.ReadElement.the-variants as element
-use Rattle.store.proofs.Fields.{element-parts}
+use Rattle.store.proofs.Fields.{data-at-least, element-parts}
 
 -- no fault stands
-abbrev StandsKey : ReadingKey → Type 0
+abbrev pub StandsKey : ReadingKey → Type 0
 StandsKey (At q k) = Unit {0}
 StandsKey (Refused r) = ⊥
 
@@ -65,14 +73,21 @@ stands-serial-field serials d (reading.Refused r) h =
 
 -- ---- the fields
 
+pub keys-stand : (ids serials : List Key) (d : List ℕ) → Stands (fieldsOf ids serials d .last)
+    → StandsKey (idField ids d) × StandsKey (serialField serials d (onKey (idField ids d)))
+unfolding fieldsOf
+keys-stand ids serials d h =
+    let c = onKey (idField ids d) in
+    let k = stands-on (serialField serials d c) (stands-number d (onKey (serialField serials d c)) h) in
+    (stands-on (idField ids d) (stands-serial-field serials d c k), k)
+
 pub fields-unseen : (ids serials : List Key) (d : List ℕ) → Stands (fieldsOf ids serials d .last)
     → (seen sameKey (fieldsOf ids serials d .id) ids ≡ false) × (seen sameKey (fieldsOf ids serials d .serial) serials ≡ false)
 unfolding fieldsOf idField serialField
 fields-unseen ids serials d h =
     let c = onKey (idField ids d) in
-    let k : StandsKey (serialField serials d c) = stands-on (serialField serials d c) (stands-number d (onKey (serialField serials d c)) h) in
-    let i : StandsKey (idField ids d) = stands-on (idField ids d) (stands-serial-field serials d c k) in
-    (unseen 0 ids (namedKey 0 (idHere d (reading.At 0 0))) i, unseen (placeOf c) serials (numberedKey (placeOf c) (serialHere d c)) k)
+    let k = keys-stand ids serials d h in
+    (unseen 0 ids (namedKey 0 (idHere d (reading.At 0 0))) (k .0), unseen (placeOf c) serials (numberedKey (placeOf c) (serialHere d c)) (k .1))
 
 -- ---- the element
 
@@ -92,3 +107,23 @@ element-unseen depth ids serials s c x h =
     let w = stands-closed s o (f .last) (data-stands depth ids serials s c x h) in
     let u = fields-unseen ids serials (runHere s o) (w .1) in
     (rw (p .id) (u .0), rw (p .serial) (u .1))
+
+-- ---- where it stands
+
+passed-past : (s : List ℕ) (p q depth e v : ℕ) (r : Passed) → p ≤ q → runAt s q depth 0x01 ≡ r → insideOn r ≡ reading.At e v → (p < e) × (e ≤ length s)
+passed-past s p q depth e v (passed.To x) h a i = let w = run-next s q depth 0x01 x a in let z : x ≡ e = cc in omega arith
+passed-past s p q depth e v (passed.Refused r) h a i = impossible (cc)
+
+inside-past : (s : List ℕ) (p depth e v : ℕ) (c : Reading) → Behind p c → inside s depth 0x01 c ≡ reading.At e v → (p < e) × (e ≤ length s)
+unfolding inside
+inside-past s p depth e v (reading.At q u) h i = passed-past s p q depth e v (runAt s q depth 0x01) h refl i
+inside-past s p depth e v (reading.Refused r) h i = impossible (cc)
+
+pub element-some : (depth : ℕ) (ids serials : List Key) (s : List ℕ) (at v : ℕ) (x : Element) → elementAt depth ids serials s (reading.At at v) ≡ element.Is x
+    → (x .place ≡ at) × (0 < x .length) × (at + x .length ≤ length s)
+unfolding placeOf
+element-some depth ids serials s at v x h =
+    let p = element-parts depth ids serials s (reading.At at v) x h in
+    let b = inside-past s at depth (p .end) (p .stop) (dataOf ids serials s (reading.At at v)) (data-at-least ids serials s (reading.At at v)) (p .reached) in
+    let n = p .length′ in
+    (p .place, omega arith, omega arith)
