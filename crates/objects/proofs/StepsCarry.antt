@@ -445,6 +445,46 @@ idStep s c = onId (idHere s c)
 abbrev pub serialStep : List ℕ → Reading → Reading
 serialStep s c = onSerial (serialHere s c)
 
+-- a value that was read at p, and that its own bytes give anywhere; `at q x` is x, read up to q
+record Held {A X : Type 0} (here : List ℕ → Reading → X) (at : ℕ → A → X) (s : List ℕ) (p u q : ℕ) : Type 0 where
+  size : ℕ
+  value : A
+  past : q ≡ p + size
+  read : here s (At p u) ≡ at (p + size) value
+  there : (t : List ℕ) (p′ : ℕ) → Same s p t p′ size → here t (At p′ u) ≡ at (p′ + size) value
+
+record Item {A X : Type 0} (here : List ℕ → Reading → X) (on : X → Reading) (at : ℕ → A → X) : Type 0 where
+  read : (p : ℕ) (x : A) → on (at p x) ≡ At p 0
+  fault : (s : List ℕ) (r : Refusal) → on (here s (Refused r)) ≡ Refused r
+  held : (s : List ℕ) (p u q v : ℕ) → on (here s (At p u)) ≡ At q v → Held here at s p u q
+
+module _ {A X : Type 0} {here : List ℕ → Reading → X} {on : X → Reading} {at : ℕ → A → X} (i : Item here on at) where
+  item-took : (s : List ℕ) (p u q v : ℕ) → on (here s (At p u)) ≡ At q v → Took (λ t c. on (here t c)) s p u q v
+  item-took s p u q v e =
+      let k = i .held s p u q v e in
+      let z : At (p + k .size) 0 ≡ At q v = sym (ap on (k .read) ∙ i .read (p + k .size) (k .value)) ∙ e in
+      let w : 0 ≡ v = cc in
+      record {
+        size = k .size;
+        past = k .past;
+        there = λ t p′ a. ap on (k .there t p′ a) ∙ i .read (p′ + k .size) (k .value) ∙ ap (λ (n : ℕ). At (p′ + k .size) n) w;
+      }
+
+  carries-item : Carries (λ s c. on (here s c))
+  carries-item = record { fault = i .fault; took = item-took }
+
+  -- what of it does not depend on the place behind it
+  gives-item : {B : Type 0} (of : X → B) → ((p q : ℕ) (x : A) → of (at p x) ≡ of (at q x)) → Gives (λ s c. on (here s c)) (λ s c. of (here s c))
+  gives-item of free =
+      record {
+        alike =
+            λ s p u n v e t p′ a.
+            let k = i .held s p u (p + n) v e in
+            let z : n ≡ k .size = let y = k .past in omega arith in
+            let b : Same s p t p′ (k .size) = rw z at a in
+            ap of (k .there t p′ b) ∙ free (p′ + k .size) (p + k .size) (k .value) ∙ ap of (sym (k .read));
+      }
+
 guid-same : (s : List ℕ) (p : ℕ) (t : List ℕ) (p′ : ℕ) → Same s p t p′ 16 → guidAt (drop p′ t) ≡ guidAt (drop p s)
 unfolding guidAt
 guid-same s p t p′ a =
@@ -454,158 +494,74 @@ guid-same s p t p′ a =
     let i : take 8 (drop 8 y) ≡ take 8 (drop 8 x) = sym (same-part x y 16 8 8 (omega arith) (a .same)) in
     rw (h, i)
 
-record TookGuid (s : List ℕ) (p u q : ℕ) (g : Guid) : Type 0 where
-  past : q ≡ p + 16
-  there : (t : List ℕ) (p′ : ℕ) → Same s p t p′ 16 → guidHere t (At p′ u) ≡ guid′.At (p′ + 16) g
-
-guid-took : (s : List ℕ) (p u q : ℕ) (g : Guid) → guidHere s (At p u) ≡ guid′.At q g → TookGuid s p u q g
-unfolding guidHere
-guid-took s p u q g e =
+guid-held : (s : List ℕ) (p u q v : ℕ) → guidStep s (At p u) ≡ At q v → Held guidHere (λ n g. guid′.At n g) s p u q
+unfolding guidHere onGuid
+guid-held s p u q v e =
     by-lt (length s - p) 16
-    (λ l. let z : guid′.Refused _ ≡ guid′.At q g = rw (lt-ltb _ _ l) at e in impossible (cc))
+    (λ l. let z : no 2 p ≡ At q v = rw (lt-ltb _ _ l) at e in impossible (cc))
     (λ l.
-    let z : guid′.At (p + 16) (guidAt (drop p s)) ≡ guid′.At q g = rw (le-ltb _ _ l) at e in
+    let z : At (p + 16) 0 ≡ At q v = rw (le-ltb _ _ l) at e in
     let y : p + 16 ≡ q = cc in
-    let w : guidAt (drop p s) ≡ g = cc in
-    record { past = sym y; there = λ t p′ a. rw (le-ltb _ _ (there-long s p t p′ 16 a), guid-same s p t p′ a, w) })
+    record {
+      size = 16;
+      value = guidAt (drop p s);
+      past = sym y;
+      read = rw (le-ltb _ _ l);
+      there = λ t p′ a. rw (le-ltb _ _ (there-long s p t p′ 16 a), guid-same s p t p′ a);
+    })
 
-pub guid-there : (s : List ℕ) (p u n : ℕ) (g : Guid) → guidHere s (At p u) ≡ guid′.At (p + n) g → (t : List ℕ) (p′ : ℕ) → Same s p t p′ n
-    → guidHere t (At p′ u) ≡ guid′.At (p′ + n) g
-guid-there s p u n g e t p′ a =
-    let k = guid-took s p u (p + n) g e in
-    let z : n ≡ 16 = let y = k .past in omega arith in
-    let b : Same s p t p′ 16 = rw z at a in
-    rw z (k .there t p′ b)
+guid-item : Item guidHere onGuid (λ n g. guid′.At n g)
+unfolding guidHere onGuid
+guid-item = record { read = λ p g. refl; fault = λ s r. refl; held = guid-held }
 
-guid-step-size : (s : List ℕ) (p u q v : ℕ) (c : ReadingGuid) → guidHere s (At p u) ≡ c → onGuid c ≡ At q v → q ≡ p + 16
-unfolding onGuid
-guid-step-size s p u q v (guid′.At m g) a e = let y : m ≡ q = cc in sym y ∙ guid-took s p u m g a .past
-guid-step-size s p u q v (guid′.Refused r) a e = impossible (cc)
+id-held : (s : List ℕ) (p u q v : ℕ) (r : ReadExtendedGuid) → readExtendedGuid (drop p s) ≡ r → onId (idOn p r) ≡ At q v → Held idHere (λ n x. id′.At n x) s p u q
+unfolding idHere onId
+id-held s p u q v (extended.Value x n) a e =
+    let y : p + n ≡ q = cc in
+    record {
+      size = n;
+      value = x;
+      past = sym y;
+      read = rw a;
+      there = λ t p′ i. rw (extended-guid-own (drop p s) (drop p′ t) x n a (id-size s p x n a) i);
+    }
+id-held s p u q v (extended.Refused r) a e = impossible (cc)
 
-guid-size : (s : List ℕ) (p u n v : ℕ) → guidStep s (At p u) ≡ At (p + n) v → n ≡ 16
-guid-size s p u n v e = let z = guid-step-size s p u (p + n) v (guidHere s (At p u)) refl e in omega arith
+id-item : Item idHere onId (λ n x. id′.At n x)
+unfolding idHere onId
+id-item = record { read = λ p x. refl; fault = λ s r. refl; held = λ s p u q v e. id-held s p u q v (readExtendedGuid (drop p s)) refl e }
 
-guid-step-took : (s : List ℕ) (p u q v : ℕ) (c : ReadingGuid) → guidHere s (At p u) ≡ c → onGuid c ≡ At q v → Took guidStep s p u q v
-unfolding onGuid
-guid-step-took s p u q v (guid′.At m g) a e =
-    let y : m ≡ q = cc in
-    let w : 0 ≡ v = cc in
-    let k = guid-took s p u m g a in
-    record { size = 16; past = sym y ∙ k .past; there = λ t p′ i. rw (k .there t p′ i, w) }
-guid-step-took s p u q v (guid′.Refused r) a e = impossible (cc)
+serial-held : (s : List ℕ) (p u q v : ℕ) (r : ReadSerial) → readSerial (drop p s) ≡ r → onSerial (serialOn p r) ≡ At q v
+    → Held serialHere (λ n x. serial′.At n x) s p u q
+unfolding serialHere onSerial
+serial-held s p u q v (serial.Value x n) a e =
+    let y : p + n ≡ q = cc in
+    let w = subst (SerialWithin (length (drop p s))) a (serial-within (drop p s)) in
+    record { size = n; value = x; past = sym y; read = rw a; there = λ t p′ i. rw (serial-own (drop p s) (drop p′ t) x n a (w .0) i) }
+serial-held s p u q v (serial.Refused r) a e = impossible (cc)
+
+serial-item : Item serialHere onSerial (λ n x. serial′.At n x)
+unfolding serialHere onSerial
+serial-item = record { read = λ p x. refl; fault = λ s r. refl; held = λ s p u q v e. serial-held s p u q v (readSerial (drop p s)) refl e }
 
 pub carries-guid : Carries guidStep
-unfolding guidHere onGuid
-carries-guid = record { fault = λ s r. refl; took = λ s p u q v e. guid-step-took s p u q v (guidHere s (At p u)) refl e }
-
--- what of the GUID does not depend on the place behind it
-module _ {A : Type 0} (of : ReadingGuid → A) (free : (p q : ℕ) (g : Guid) → of (guid′.At p g) ≡ of (guid′.At q g)) where
-  guid-alike : (s : List ℕ) (p u q v : ℕ) (c : ReadingGuid) → guidHere s (At p u) ≡ c → onGuid c ≡ At q v → (t : List ℕ) (p′ : ℕ) → Same s p t p′ 16
-      → of (guidHere t (At p′ u)) ≡ of (guidHere s (At p u))
-  unfolding onGuid
-  guid-alike s p u q v (guid′.At m g) a e t p′ i =
-      let k = guid-took s p u m g a in
-      ap of (k .there t p′ i) ∙ free (p′ + 16) m g ∙ ap of (sym a)
-  guid-alike s p u q v (guid′.Refused r) a e t p′ i = impossible (cc)
-
-  pub gives-guid : Gives guidStep (λ s c. of (guidHere s c))
-  gives-guid =
-      record {
-        alike =
-            λ s p u n v e t p′ a.
-            guid-alike s p u (p + n) v (guidHere s (At p u)) refl e t p′ (rw (guid-size s p u n v e) at a);
-      }
-
-id-took : (s : List ℕ) (p u n : ℕ) (x : ExtendedGuid) → readExtendedGuid (drop p s) ≡ extended.Value x n → (t : List ℕ) (p′ : ℕ) → Same s p t p′ n
-    → idHere t (At p′ u) ≡ id′.At (p′ + n) x
-unfolding idHere
-id-took s p u n x a t p′ i = rw (extended-guid-own (drop p s) (drop p′ t) x n a (id-size s p x n a) i)
-
-id-on-there : (s : List ℕ) (p u n : ℕ) (x : ExtendedGuid) (r : ReadExtendedGuid) → readExtendedGuid (drop p s) ≡ r → idOn p r ≡ id′.At (p + n) x
-    → (t : List ℕ) (p′ : ℕ) → Same s p t p′ n → idHere t (At p′ u) ≡ id′.At (p′ + n) x
-id-on-there s p u n x (extended.Value y m) a e t p′ i =
-    let w : y ≡ x = cc in
-    let o : p + m ≡ p + n = cc in
-    let z : n ≡ m = omega arith in
-    let b : Same s p t p′ m = rw z at i in
-    rw (z, ← w) (id-took s p u m y a t p′ b)
-id-on-there s p u n x (extended.Refused r) a e t p′ i = impossible (cc)
-
-pub id-there : (s : List ℕ) (p u n : ℕ) (x : ExtendedGuid) → idHere s (At p u) ≡ id′.At (p + n) x → (t : List ℕ) (p′ : ℕ) → Same s p t p′ n
-    → idHere t (At p′ u) ≡ id′.At (p′ + n) x
-unfolding idHere
-id-there s p u n x e t p′ i = id-on-there s p u n x (readExtendedGuid (drop p s)) refl e t p′ i
-
-id-step-took : (s : List ℕ) (p u q v : ℕ) (r : ReadExtendedGuid) → readExtendedGuid (drop p s) ≡ r → onId (idOn p r) ≡ At q v → Took idStep s p u q v
-unfolding onId
-id-step-took s p u q v (extended.Value x n) a e =
-    let y : p + n ≡ q = cc in
-    let w : 0 ≡ v = cc in
-    record { size = n; past = sym y; there = λ t p′ i. rw (id-took s p u n x a t p′ i, w) }
-id-step-took s p u q v (extended.Refused r) a e = impossible (cc)
+carries-guid = carries-item guid-item
 
 pub carries-id : Carries idStep
-unfolding idHere onId
-carries-id = record { fault = λ s r. refl; took = λ s p u q v e. id-step-took s p u q v (readExtendedGuid (drop p s)) refl e }
-
-serial-took : (s : List ℕ) (p u n : ℕ) (x : Serial) → readSerial (drop p s) ≡ serial.Value x n → (t : List ℕ) (p′ : ℕ) → Same s p t p′ n
-    → serialHere t (At p′ u) ≡ serial′.At (p′ + n) x
-unfolding serialHere
-serial-took s p u n x a t p′ i =
-    let w = subst (SerialWithin (length (drop p s))) a (serial-within (drop p s)) in
-    rw (serial-own (drop p s) (drop p′ t) x n a (w .0) i)
-
-serial-on-there : (s : List ℕ) (p u n : ℕ) (x : Serial) (r : ReadSerial) → readSerial (drop p s) ≡ r → serialOn p r ≡ serial′.At (p + n) x
-    → (t : List ℕ) (p′ : ℕ) → Same s p t p′ n → serialHere t (At p′ u) ≡ serial′.At (p′ + n) x
-serial-on-there s p u n x (serial.Value y m) a e t p′ i =
-    let w : y ≡ x = cc in
-    let o : p + m ≡ p + n = cc in
-    let z : n ≡ m = omega arith in
-    let b : Same s p t p′ m = rw z at i in
-    rw (z, ← w) (serial-took s p u m y a t p′ b)
-serial-on-there s p u n x (serial.Refused r) a e t p′ i = impossible (cc)
-
-pub serial-there : (s : List ℕ) (p u n : ℕ) (x : Serial) → serialHere s (At p u) ≡ serial′.At (p + n) x → (t : List ℕ) (p′ : ℕ) → Same s p t p′ n
-    → serialHere t (At p′ u) ≡ serial′.At (p′ + n) x
-unfolding serialHere
-serial-there s p u n x e t p′ i = serial-on-there s p u n x (readSerial (drop p s)) refl e t p′ i
-
-serial-step-took : (s : List ℕ) (p u q v : ℕ) (r : ReadSerial) → readSerial (drop p s) ≡ r → onSerial (serialOn p r) ≡ At q v → Took serialStep s p u q v
-unfolding onSerial
-serial-step-took s p u q v (serial.Value x n) a e =
-    let y : p + n ≡ q = cc in
-    let w : 0 ≡ v = cc in
-    record { size = n; past = sym y; there = λ t p′ i. rw (serial-took s p u n x a t p′ i, w) }
-serial-step-took s p u q v (serial.Refused r) a e = impossible (cc)
+carries-id = carries-item id-item
 
 pub carries-serial : Carries serialStep
-unfolding serialHere onSerial
-carries-serial = record { fault = λ s r. refl; took = λ s p u q v e. serial-step-took s p u q v (readSerial (drop p s)) refl e }
+carries-serial = carries-item serial-item
 
--- what of the id, or of the serial number, does not depend on the place behind it
-module _ {A : Type 0} (of : ReadingId → A) (free : (p q : ℕ) (x : ExtendedGuid) → of (id′.At p x) ≡ of (id′.At q x)) where
-  id-alike : (s : List ℕ) (p u n v : ℕ) (c : ReadingId) → idHere s (At p u) ≡ c → onId c ≡ At (p + n) v → (t : List ℕ) (p′ : ℕ) → Same s p t p′ n
-      → of (idHere t (At p′ u)) ≡ of (idHere s (At p u))
-  unfolding onId
-  id-alike s p u n v (id′.At m x) a e t p′ i =
-      let y : m ≡ p + n = cc in
-      ap of (id-there s p u n x (a ∙ ap (λ (j : ℕ). id′.At j x) y) t p′ i) ∙ free (p′ + n) m x ∙ ap of (sym a)
-  id-alike s p u n v (id′.Refused r) a e t p′ i = impossible (cc)
+pub gives-guid : {A : Type 0} (of : ReadingGuid → A) → ((p q : ℕ) (g : Guid) → of (guid′.At p g) ≡ of (guid′.At q g)) → Gives guidStep (λ s c. of (guidHere s c))
+gives-guid of free = gives-item guid-item of free
 
-  pub gives-id : Gives idStep (λ s c. of (idHere s c))
-  gives-id = record { alike = λ s p u n v e t p′ a. id-alike s p u n v (idHere s (At p u)) refl e t p′ a }
+pub gives-id : {A : Type 0} (of : ReadingId → A) → ((p q : ℕ) (x : ExtendedGuid) → of (id′.At p x) ≡ of (id′.At q x)) → Gives idStep (λ s c. of (idHere s c))
+gives-id of free = gives-item id-item of free
 
-module _ {A : Type 0} (of : ReadingSerial → A) (free : (p q : ℕ) (x : Serial) → of (serial′.At p x) ≡ of (serial′.At q x)) where
-  serial-alike : (s : List ℕ) (p u n v : ℕ) (c : ReadingSerial) → serialHere s (At p u) ≡ c → onSerial c ≡ At (p + n) v → (t : List ℕ) (p′ : ℕ)
-      → Same s p t p′ n → of (serialHere t (At p′ u)) ≡ of (serialHere s (At p u))
-  unfolding onSerial
-  serial-alike s p u n v (serial′.At m x) a e t p′ i =
-      let y : m ≡ p + n = cc in
-      ap of (serial-there s p u n x (a ∙ ap (λ (j : ℕ). serial′.At j x) y) t p′ i) ∙ free (p′ + n) m x ∙ ap of (sym a)
-  serial-alike s p u n v (serial′.Refused r) a e t p′ i = impossible (cc)
-
-  pub gives-serial : Gives serialStep (λ s c. of (serialHere s c))
-  gives-serial = record { alike = λ s p u n v e t p′ a. serial-alike s p u n v (serialHere s (At p u)) refl e t p′ a }
+pub gives-serial : {A : Type 0} (of : ReadingSerial → A) → ((p q : ℕ) (x : Serial) → of (serial′.At p x) ≡ of (serial′.At q x))
+    → Gives serialStep (λ s c. of (serialHere s c))
+gives-serial of free = gives-item serial-item of free
 
 -- ---- a start
 
