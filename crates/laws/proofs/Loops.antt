@@ -1,6 +1,6 @@
--- The one loop: a bound that is proved not to matter, its equation, induction and uniqueness.
+-- The one loop: a bound that is proved not to matter, its equation, and induction.
 -- Assumes nothing.
-use mathlib.Core.Path.{_≡_, refl, sym, ap, subst, _∙_}
+use mathlib.Core.Path.{_≡_, refl, ap, subst, _∙_}
 use Prim.Native.Nat.{ℕ, zero, suc, _<_}
 use native.Mathlib.Omega.{arith}
 use Rattle.laws.specs.Loop.{Turn, after, turns, iterate}
@@ -44,7 +44,3 @@ module _ {A R : Type 0} (step : A → Turn A R) (size : A → ℕ) (out : R) (fa
 
   pub iterate-ind : (P : A → Type 0) → ((a : A) → ((b : A) → step a ≡ more b → P b) → P a) → (a : A) → P a
   iterate-ind P h a = climb P h (suc (size a)) a (omega arith)
-
-  -- whatever satisfies the equation is the loop
-  pub iterate-only : (go : A → R) → ((a : A) → go a ≡ after go (step a)) → (a : A) → iterate step size out a ≡ go a
-  iterate-only go e = iterate-ind (λ a. iterate step size out a ≡ go a) (λ a h. iterate-eq a ∙ after-same (λ b. iterate step size out b) go (step a) h ∙ sym (e a))
