@@ -1,6 +1,6 @@
 -- How many ranges a series of answers needs: at most one more for each thing sent. So what is known at the start and what is wanted then
 -- bound the ranges of every page of one thing, and from 256 ranges and 256 things there are never more than 512 (`never-crowded`). And
--- a series over ranges is one over sets (`ranged-judged`), so it delivers (`ranged-converges`).
+-- an answer over ranges is one over sets (`ranged-judged`).
 -- Assumes nothing.
 use mathlib.Core.Path.{_≡_, refl, sym, _∙_, ap}
 use mathlib.Core.Bool.{Bool, true, false}
@@ -17,14 +17,12 @@ use Rattle.talk.specs.declared.range.Range.{Range}
 use Rattle.talk.specs.Ranges.{range, within, holds, insert, Normal}
 use Rattle.talk.specs.Each.{Each}
 use Rattle.talk.specs.Wanted.{isWanted, wanted}
-use Rattle.talk.specs.Series.{Chain, done, next, Answer, joinedPages, Takes, withKeys, Judged, Delivers}
+use Rattle.talk.specs.Series.{Chain, done, next, Answer, Takes, withKeys, Judged}
 use Rattle.talk.specs.RangeSeries.{withRanges, HoldsSome, RangeOfKey, Ranged}
 use Rattle.talk.proofs.Insertion.{length-insert, normal-insert}
 use Rattle.talk.proofs.Membership.{holds-insert}
 use Rattle.talk.proofs.Things.{each-kept}
-use Rattle.talk.proofs.OneForm.{one-form}
-use Rattle.talk.proofs.Series.{chain-along, chain-keeps}
-use Rattle.talk.proofs.Delivery.{length-wanted, judged-takes, judged-converges}
+use Rattle.talk.proofs.Delivery.{length-wanted, judged-takes}
 
 -- ---- ranges put into a list
 
@@ -39,30 +37,6 @@ pub normal-with : (l more : List Range) → Each HoldsSome more → Normal l →
 unfolding withRanges
 normal-with l [] s n = n
 normal-with l (r ∷ more) s n = normal-with (insert r l) more (s .1) (normal-insert r l (s .0) n)
-
--- held then: what was held before, and what the ranges hold
-pub holds-with : (l more : List Range) → Each HoldsSome more → Normal l → (a b n : ℕ)
-    → holds (withRanges l more) a b n ≡ pick (holds l a b n) true (holds more a b n)
-unfolding withRanges holds
-holds-with l [] s o a b n = sym (alone (holds l a b n))
-  where
-    alone : (p : Bool) → pick p true false ≡ p
-    alone true = refl
-    alone false = refl
-holds-with l (r ∷ more) s o a b n =
-    holds-with (insert r l) more (s .1) (normal-insert r l (s .0) o) a b n
-    ∙ (rw (holds-insert r l a b n o) (turned (within r a b n) (holds l a b n) (holds more a b n)))
-  where
-    turned : (p q t : Bool) → pick (pick p true q) true t ≡ pick q true (pick p true t)
-    turned true true t = refl
-    turned true false t = refl
-    turned false q t = refl
-
--- a list in normal form that holds this is this list
-pub with-one-form : (l more l′ : List Range) → Each HoldsSome more → Normal l → Normal l′
-    → ((a b n : ℕ) → holds l′ a b n ≡ pick (holds l a b n) true (holds more a b n)) → l′ ≡ withRanges l more
-with-one-form l more l′ s o o′ h =
-    one-form l′ (withRanges l more) o′ (normal-with l more s o) (λ a b n. h a b n ∙ sym (holds-with l more s o a b n))
 
 -- a range of one number holds that number under its GUID, and no other
 pub within-one : (a b m u l n : ℕ) → within (range a b m m) u l n ≡ pick (eqb a u) (pick (eqb b l) (eqb m n) false) false
@@ -85,12 +59,6 @@ module _ {E K : Type 0} (key : E → K) (rangeOf : E → Range) (known : List Ra
   -- what one answer adds
   pub ranged-length : (l l′ : List Range) (a : Answer E) → Ranged key rangeOf known things lets l a l′ → length l′ ≤ length l + length (a .page)
   ranged-length l l′ a r = rw (r .adds) (omega (arith, length-with l (map rangeOf (a .page)), length-map (a .page) rangeOf))
-
-  -- what a series adds: at most a range for each thing sent
-  pub series-length : {l l′ : List Range} {answers : List (Answer E)} → Chain (Ranged key rangeOf known things lets) l answers l′
-      → length l′ ≤ length l + length (joinedPages answers)
-  series-length done = omega arith
-  series-length (next {k = l} {m = m} {a = a} {given = answers} r c) = rw length-append (omega (arith, series-length c, ranged-length l m a r))
 
 each-front : {E : Type 0} (P : E → Type 0) (s t : List E) → Each P (s ++ t) → Each P s
 each-front P [] t h = tt
@@ -138,20 +106,7 @@ module _ {E K : Type 0} (same : K → K → Bool) (Fits : K → Type 0) (key : E
       rw (r .adds) (normal-with l (map rangeOf (a .page)) (each-some (a .page)) o),
     )
 
-    -- so is a series
-    pub ranged-chain : {l l′ : List Range} {answers : List (Answer E)} → Normal l → Chain (Ranged key rangeOf known things lets) l answers l′
-        → Chain (Judged same Fits key things lets) (known l) answers (known l′) × Normal l′
-    ranged-chain o c = let z = chain-keeps {S = OverSets} Normal (λ l l′ a. ranged-judged l l′ a) o c in (chain-along known (λ l l′ a j. j) (z .0), z .1)
-      where
-        OverSets : List Range → Answer E → List Range → Type 0
-        OverSets l a l′ = Judged same Fits key things lets (known l) a (known l′)
-
     module _ (itself : (k : K) → same k k ≡ true) (turn : (a b : K) → same a b ≡ same b a) (o : once same (map key things) ≡ true) where
-      -- demand 3, where what is known is a list of ranges
-      pub ranged-converges : {l l′ : List Range} {answers : List (Answer E)} → Normal l → Chain (Ranged key rangeOf known things lets) l answers l′
-          → Delivers same key things lets (known l) answers
-      ranged-converges n c = judged-converges same itself turn key Fits things lets all o (ranged-chain n c .0)
-
       -- the ranges and the wanted things together never become more: by one answer ..
       pub ranged-room : (l l′ : List Range) (a : Answer E) → Normal l → Ranged key rangeOf known things lets l a l′
           → length l′ + length (wanted key lets (known l′) things) ≤ length l + length (wanted key lets (known l) things)

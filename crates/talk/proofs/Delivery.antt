@@ -1,8 +1,7 @@
 -- Where each answer's page is taken from what is wanted and exactly the page's keys are added to what is known, exactly the rest is
 -- wanted next (`wanted-plus`). So a series of such answers over things with no key twice delivers (`judged-converges`). There is one
 -- for any list of choices of page sizes (`judged-exists`), which sends all if it is long enough (`judged-ends`). The test of keys has to
--- find each the same as itself, and not to care for the order. A reader needs the statements of these, of `page-takes` and of
--- `greatest-takes` only.
+-- find each the same as itself, and not to care for the order. A reader needs the statements of these and of `page-takes` only.
 -- Assumes nothing.
 use mathlib.Core.Path.{_≡_, refl, sym, _∙_, ap, fun-ext}
 use mathlib.Core.Bool.{Bool, true, false, not}
@@ -16,11 +15,9 @@ use Rattle.laws.specs.Pick.{pick}
 use Rattle.laws.specs.Once.{seen, once}
 use Rattle.laws.proofs.Cases.{by-bool, neither, both}
 use Rattle.talk.specs.Each.{Each}
-use Rattle.talk.specs.Page.{Greatest}
 use Rattle.talk.specs.Wanted.{keep, isWanted, wanted}
 use Rattle.talk.specs.Series.{Chain, Answer, isSome, joinedPages, Takes, withKeys, Judged, Delivers, PageSize}
 use Rattle.talk.proofs.Things.{each-so}
-use Rattle.talk.proofs.PageRule.{greatest-some}
 use Rattle.talk.proofs.Series.{chain-along, chain-exists, converges, all-sent}
 
 -- ---- those that are kept
@@ -203,11 +200,6 @@ page-takes w k h p = record { run = take-append-drop k w; moves = moves w k p; m
     mark [] (suc k) = le-ltb (suc k) 0 (omega arith)
     mark (x ∷ w) zero = lt-ltb 0 (suc (length w)) (omega arith)
     mark (x ∷ w) (suc k) = leb·suc-suc (suc k) (length w) ∙ mark w k
-
--- the greatest page does, if the page of 1 is ok
-pub greatest-takes : {E : Type 0} (ok : ℕ → Bool) (w : List E) (k : ℕ) → Greatest ok (length w) k → (0 < length w → ok 1 ≡ true)
-    → Takes w (record { page = take k w; marked = ltb k (length w) }) (drop k w)
-greatest-takes ok w k g h = page-takes w k (g .most) (λ p. greatest-some ok (length w) k g (h p) p)
 
 -- the same as an answer that anybody may judge
 pub page-judged : {E K : Type 0} (same : K → K → Bool) (Fits : K → Type 0) (key : E → K) (things : List E) (lets : E → Bool) (know : K → Bool) (k : ℕ)

@@ -1,38 +1,24 @@
 -- A series of answers, each of which takes from the front of what is still wanted, does what demand 3 says (`converges`): the state of
 -- the series is the list that is still wanted. And steps that can always be made can be made any number of times (`chain-exists`). A
--- reader needs the statements of trace-chain, marked-carries, converges, all-sent and chain-exists only.
+-- reader needs the statements of marked-carries, converges, all-sent and chain-exists only.
 -- Assumes nothing.
 use mathlib.Core.Path.{_≡_, refl, sym, _∙_, ap}
 use mathlib.Core.Bool.{Bool, true, false}
-use mathlib.Core.List.{List, [], _∷_, _++_, append-assoc, append-nil, map}
+use mathlib.Core.List.{List, [], _∷_, _++_, append-assoc, append-nil}
 use Prim.Native.Nat.{suc, _≤_, _<_, max}
 use native.Mathlib.Omega.{arith}
 use lib.ListN.{length, length-append}
 use Rattle.laws.specs.Pick.{pick}
 use Rattle.laws.proofs.Cases.{by-bool, impossible}
-use Rattle.talk.specs.Series.{Chain, done, next, Trace, over, idle, then, Answer, isSome, joinedPages, Takes, hasUnmarked, FirstUnmarked, Converges}
+use Rattle.talk.specs.Series.{Chain, done, next, Answer, isSome, joinedPages, Takes, hasUnmarked, FirstUnmarked, Converges}
 
 -- ---- steps
-
--- a chain seen through f, its answers through g
-pub chain-map : {N A M B : Type 0} {R : N → A → N → Type 0} {S : M → B → M → Type 0} (f : N → M) (g : A → B)
-    → ((k m : N) (a : A) → R k a m → S (f k) (g a) (f m)) → {k n : N} {given : List A} → Chain R k given n → Chain S (f k) (map g given) (f n)
-chain-map f g h done = done
-chain-map f g h (next {k = k} {m = m} {a = a} r c) = next (h k m a r) (chain-map f g h c)
 
 -- .. its answers as they are
 pub chain-along : {N A M : Type 0} {R : N → A → N → Type 0} {S : M → A → M → Type 0} (f : N → M)
     → ((k m : N) (a : A) → R k a m → S (f k) a (f m)) → {k n : N} {given : List A} → Chain R k given n → Chain S (f k) given (f n)
 chain-along f h done = done
 chain-along f h (next {k = k} {m = m} {a = a} r c) = next (h k m a r) (chain-along f h c)
-
--- seen through f, which the steps in between do not move, a trace is a chain
-pub trace-chain : {N A M B : Type 0} {R : N → A → N → Type 0} {Q : N → N → Type 0} {S : M → B → M → Type 0} (f : N → M) (g : A → B)
-    → ((k m : N) (a : A) → R k a m → S (f k) (g a) (f m)) → ((k m : N) → Q k m → f k ≡ f m) → {k n : N} {given : List A}
-    → Trace R Q k given n → Chain S (f k) (map g given) (f n)
-trace-chain f g h u over = done
-trace-chain f g h u (idle {k = k} {m = m} q t) = rw (u k m q) (trace-chain f g h u t)
-trace-chain f g h u (then {k = k} {m = m} {a = a} r t) = next (h k m a r) (trace-chain f g h u t)
 
 pub chain-split : {N A : Type 0} {R : N → A → N → Type 0} (given later : List A) {k n : N} → Chain R k (given ++ later) n
     → (m : N) × Chain R k given m × Chain R m later n
@@ -43,16 +29,6 @@ pub chain-append : {N A : Type 0} {R : N → A → N → Type 0} {given later : 
     → Chain R k (given ++ later) n
 chain-append done d = d
 chain-append (next r c) d = next r (chain-append c d)
-
--- what every step keeps, a chain keeps: beside it, each step may use it
-pub chain-keeps : {N A : Type 0} {R S : N → A → N → Type 0} (Good : N → Type 0)
-    → ((k m : N) (a : A) → Good k → R k a m → S k a m × Good m) → {k n : N} {given : List A} → Good k → Chain R k given n
-    → Chain S k given n × Good n
-chain-keeps Good h g done = (done, g)
-chain-keeps Good h g (next {k = k} {m = m} {a = a} r c) =
-    let s = h k m a g r in
-    let t = chain-keeps Good h (s .1) c in
-    (next (s .0) (t .0), t .1)
 
 -- It is not about nothing: where under every choice a step can be made from every good state to a good state, there is for every list
 -- of choices a chain with a step for each of them.
