@@ -75,13 +75,6 @@ length-behind k c n h =
     let l : 128 ≤ n = omega arith in
     rw (start-long k c n (long-length k n l), long-behind k c n h) (simp (length-append, length-bytes))
 
-pub length-start-pos : (k : ℕ) (c : Bool) (n : ℕ) → 0 < length (startBytes k c n)
-length-start-pos k c n =
-    by-start k n
-    (λ s h l e. rw (length-short k c n s) (omega arith))
-    (λ s h e. rw (length-own k c n s h) (omega arith))
-    (λ s h e. rw (length-behind k c n h) (omega arith))
-
 -- ---- ends
 
 pub end-short : (k : ℕ) → k < 64 → endBytes k ≡ bytes 1 (1 + k * 4)
@@ -97,6 +90,3 @@ length-end-short k h = rw (end-short k h) (length-bytes 1 (1 + k * 4))
 
 pub length-end-long : (k : ℕ) → 64 ≤ k → length (endBytes k) ≡ 2
 length-end-long k h = rw (end-long k h) (length-bytes 2 (3 + k * 4))
-
-pub length-end-pos : (k : ℕ) → 0 < length (endBytes k)
-length-end-pos k = by-lt k 64 (λ h. rw (length-end-short k h) (omega arith)) (λ h. rw (length-end-long k h) (omega arith))

@@ -194,12 +194,6 @@ unfolding headerAt
 end-bounds s at k u b e =
     by-end-read at (drop at s) k u (drop-bytes at s b) e (λ r. omega (arith, r .type)) (λ r. omega (arith, r .type))
 
-pub length-bounds : (s : List ℕ) (at m n u : ℕ) → AllBytes s → m < 2 ^ 64 → lengthAt s at m ≡ Is n u → n < 2 ^ 64
-length-bounds s at m n u b h e =
-    by-eq m escape
-    (λ x. let r = behind-read s at n u (rw x at e) in written-read (drop at s) n (r .size) (drop-bytes at s b) (r .item) .1)
-    (λ x. let r = own-read s at m n u x e in omega arith)
-
 -- ---- the single item that is read: a header, and behind that its true length
 
 record WholeStart (s : List ℕ) (h : Header) (k : ℕ) (c : Bool) (n u : ℕ) : Type 0 where
@@ -234,17 +228,6 @@ with-length-end s (Refused r) k u e = impossible (cc)
 whole-end : (s : List ℕ) (k u : ℕ) → wholeHeader s ≡ End k u → headerOf 0 s ≡ End k u
 unfolding wholeHeader
 whole-end s k u e = with-length-end s (headerOf 0 s) k u e
-
-pub header-bounds : (s : List ℕ) (k : ℕ) (c : Bool) (n u : ℕ) → AllBytes s → wholeHeader s ≡ Start k c n u → (k ≤ 0x3FFF) × (n < 2 ^ 64)
-unfolding headerAt
-header-bounds s k c n u b e =
-    let w = whole-start s k c n u e in
-    let x = start-bounds s 0 k c (w .field) (w .used) b (w .header) in
-    (x .0, length-bounds s (w .used) (w .field) n u b (omega arith) (w .true-length))
-
-pub end-header-bounds : (s : List ℕ) (k u : ℕ) → AllBytes s → wholeHeader s ≡ End k u → k ≤ 0x3FFF
-unfolding headerAt
-end-header-bounds s k u b e = end-bounds s 0 k u b (whole-end s k u e)
 
 -- ---- what is read in its shortest form is what is written for it
 

@@ -7,7 +7,7 @@ use mathlib.Core.List.{List, _++_}
 use Prim.Native.Nat.{ℕ, _+_, _^_, _<_, _≤_}
 use native.Mathlib.Nat.{zero-add}
 use lib.ListN.{length, drop}
-use borrow.Author.Tests.{eq-eqb, ne-eqb}
+use borrow.Author.Tests.{eq-eqb}
 use Rattle.laws.proofs.Agreement.{same-whole}
 use Rattle.objects.specs.Header.{startBytes, endBytes}
 use Rattle.objects.specs.Nesting.{runAt}
@@ -48,11 +48,6 @@ pub next-start : (s : List ℕ) (at u k : ℕ) (c : Bool) (n : ℕ) (t : List �
     → nextIs s k (At at u) ≡ true
 unfolding nextIs
 next-start s at u k c n t hk hn h = let w = start-written s at k n c t hk hn h in rw (w .header, eq-eqb k k refl)
-
-pub next-other : (s : List ℕ) (at u kind k : ℕ) (c : Bool) (n : ℕ) (t : List ℕ) → k ≤ 0x3FFF → n < 2 ^ 64 → (k ≡ kind → ⊥) → drop at s ≡ startBytes k c n ++ t
-    → nextIs s kind (At at u) ≡ false
-unfolding nextIs
-next-other s at u kind k c n t hk hn d h = let w = start-written s at k n c t hk hn h in rw (w .header, ne-eqb k kind d)
 
 pub next-end : (s : List ℕ) (at u kind k : ℕ) (t : List ℕ) → k ≤ 0x3FFF → drop at s ≡ endBytes k ++ t → nextIs s kind (At at u) ≡ false
 unfolding nextIs

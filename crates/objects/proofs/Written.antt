@@ -2,7 +2,6 @@
 -- stands at `at`.
 -- Assumes nothing.
 use mathlib.Core.Path.{_≡_, refl, sym, ap, _∙_}
-use mathlib.Core.Bool.{true}
 use mathlib.Core.List.{List, [], _++_, append-assoc, append-nil}
 use Prim.Native.Nat.{ℕ, _+_, _-_, _^_, _<_, _≤_}
 use native.Mathlib.Omega.{arith}
@@ -23,7 +22,7 @@ use Rattle.numbers.proofs.RoundTrip.{read-written}
 use Rattle.numbers.proofs.Guids.{length-guid, guid-read-written}
 use Rattle.numbers.proofs.ExtendedGuids.{extended-guid-read-written}
 use Rattle.numbers.proofs.Serials.{serial-read-written}
-use Rattle.objects.specs.Steps.{fixedIn, number, numberIs, nullId, skip, guidHere, idHere, serialHere, valued, need, finish, runHere, closedAt, inRun}
+use Rattle.objects.specs.Steps.{fixedIn, number, numberIs, skip, guidHere, idHere, serialHere, valued, finish, runHere, closedAt, inRun}
 use Rattle.objects.specs.declared.reading.Reading.{Reading}
 use Rattle.objects.specs.declared.reading.Reading.the-variants.{At}
 use Rattle.objects.specs.declared.reading.ReadingGuid.the-variants as guid′
@@ -60,11 +59,6 @@ pub reads-valued : {p : List ℕ → Reading → Reading} (v : ℕ) {u y : ℕ} 
 unfolding valued
 reads-valued v f = record { here = λ s at t h. rw (f .here s at t h) }
 
--- a test that holds
-pub reads-need : (k p : ℕ) {u v : ℕ} {q : List ℕ → Reading → Reading} {w : List ℕ} → Reads q u w v → Reads (λ s c. need true k p (q s c)) u w v
-unfolding need
-reads-need k p f = record { here = λ s at t h. rw (f .here s at t h) }
-
 -- ---- fields
 
 pub reads-fixed : (u n least most k x : ℕ) → x < 256 ^ n → least ≤ x → x ≤ most → Reads (λ s c. fixedIn s n least most k c) u (bytes n x) x
@@ -85,10 +79,6 @@ reads-number u v b = record { here = λ s at t h. rw (h, read-written v b t) }
 pub reads-number-is : (u x k : ℕ) → x < 2 ^ 64 → Reads (λ s c. numberIs s x k c) u (compactBytes x) x
 unfolding numberIs
 reads-number-is u x k b = record { here = λ s at t h. rw (h, read-written x b t, eq-eqb x x refl) }
-
-pub reads-null-id : (u k : ℕ) → Reads (λ s c. nullId s k c) u (extendedGuidBytes id.Null) 0
-unfolding nullId
-reads-null-id u k = record { here = λ s at t h. rw (h, extended-guid-read-written id.Null tt t) }
 
 pub reads-skip : (u : ℕ) (w : List ℕ) → Reads (λ s c. skip s (length w) c) u w 0
 unfolding skip
