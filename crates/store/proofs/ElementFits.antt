@@ -1,7 +1,7 @@
 -- The elements of a package that was read from bytes: each lies within the input, and its id and its serial number can be written;
 -- so the number of its id is one of 32 bits.
 -- Assumes nothing.
-use mathlib.Core.Path.{_≡_, refl, subst}
+use mathlib.Core.Path.{_≡_, refl}
 use mathlib.Core.Bool.{Bool, true, false}
 use mathlib.Core.List.{List, [], _∷_, _++_}
 use Prim.Native.Nat.{ℕ, _+_, _^_, _≤_, _<_}
@@ -20,7 +20,7 @@ use Rattle.numbers.specs.declared.serial.ReadSerial.{ReadSerial}
 use Rattle.numbers.specs.declared.serial.ReadSerial.the-variants as serial
 use Rattle.numbers.proofs.ExtendedGuids.{extended-guid-written-read}
 use Rattle.numbers.proofs.Serials.{serial-written-read}
-use Rattle.objects.specs.Steps.{nothingOpen, placeOf, idOn, idHere, serialOn, serialHere, runHere, Good}
+use Rattle.objects.specs.Steps.{nothingOpen, placeOf, idOn, idHere, serialOn, serialHere, runHere}
 use Rattle.objects.specs.declared.reading.Reading.{Reading}
 use Rattle.objects.specs.declared.reading.Reading.the-variants as reading
 use Rattle.objects.proofs.Keep.{good-front, good-place}
@@ -28,7 +28,7 @@ use Rattle.talk.specs.Each.{Each}
 use Rattle.talk.proofs.Things.{each-so}
 use Rattle.store.specs.Chain.{Chain}
 use Rattle.store.specs.Element.{sameKey, idsIn, serialsIn, namedKey, numberedKey, freshKey, keyHere, onKey, idField, serialField, fieldsOf, opened}
-use Rattle.store.specs.Store.{packageStart, packageWalk, storeWalk}
+use Rattle.store.specs.Store.{packageStart, storeWalk}
 use Rattle.store.specs.Written.{guidOf}
 use Rattle.store.specs.declared.element.Key.{Key}
 use Rattle.store.specs.declared.element.Element.{Element}
@@ -37,7 +37,7 @@ use Rattle.store.specs.declared.element.ReadingKey.the-variants.{At, Ref
 use Rattle.store.proofs.Fields.{element-parts, element-within}
 use Rattle.store.proofs.KnowledgeFits.{run-bytes}
 use Rattle.store.proofs.Walks.{good-package}
-use Rattle.store.proofs.Chains.{PackageRead, StoreRead}
+use Rattle.store.proofs.Chains.{StoreRead}
 
 -- ---- the keys
 
@@ -109,11 +109,6 @@ chain-fits s done (x ∷ xs) at e b h c =
 
 each-fits : (s : List ℕ) (xs : List Element) → Each (Fits s) xs → Each (ElementFits s) xs
 each-fits s xs f = each-so (Fits s) (ElementFits s) xs (λ x h. (h .0, h .1 .0 .1)) f
-
-pub package-fits : (outer : ℕ) (s : List ℕ) (c : Reading) → AllBytes s → Good s c → PackageRead outer s c → Each (ElementFits s) (packageWalk outer s c .elements)
-package-fits outer s c b g r =
-    each-fits s (packageWalk outer s c .elements)
-    (chain-fits s [] (packageWalk outer s c .elements) (r .first) (r .end) b (subst (Good s) (r .start) (good-package outer s c g)) (r .chain))
 
 -- a store's elements begin within it
 pub store-front : (s : List ℕ) (r : StoreRead s) → r .first ≤ length s
