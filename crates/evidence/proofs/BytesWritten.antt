@@ -1,14 +1,13 @@
--- What is written are bytes: a request, if what is handed in are bytes, and an answer, if the store's are. A reader can skip all but the
--- statements with `pub`.
+-- What is written are bytes: a request, if what is handed in are bytes. A reader can skip all but the statements with `pub`.
 -- Assumes nothing.
 use mathlib.Core.Bool.{Bool, true, false}
 use mathlib.Core.List.{List, [], _∷_, _++_}
 use Prim.Native.Nat.{ℕ, zero, suc, _^_, _<_}
-use lib.ListN.{length, drop}
+use lib.ListN.{length}
 use lib.Dec.{ltb, eqb, lit<}
 use Rattle.laws.specs.Bytes.{AllBytes, bytes}
 use Rattle.laws.proofs.Cases.{pick-all}
-use Rattle.laws.proofs.Numbers.{take-bytes, drop-bytes, bytes-bytes}
+use Rattle.laws.proofs.Numbers.{bytes-bytes}
 use Rattle.numbers.specs.Compact.{sizeOf, formOf, marked, compactBytes}
 use Rattle.numbers.specs.Guid.{guidBytes, taggedBytes}
 use Rattle.numbers.specs.ExtendedGuid.{shortBytes, namedBytes, extendedGuidBytes}
@@ -17,13 +16,10 @@ use Rattle.numbers.specs.declared.extended_guid.ExtendedGuid.{ExtendedGuid}
 use Rattle.numbers.specs.declared.extended_guid.ExtendedGuid.the-variants.{Null, Named}
 use Rattle.objects.specs.Header.{startNumber, escape, longStart, startBytes, endBytes}
 use Rattle.talk.specs.declared.range.Range.{Range}
-use Rattle.store.specs.Written.{packageFront}
 use Rattle.store.specs.Knowledge.{cellGuid}
 use Rattle.store.specs.KnowledgeWritten.{guidOf, rangeData, rangeBytes, rangesBytes, cellFront, cellBack, knowledgeBytes}
-use Rattle.store.specs.declared.element.Element.{Element}
 use Rattle.request.specs.Message.{requestSignature}
-use Rattle.pages.specs.Answer.{Ask, pageBytes}
-use Rattle.pages.specs.Written.{versionBytes, answerSignature, responseBytes, storedBytes, elementsBytes, packageOf, subResponseData, subResponseBytes, partialByte, changesData, changesBytes, endsBytes, answerBytes}
+use Rattle.pages.specs.Written.{versionBytes}
 use Rattle.client.specs.AskWritten.{userAgentBytes, subRequestData, subRequestBytes, queryBytes, argumentData, argumentBytes, constraintBytes, askFront, askEnds, askBytes}
 
 -- ---- runs of bytes
@@ -184,57 +180,3 @@ unfolding askBytes
 ask-bytes id limit f k a b =
     append-bytes (askFront id) _ (front-bytes id)
     (append-bytes (constraintBytes limit) _ (constraint-bytes limit) (append-bytes f (k ++ askEnds) a (append-bytes k askEnds b ask-ends-bytes)))
-
--- ---- an answer
-
-elements-bytes : (s : List ℕ) (page : List Element) → AllBytes s → AllBytes (elementsBytes s page)
-unfolding elementsBytes storedBytes
-elements-bytes s [] b = no-bytes
-elements-bytes s (x ∷ xs) b =
-    append-bytes (storedBytes s x) (elementsBytes s xs) (take-bytes (x .length) (drop (x .place) s) (drop-bytes (x .place) s b)) (elements-bytes s xs b)
-
-response-bytes : AllBytes responseBytes
-unfolding responseBytes
-response-bytes = headed-bytes 0x62 true 1 (0 ∷ []) (one-byte 0 (lit< tt))
-
-package-bytes : (s : List ℕ) (page : List Element) → AllBytes s → AllBytes (packageOf s page)
-unfolding packageOf packageFront
-package-bytes s page b =
-    append-bytes packageFront _ (headed-bytes 0x15 true 1 (0 ∷ []) (one-byte 0 (lit< tt)))
-    (append-bytes (elementsBytes s page) (endBytes 0x15) (elements-bytes s page b) (end-bytes 0x15))
-
-sub-response-bytes : (id : ℕ) → AllBytes (subResponseBytes id)
-unfolding subResponseBytes subResponseData
-sub-response-bytes id =
-    headed-bytes 0x41 true _ _
-    (append-bytes (compactBytes id) (compactBytes 2 ++ (0 ∷ [])) (compact-bytes id)
-    (append-bytes (compactBytes 2) (0 ∷ []) (compact-bytes 2) (one-byte 0 (lit< tt))))
-
-partial-small : (partial : Bool) → partialByte partial < 256
-unfolding partialByte
-partial-small true = lit< tt
-partial-small false = lit< tt
-
-changes-bytes : (index : ExtendedGuid) (partial : Bool) → AllBytes (changesBytes index partial)
-unfolding changesBytes changesData
-changes-bytes index partial =
-    headed-bytes 0x5F false _ _
-    (append-bytes (extendedGuidBytes index) (partialByte partial ∷ []) (extended-bytes index) (one-byte (partialByte partial) (partial-small partial)))
-
-ends-bytes : AllBytes endsBytes
-unfolding endsBytes
-ends-bytes = append-bytes (endBytes 0x41) (endBytes 0x62) (end-bytes 0x41) (end-bytes 0x62)
-
-pub answer-bytes : (s : List ℕ) (id : ℕ) (index : ExtendedGuid) (page : List Element) (partial : Bool) (l : List Range) → AllBytes s
-    → AllBytes (answerBytes s id index page partial l)
-unfolding answerBytes
-answer-bytes s id index page partial l b =
-    append-bytes (versionBytes answerSignature) _ (version-bytes answerSignature)
-    (append-bytes responseBytes _ response-bytes
-    (append-bytes (packageOf s page) _ (package-bytes s page b)
-    (append-bytes (subResponseBytes id) _ (sub-response-bytes id)
-    (append-bytes (changesBytes index partial) _ (changes-bytes index partial) (append-bytes (knowledgeBytes l) endsBytes (knowledge-bytes l) ends-bytes)))))
-
-pub page-bytes : (a : Ask) (j : ℕ) → AllBytes (a .store) → AllBytes (pageBytes a j)
-unfolding pageBytes
-page-bytes a j b = answer-bytes (a .store) (a .id) _ _ _ _ b

@@ -60,9 +60,6 @@ given-room k = knowledge-so Room k (omega arith) (knowledge-room 12 0x42 k [] (A
 pub said-by : (k : List ℕ) → saidBy k ≤ 256 → length (knowledgeOf k .ranges) ≤ 256
 said-by k h = let r = given-room k in omega arith
 
-pub given-most : (k : List ℕ) → length (knowledgeOf k .ranges) ≤ mostSaid
-given-most k = let r = given-room k in omega arith
-
 pub given-normal : (k : List ℕ) → Normal (knowledgeOf k .ranges)
 unfolding Normal
 given-normal k =
