@@ -6,7 +6,7 @@ use mathlib.Core.Bool.{Bool, true, false}
 use Prim.Native.Nat.{ℕ, zero, suc, _≤_, _<_}
 use native.Mathlib.Omega.{arith}
 use lib.Dec.{leb, ltb, eqb}
-use borrow.Author.Tests.{lt-ltb, le-ltb, ne-eqb, eqb-true, eqb-false, leb-true, lt-leb}
+use borrow.Author.Tests.{lt-ltb, le-ltb, ne-eqb, eqb-true, eqb-false, leb-true}
 use Rattle.laws.specs.Pick.{pick}
 use Rattle.laws.proofs.Cases.{by-bool, impossible}
 use Rattle.talk.specs.Page.{Greatest, Every, pageCount}
@@ -33,13 +33,6 @@ sendable-ranges most limit room j stored ranges whole h = leb-true ranges most (
 
 pub sendable-room : (most limit room j stored ranges whole : ℕ) → isSendable most limit room j stored ranges whole ≡ true → whole ≤ room
 sendable-room most limit room j stored ranges whole h = leb-true whole room (sendable-both most limit room j stored ranges whole h .1)
-
--- and a page of more has its stored lengths within the limit
-pub sendable-limit : (most limit room j stored ranges whole : ℕ) → isSendable most limit room j stored ranges whole ≡ true → 1 < j → stored ≤ limit
-unfolding isSendable
-sendable-limit most limit room j stored ranges whole h l =
-    let f = sendable-both most limit room j stored ranges whole h in
-    leb-true stored limit (rw (f .0, f .1, lt-leb j 1 l) at h)
 
 -- a page of 1 has no other test
 first-sendable : (most limit room stored ranges whole : ℕ)
