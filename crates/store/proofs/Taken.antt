@@ -16,6 +16,7 @@ use Rattle.objects.specs.declared.nesting.Passed.the-variants as passed
 use Rattle.objects.specs.declared.reading.Reading.{Reading}
 use Rattle.objects.specs.declared.reading.Reading.the-variants as reading
 use Rattle.objects.proofs.Ahead.{run-next}
+use Rattle.objects.proofs.Keep.{behind-place}
 use Rattle.store.specs.Element.{sameKey, namedKey, numberedKey, freshKey, keyHere, onKey, judged, idField, serialField, fieldsOf, opened, dataOf, elementAt}
 use Rattle.store.specs.Store.{Stands}
 use Rattle.store.specs.declared.element.Key.{Key}
@@ -23,7 +24,7 @@ use Rattle.store.specs.declared.element.Element.{Element}
 use Rattle.store.specs.declared.element.ReadingKey.{ReadingKey}
 use Rattle.store.specs.declared.element.ReadingKey.the-variants.{At, Refused}
 use Rattle.store.specs.declared.element.ReadElement.the-variants as element
-use Rattle.store.proofs.Fields.{data-at-least, element-parts}
+use Rattle.store.proofs.Fields.{onward-data, element-parts}
 
 -- no fault stands
 abbrev pub StandsKey : ReadingKey → Type 0
@@ -124,6 +125,6 @@ pub element-some : (depth : ℕ) (ids serials : List Key) (s : List ℕ) (at v :
 unfolding placeOf
 element-some depth ids serials s at v x h =
     let p = element-parts depth ids serials s (reading.At at v) x h in
-    let b = inside-past s at depth (p .end) (p .stop) (dataOf ids serials s (reading.At at v)) (data-at-least ids serials s (reading.At at v)) (p .reached) in
+    let b = inside-past s at depth (p .end) (p .stop) (dataOf ids serials s (reading.At at v)) (onward-data ids serials s (reading.At at v) .behind at (behind-place (reading.At at v))) (p .reached) in
     let n = p .length′ in
     (p .place, omega arith, omega arith)
