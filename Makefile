@@ -42,19 +42,19 @@ uninstall:
 	@rm -f '$(DESTDIR)$(INCLUDEDIR)/hub.h' '$(DESTDIR)$(LIBDIR)/libhub.a' '$(DESTDIR)$(LIBDIR)/pkgconfig/hub.pc'
 
 # A talk of a bench with a hub on the sample, in several answers; run again it goes on where the book stands.
-run: target/bench
+run: target/player
 	@mkdir -p target/run
-	@sh tools/run target/bench --limit 400 --answer-bytes 200 bench/sample/book.store target/run/book
+	@sh tools/run target/player --limit 400 --answer-bytes 200 player/sample/book.store target/run/book
 
-# Looks into a fault from the field: CASE is a file of cases, as bench/sample/sample.cases is one. Every call in it is made by
+# Looks into a fault from the field: CASE is a file of cases, as player/sample/sample.cases is one. Every call in it is made by
 # library and peer, and a difference is a failure. If cases in it lend tables, these are compared through target/bin/cases, which
 # rt check cases makes.
 replay: $(archive_file)
-	@test -n '$(CASE)' || { echo 'make replay CASE=FILE: a file of cases, such as bench/sample/sample.cases'; exit 2; }
+	@test -n '$(CASE)' || { echo 'make replay CASE=FILE: a file of cases, such as player/sample/sample.cases'; exit 2; }
 	@sh peer/replay.sh '$(CASE)'
 
-target/bench: $(wildcard bench/*.c bench/*.h) include/hub.h tools/cc $(archive_file)
-	@sh tools/cc $@ bench/*.c $(archive_file)
+target/player: $(wildcard player/*.c player/*.h) include/hub.h tools/cc $(archive_file)
+	@sh tools/cc $@ player/*.c $(archive_file)
 
 # Library against peer and memcpy, as ratios.
 speed: $(archive_file)

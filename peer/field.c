@@ -1,8 +1,8 @@
-/* Cases from the field (field.h). They are read by the reader that the program in bench/ has, so that a file means the same to
+/* Cases from the field (field.h). They are read by the reader that the program in player/ has, so that a file means the same to
    both. */
 #include "field.h"
-#include "../bench/replay.h"
-#include "../bench/status.h"
+#include "../player/replay.h"
+#include "../player/status.h"
 #include "stored_case.h"
 
 struct course {
@@ -83,7 +83,7 @@ int field_cases(const char *name, const char *lent) {
         printf("cases by library and peer: %zu, with a difference: %zu\n", course.cases, course.differences);
     }
     if ((!lent_told(&course, lent) || fflush(stdout) != 0 || ferror(stdout)) && status == ENDED_WELL) {
-        fprintf(stderr, "bench: the output cannot be written\n");
+        fprintf(stderr, "player: the output cannot be written\n");
         status = CANNOT_WRITE;
     }
     return course.differences > 0 ? 1 : status;

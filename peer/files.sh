@@ -3,9 +3,9 @@
 peer_core='peer/numbers.c peer/objects.c peer/store.c peer/ranges.c peer/knowledge.c peer/filters.c peer/request.c peer/page.c
     peer/rows.c peer/answer.c peer/ask.c peer/answer_read.c'
 peer_makers='peer/text.c peer/make_items.c peer/make.c peer/make_messages.c'
-# The reader of stored cases and the library's account of them are those of the program in bench/.
-peer_reader='peer/stored_case.c bench/stored.c bench/bytes.c bench/files.c bench/options.c'
-peer_stored="$peer_reader bench/replay.c bench/guarded.c bench/report.c"
+# The reader of stored cases and the library's account of them are those of the program in player/.
+peer_reader='peer/stored_case.c player/stored.c player/bytes.c player/files.c player/options.c'
+peer_stored="$peer_reader player/replay.c player/guarded.c player/report.c"
 peer_compare="$peer_makers peer/generate.c peer/lend.c peer/cases.c peer/large.c peer/field.c $peer_stored peer/compare.c"
 peer_series="$peer_makers peer/lend.c peer/cases.c peer/model.c peer/series.c"
 # What spells a line of the program `cases`, and has the answering call made with lent tables for it.

@@ -1,9 +1,9 @@
 #!/bin/sh
-# make replay CASE=FILE: the calls of a file of stored cases (bench --help tells the forms of a line), made again by the library and
-# by the peer. Of each it prints the library's account, and whether both agree in number, report and output. Cases that lend tables
-# are then compared with their tables too, through the program `cases` (peer/tables.sh); one that is too long for it is told. The
-# status is 0 if there is no difference, 1 if there is one or it cannot be run, 2 without the archive or a file and, for tables,
-# without the program, and else one of those that bench --help tells, as for a file that cannot be read.
+# make replay CASE=FILE: the calls of a file of stored cases (player --help tells the forms of a line), made again by the library
+# and by the peer. Of each it prints the library's account, and whether both agree in number, report and output. Cases that lend
+# tables are then compared with their tables too, through the program `cases` (peer/tables.sh); one that is too long for it is told.
+# The status is 0 if there is no difference, 1 if there is one or it cannot be run, 2 without the archive or a file and, for tables,
+# without the program, and else one of those that player --help tells, as for a file that cannot be read.
 set -u
 
 fail() {

@@ -18,7 +18,7 @@ room=$(mktemp -d) || fail 'there is no room for temporary files'
 trap 'rm -rf "$room"' EXIT
 trap 'exit 1' HUP INT TERM
 found=0
-ln -s "$PWD/bench" "$room/bench" || fail 'there is no room for a link' # from where the programs have the reader of stored cases
+ln -s "$PWD/player" "$room/player" || fail 'there is no room for a link' # from where the programs have the reader of stored cases
 
 # A copy of the peer with one line of a file spoiled, built into a program.
 build() { # PROGRAM FILE RIGHT WRONG
@@ -66,7 +66,7 @@ spoil_field() { # LINE WORDS FILE RIGHT WRONG
     line=$1 words=$2
     shift 2
     build compare "$@"
-    replay 1 bench/sample/sample.cases "$3"
+    replay 1 player/sample/sample.cases "$3"
     [ "$(grep -E ' differ( |$)' "$room/again" | tr '\n' ';')" = "$words differ;library and peer differ in line $line;" ] &&
         [ "$(grep -c '^library and peer agree' "$room/again")" = 4 ] &&
         [ "$(tail -n 1 "$room/again")" = 'cases by library and peer: 5, with a difference: 1' ] ||

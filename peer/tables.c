@@ -5,7 +5,7 @@
    words: --cases N, --seed N, --into FOLDER, --save FILE, --replay FILE. The cases are generated, and the seed is printed; with
    --replay they are those of a file of stored cases that lend tables. A peer that touches more than it may ends the run with
    status 1, and its case is saved, if it is a generated one. */
-#include "../bench/status.h"
+#include "../player/status.h"
 #include "generate.h"
 #include "lent_answer.h"
 #include "spell.h"

@@ -4,7 +4,7 @@
 # of each. The program `cases` makes the same calls with the library's sources, and what it prints is compared line by line. The
 # first generated case that differs is saved as SAVED; if none does the last line is '0 differences'. Of stored cases each that
 # differs is told, and the last line counts them; nothing is said if none of them lends tables. The status is 0, with a difference
-# 1, 2 if it cannot be run, and else one of those that bench --help tells, as for a file that cannot be read.
+# 1, 2 if it cannot be run, and else one of those that player --help tells, as for a file that cannot be read.
 set -u
 
 fail() {

@@ -1,4 +1,4 @@
-/* A hub that lies, for tests of the bench program: it takes the place of bench/exchange.c and bench/guarded.c, which it holds,
+/* A hub that lies, for tests of the player: it takes the place of player/exchange.c and player/guarded.c, which it holds,
    and hands the program's calls of hub_answer to one of its own. What it does is named by the variable LIE:
    - partial: an answer that is marked partial and has nothing in it, again and again, as the hub that this project began with;
    - id: an answer to another ask;
@@ -47,5 +47,5 @@ static uint64_t false_answer(const uint8_t *store, size_t store_len, const uint8
 }
 
 #define hub_answer false_answer
-#include "../bench/exchange.c"
-#include "../bench/guarded.c"
+#include "../player/exchange.c"
+#include "../player/guarded.c"

@@ -1,4 +1,4 @@
-/* Files of stored cases: a line for each call that is to be made again. bench --help tells the forms of a line. */
+/* Files of stored cases: a line for each call that is to be made again. player --help tells the forms of a line. */
 #ifndef STORED_H
 #define STORED_H
 

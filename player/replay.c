@@ -43,7 +43,7 @@ static int say_answer(const struct stored *c) {
            (unsigned long long)g.input, (unsigned long long)g.place, (unsigned long long)g.length, hub_refusal_text(g.number));
     if (g.broken != NULL) {
         fflush(stdout);
-        fprintf(stderr, "bench: line %zu: a promise is broken: %s\n", c->line, g.broken);
+        fprintf(stderr, "player: line %zu: a promise is broken: %s\n", c->line, g.broken);
         status = PROMISE_BROKEN;
     } else if (g.number == HUB_ANSWERED) {
         say_bytes("answer", g.answer.at, g.answer.length);

@@ -1,12 +1,12 @@
 #!/bin/sh
-# Tests of the bench program: whole talks, talks that are cut, books and knowledges that do not belong together, each step of a
-# save failed and cut, every exit status but 12, and what it prints of dumps, damaged requests and stored cases. The archive is
-# made if it is not there.
+# Tests of the player, the program that plays a bench and its hub: whole talks, talks that are cut, books and knowledges that do not
+# belong together, each step of a save failed and cut, every exit status but 12, and what it prints of dumps, damaged requests and
+# stored cases. The archive is made if it is not there.
 set -u
 cd "$(dirname "$0")/.." || exit 1
 
 fail() {
-    printf 'tests/bench.sh: FAILED: %s\n' "$*"
+    printf 'tests/player.sh: FAILED: %s\n' "$*"
     exit 1
 }
 
@@ -17,15 +17,15 @@ archive=target/staticlib/libhub.a
 if [ ! -s "$archive" ]; then
     rt staticlib hub >"$room/log" 2>&1 || { cat "$room/log"; fail 'rt staticlib hub fails'; }
 fi
-sh tools/cc "$room/bench" bench/*.c "$archive" || fail 'bench/ is not compiled and linked'
+sh tools/cc "$room/player" player/*.c "$archive" || fail 'player/ is not compiled and linked'
 talks=0 faults=0
 
 # ---- what is used in all of them
 
 # Runs the program, which is to end with this status and to say these words somewhere.
-program=$room/bench
+program=$room/player
 runner=tools/run
-bench() { # STATUS WORDS-TO-FIND WORDS..
+player() { # STATUS WORDS-TO-FIND WORDS..
     awaited=$1 find=$2
     shift 2
     sh "$runner" "$program" "$@" >"$room/out" 2>"$room/err"
@@ -33,7 +33,7 @@ bench() { # STATUS WORDS-TO-FIND WORDS..
     cat "$room/out" "$room/err" >"$room/both"
     if [ "$got" != "$awaited" ] || ! grep -Fq -e "$find" "$room/both"; then
         cat "$room/both"
-        fail "bench $*: status $got, not $awaited, or no '$find' in what it says"
+        fail "player $*: status $got, not $awaited, or no '$find' in what it says"
     fi
 }
 
@@ -41,7 +41,7 @@ bench() { # STATUS WORDS-TO-FIND WORDS..
 talk() { # ANSWERS NEW SAME STORE BOOK OPTIONS..
     answers=$1 new=$2 same=$3 store=$4 book=$5
     shift 5
-    bench 0 'done: ' "$@" "$store" "$book"
+    player 0 'done: ' "$@" "$store" "$book"
     last=$(tail -n 1 "$room/out")
     case $last in
     "done: answers $answers, "*", new $new; "*) ;;
@@ -55,10 +55,10 @@ talk() { # ANSWERS NEW SAME STORE BOOK OPTIONS..
 fault() { # STATUS MESSAGE FILES WORDS..
     status=$1 message=$2 files=$3
     shift 3
-    bench "$status" "$message" "$@"
-    [ -s "$room/err" ] || fail "bench $*: no message on the error output"
+    player "$status" "$message" "$@"
+    [ -s "$room/err" ] || fail "player $*: no message on the error output"
     left=$(cd "$room/f" && printf '%s ' *)
-    [ "$left" = "$files" ] || fail "bench $*: the folder has '$left', not '$files'"
+    [ "$left" = "$files" ] || fail "player $*: the folder has '$left', not '$files'"
     faults=$((faults + 1))
 }
 
@@ -91,7 +91,7 @@ changed() { # FILE PLACE OCTAL
 fresh() { rm -rf "$room/f" && mkdir "$room/f"; }
 forget() { rm -f "$room/f/book" "$room/f/book.knowledge"; }
 book=$room/f/book
-sample=bench/sample
+sample=player/sample
 fresh
 
 # ---- the sample is what it is said to be
@@ -117,7 +117,7 @@ for store in "$room/none" "$room/three" "$room/more" $sample/manifests.store $sa
         '--answer-bytes 16842752 --ask-bytes 16842752' '--limit 300 --answer-bytes 350 --ask-bytes 60 --quiet'; do
         fresh
         # shellcheck disable=SC2086
-        bench 0 'wanted left 0' $options "$store" "$book"
+        player 0 'wanted left 0' $options "$store" "$book"
         cmp "$store" "$book" || fail "a talk about $store with '$options' leaves another book"
         talks=$((talks + 1))
     done
@@ -155,7 +155,7 @@ modes() { # UMASK MODE NEW OPTIONS..
     mask=$1 mode=$2 new=$3 before=$(umask)
     shift 3
     umask "$mask"
-    bench 0 "new $new;" "$@" $sample/book.store "$book"
+    player 0 "new $new;" "$@" $sample/book.store "$book"
     umask "$before"
     for file in "$book" "$book.knowledge"; do
         got=$(ls -l "$file" | cut -c 1-10)
@@ -171,7 +171,7 @@ modes 027 -rw-r----- 6
 
 # ---- a talk that is stopped goes on where the book stands
 fresh
-bench 0 'stopped: answers 4, refused for room 0, elements 4' --limit 0 --stop-after 4 $sample/book.store "$book"
+player 0 'stopped: answers 4, refused for room 0, elements 4' --limit 0 --stop-after 4 $sample/book.store "$book"
 cp "$book" "$room/early"
 cp "$book.knowledge" "$room/early.knowledge"
 talk 7 7 $sample/book.store $sample/book.store "$book" --limit 0
@@ -210,9 +210,9 @@ talk 7 7 "$whole" "$whole" "$book" --limit 0
 for place in 90 24 8; do # inside the object data; in the serial number's GUID; in the id
     changed "$whole" "$place" 252 >"$room/changed"
     put "$room/changed" "$room/late.knowledge"
-    bench 0 'new 1; book: elements 11, bytes 1756,' "$whole" "$book"
+    player 0 'new 1; book: elements 11, bytes 1756,' "$whole" "$book"
     for file in "$whole" "$book"; do
-        bench 0 'takes it as a store' --dump "$file"
+        player 0 'takes it as a store' --dump "$file"
         sed -e 1d -e 's/^..........//' "$room/out" | sort >"$room/sorted.$(basename "$file")"
     done
     cmp "$room/sorted.book.store" "$room/sorted.book" || fail "a byte changed at $place is not put right"
@@ -222,20 +222,20 @@ done
 # ---- filters: what they put out does not come, and comes without them
 printf '3e 02 04 00 02 00 ba 02 02 00 0b 1f 01\n' >"$room/not5"
 fresh
-bench 0 'done: answers 4, refused for room 0, elements 4 of 650 bytes, new 4; book: elements 4,' --limit 0 \
+player 0 'done: answers 4, refused for room 0, elements 4 of 650 bytes, new 4; book: elements 4,' --limit 0 \
     --filters "$room/not5" "$whole" "$book"
-bench 0 'new 7; book: elements 11, bytes 1756,' "$whole" "$book"
+player 0 'new 7; book: elements 11, bytes 1756,' "$whole" "$book"
 printf '3e0204000100\n1f01' >"$room/out-all"
 fresh
-bench 0 'done: answers 1, refused for room 0, elements 0 of 0 bytes, new 0; book: elements 0, bytes 4, ranges 0; wanted' \
+player 0 'done: answers 1, refused for room 0, elements 0 of 0 bytes, new 0; book: elements 0, bytes 4, ranges 0; wanted' \
     --filters "$room/out-all" "$room/three" "$book"
 talks=$((talks + 3))
 
 # ---- two stores in one book
 fresh
 talk 1 3 "$room/three" "$room/three" "$book"
-bench 0 'new 11; book: elements 14, bytes 1894,' "$whole" "$book"
-bench 0 'new 0; book: elements 14, bytes 1894,' "$room/three" "$book"
+player 0 'new 11; book: elements 14, bytes 1894,' "$whole" "$book"
+player 0 'new 0; book: elements 14, bytes 1894,' "$room/three" "$book"
 talks=$((talks + 2))
 
 # ---- faults: each has its status and its message, and leaves the folder as it was
@@ -252,7 +252,7 @@ fault 2 'only one of --hostile, --dump and --replay' '* ' --hostile 1 --dump "$w
 fault 2 '--times: it has no use with what else is asked for' '* ' --times 3 "$whole" "$book"
 fault 2 '--stop-after: it has no use with what else is asked for' '* ' --hostile 1 --stop-after 3 "$whole"
 fault 2 '--limit: it has no use with what else is asked for' '* ' --limit 3 --dump "$whole"
-bench 0 'Exit status:' --times 3 --dump "$whole" --help
+player 0 'Exit status:' --times 3 --dump "$whole" --help
 fault 3 "$room/absent: it cannot be opened: No such file" '* ' "$room/absent" "$book"
 fault 3 "$room/absent: it cannot be opened: No such file" '* ' --filters "$room/absent" "$whole" "$book"
 fault 3 "$room: it cannot be read: Is a directory" '* ' "$room" "$book"
@@ -356,7 +356,7 @@ mkdir "$book.knowledge"
 fault 3 "$book.knowledge: it cannot be read" 'book book.knowledge ' "$whole" "$book"
 
 # ---- saving, step by step: the order of the steps, and what is left if one fails or the power goes before it
-parts=$(printf '%s\n' bench/*.c | grep -v -e files.c)
+parts=$(printf '%s\n' player/*.c | grep -v -e files.c)
 # shellcheck disable=SC2086
 sh tools/cc "$room/failing" tests/failing_files.c $parts "$archive" || fail 'tests/failing_files.c is not compiled and linked'
 program=$room/failing
@@ -395,7 +395,7 @@ step_fails() { # STEP STATUS MESSAGE BOOK KNOWLEDGE NEW
     put "$room/early" "$room/early.knowledge"
     export FAIL_AT="$1"
     if [ "$2" = 0 ]; then
-        bench 0 "$3" "$whole" "$book"
+        player 0 "$3" "$whole" "$book"
     else
         fault "$2" "$3: Input/output error" 'book book.knowledge ' "$whole" "$book"
     fi
@@ -421,7 +421,7 @@ step_fails 16 0 'new 7; book: elements 11, bytes 1756,' "$whole" "$room/whole.kn
 for step in 1 2 3 4 5 6 7 8 9 10 11 12 13 14 15 16; do
     put "$room/early" "$room/early.knowledge"
     export CUT_AT=$step
-    bench 99 'the power goes' "$whole" "$book"
+    player 99 'the power goes' "$whole" "$book"
     unset CUT_AT
     if [ $step -le 13 ]; then
         are "a cut before step $step" "$room/early" "$room/early.knowledge"
@@ -437,7 +437,7 @@ for step in 1 2 3 4 5 6 7 8 9 10 11 12 13 14 15 16; do
     are "a cut before step $step and the next talk" "$whole" "$room/whole.knowledge"
     [ "$(cd "$room/f" && printf '%s ' *)" = 'book book.knowledge ' ] || fail "a cut before step $step leaves a file for good"
 done
-program=$room/bench
+program=$room/player
 
 # A book that is full stays as it is.
 elements 1 288 300 >"$room/one"
@@ -447,7 +447,7 @@ fault 11 'the book is full: it has 256 elements' 'book book.knowledge ' "$room/o
 cmp "$room/most" "$book" || fail 'a full book is changed'
 
 # ---- a hub that lies: the talk ends all the same, and what is broken is told
-parts=$(printf '%s\n' bench/*.c | grep -v -e exchange.c -e guarded.c)
+parts=$(printf '%s\n' player/*.c | grep -v -e exchange.c -e guarded.c)
 # shellcheck disable=SC2086
 sh tools/cc "$room/false" tests/false_hub.c $parts "$archive" || fail 'tests/false_hub.c is not compiled and linked'
 program=$room/false
@@ -469,16 +469,16 @@ lie room 7 'hub_answer refuses: 14' '* ' "$room/three" "$book"
 lie unread 7 'hub_read refuses: 7, input 0, place 0' '* ' "$room/three" "$book"
 lie touch 10 'a promise is broken: the output of a refusal was changed' '* ' --hostile 1 "$room/three"
 lie unread 10 'a promise is broken: an answer that hub_read does not take' '* ' --replay $sample/sample.cases
-program=$room/bench
+program=$room/player
 
 # ---- dumps, damaged requests and stored cases: what is printed, by stored text
 printed=0
 prints() { # TEXT STATUS WORDS..
-    text=tests/bench/$1 status=$2
+    text=tests/player/$1 status=$2
     shift 2
-    bench "$status" '' "$@"
+    player "$status" '' "$@"
     sed "s|$room|ROOM|g" "$room/both" >"$room/printed"
-    cmp "$room/printed" "$text" || { diff "$text" "$room/printed"; fail "bench $* prints other text than $text has"; }
+    cmp "$room/printed" "$text" || { diff "$text" "$room/printed"; fail "player $* prints other text than $text has"; }
     printed=$((printed + 1))
 }
 prints dump-request.txt 0 --dump $sample/first.request
@@ -488,9 +488,9 @@ prints dump-book.txt 0 --dump $sample/book.store
 cp "$room/late.knowledge" "$room/known"
 prints dump-knowledge.txt 0 --dump "$room/known"
 changed "$room/known" 30 033 >"$room/unsealed" # an escape, which a terminal would obey
-bench 0 'a line of 56 bytes that is no seal: not all of them are text' --dump "$room/unsealed"
+player 0 'a line of 56 bytes that is no seal: not all of them are text' --dump "$room/unsealed"
 changed "$room/three" 22 201 >"$room/serial" # the first serial number begins with another byte
-bench 5 'element (0x01, compound, 43 bytes): 0c1d' --dump "$room/serial"
+player 5 'element (0x01, compound, 43 bytes): 0c1d' --dump "$room/serial"
 changed "$sample/manifests.store" 415 011 >"$room/wrong-end" # the last element ends with another type
 prints dump-wrong-end.txt 5 --dump "$room/wrong-end"
 dd if="$sample/manifests.store" of="$room/cut" bs=1 count=200 2>/dev/null
@@ -505,13 +505,13 @@ prints talk.txt 0 --limit 400 --answer-bytes 200 --ask-bytes 60 $sample/book.sto
 prints again.txt 0 $sample/book.store "$book"
 
 # ---- the stored answers again, as cases: what replay prints of them is what tests/answers.out has
-bench 0 '' --replay tests/answers.in
+player 0 '' --replay tests/answers.in
 awk '/^hub_answer: 0,/ { next }
     /^answer: / { print "ok " $2 }
     /^hub_answer: / { gsub(/,/, ""); print "no " $2 " " $4 " " $6 " " $8 }' "$room/out" >"$room/answers"
 cmp "$room/answers" tests/answers.out || fail 'other results come from --replay tests/answers.in than tests/answers.out has'
 # And those of the bench's calls, as tests/benches.out has them.
-bench 0 '' --replay tests/benches.in
+player 0 '' --replay tests/benches.in
 awk '{ gsub(/[,:]/, "") }
     $1 ~ /^hub_/ && $2 != 0 { print "no " $2, ($1 == "hub_ask" ? $4 " " $6 " " $8 : "0 " ($1 == "hub_read" ? $4 " 0" : $4 " " $6)) }
     $1 == "request" || $1 == "element" { print "ok " $2 }
@@ -529,7 +529,7 @@ for lengths in 1536 '1536 x' '- 2048' '1536 18446744073709551616' '1536 2048 0';
         --replay "$room/cases"
 done
 printf 'answer 00 00 0 0 18446744073709551615\n' >"$room/cases"
-bench 0 'hub_answer: 2, input 0, place 0, length 0' --replay "$room/cases"
+player 0 'hub_answer: 2, input 0, place 0, length 0' --replay "$room/cases"
 printf 'read -\nreceived 00\n' >"$room/cases"
 fault 5 "$room/cases, line 2: it is no case of the form \`received ANSWERHEX POSITION\`" '* ' --replay "$room/cases"
 printf '# nothing\n#\000 answer 00 00 0\n' >"$room/cases"
@@ -539,9 +539,9 @@ fault 5 'there is no case in it' '* ' --replay "$room/cases"
 printf 'store=absent request=three out=10\n' >"$room/cases"
 fault 3 "$room/absent: it cannot be opened" '* ' --replay "$room/cases"
 printf 'store=three request=large out=10\n' >"$room/cases"
-bench 0 'hub_answer: 1, input 1, place 16777216, length 0' --replay "$room/cases"
+player 0 'hub_answer: 1, input 1, place 16777216, length 0' --replay "$room/cases"
 
-printf 'tests/bench.sh: %s talks, %s faults, %s steps of a save, %s texts and %s replayed calls as they should be\n' \
+printf 'tests/player.sh: %s talks, %s faults, %s steps of a save, %s texts and %s replayed calls as they should be\n' \
     "$talks" "$faults" "$(wc -l <"$room/order" | tr -d ' ')" "$printed" \
     "$(cat tests/answers.in tests/benches.in | wc -l | tr -d ' ')"
 # Talks, faults, the steps of a save, texts and replayed calls are a test each.

@@ -134,7 +134,7 @@ static void take_out(struct book *b, size_t position) {
 /* Puts an element behind the last. */
 static int put_in(struct book *b, const uint8_t *element, const struct element *e) {
     if (b->all.count == MOST_ELEMENTS || e->length > HUB_LONGEST_INPUT - b->package.length) {
-        fprintf(stderr, "bench: %s: the book is full: it has %zu elements in %zu bytes, and one of %zu bytes came\n", b->name,
+        fprintf(stderr, "player: %s: the book is full: it has %zu elements in %zu bytes, and one of %zu bytes came\n", b->name,
                 b->all.count, b->package.length, e->length);
         return BOOK_FULL;
     }
@@ -154,7 +154,7 @@ int book_take(struct book *b, const uint8_t *element, size_t length, int *is_new
     struct element e = {0, length, 0, 0};
     *is_new = 0;
     if (!find_names(element, &e)) {
-        fprintf(stderr, "bench: %s: an element came that has no id\n", b->name);
+        fprintf(stderr, "player: %s: an element came that has no id\n", b->name);
         return REFUSED;
     }
     for (size_t i = 0; i < b->all.count; i++) {
@@ -204,7 +204,7 @@ int book_save(struct book *b, const struct bytes *knowledge) {
     char line[SEAL_ROOM];
     struct bytes sealed = {NULL, 0, 0};
     if (!is_store(&b->package)) {
-        fprintf(stderr, "bench: %s: the new book would be no store; it is not written\n", b->name);
+        fprintf(stderr, "player: %s: the new book would be no store; it is not written\n", b->name);
         return REFUSED;
     }
     bytes_add(&sealed, line, seal(line, &b->package, knowledge));

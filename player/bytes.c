@@ -9,7 +9,7 @@
 void *memory(size_t n) {
     void *p = malloc(n == 0 ? 1 : n);
     if (p == NULL) {
-        fprintf(stderr, "bench: there is no memory for %zu bytes\n", n);
+        fprintf(stderr, "player: there is no memory for %zu bytes\n", n);
         exit(NO_MEMORY);
     }
     return p;

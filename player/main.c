@@ -1,5 +1,6 @@
-/* The bench: a program that holds a whole talk of a bench with a hub by the calls of include/hub.h, both sides in one process
-   with files for store and book. It shows how a daemon uses the calls, and what they do. Its exit statuses are in status.h. */
+/* The player: a program that plays a test bench and its hub. It holds a whole talk of the two by the calls of include/hub.h, both
+   sides in one process with files for store and book. It shows how a daemon uses the calls, and what they do. Its exit statuses
+   are in status.h. */
 #include "dump.h"
 #include "hostile.h"
 #include "options.h"
@@ -32,7 +33,7 @@ int main(int count, char **words) {
         status = run(&o);
     }
     if ((fflush(stdout) != 0 || ferror(stdout)) && status == ENDED_WELL) {
-        fprintf(stderr, "bench: the output cannot be written\n");
+        fprintf(stderr, "player: the output cannot be written\n");
         status = CANNOT_WRITE;
     }
     return status;

@@ -19,6 +19,6 @@ void say_hex(const uint8_t *at, size_t n) {
 }
 
 void say_refused(const char *file, const char *what, uint64_t number, const uint8_t *report) {
-    fprintf(stderr, "bench: %s: %s: refused %llu at place %llu (%s)\n", file, what, (unsigned long long)number,
+    fprintf(stderr, "player: %s: %s: refused %llu at place %llu (%s)\n", file, what, (unsigned long long)number,
             told(report, HUB_AT_PLACE), hub_refusal_text(number));
 }

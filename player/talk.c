@@ -30,7 +30,7 @@ int filters_read(const char *name, struct bytes *filters) {
     struct bytes text = {NULL, 0, 0};
     int status = name == NULL ? ENDED_WELL : file_read(name, HUB_LONGEST_INPUT, &text);
     if (status == ENDED_WELL && !bytes_spelled(filters, (const char *)text.at, text.length)) {
-        fprintf(stderr, "bench: %s: it spells no bytes in hex\n", name);
+        fprintf(stderr, "player: %s: it spells no bytes in hex\n", name);
         status = WRONG_CONTENT;
     }
     bytes_free(&text);
@@ -64,7 +64,7 @@ static int take_page(struct course *c, uint64_t *page_bytes, uint64_t *taken) {
     uint64_t number = list_elements(HUB_IN_ANSWER, answer->at, answer->length, &c->page, report);
     int status = ENDED_WELL;
     if (number != HUB_DONE || c->page.count != hub_report_number(c->x.report, HUB_AT_COUNT)) {
-        fprintf(stderr, "bench: the elements of answer %llu are not those that it tells of\n", (unsigned long long)c->answers);
+        fprintf(stderr, "player: the elements of answer %llu are not those that it tells of\n", (unsigned long long)c->answers);
         return REFUSED;
     }
     for (size_t i = 0; i < c->page.count && status == ENDED_WELL; i++) {
@@ -132,7 +132,7 @@ static int ask_until_done(struct course *c, uint64_t stop_after) {
     c->partial = 1;
     while (status == ENDED_WELL && c->partial && c->answers < stop_after) {
         if (c->answers > c->all.count) {
-            fprintf(stderr, "bench: %llu answers came about %zu elements, and the last is still marked partial\n",
+            fprintf(stderr, "player: %llu answers came about %zu elements, and the last is still marked partial\n",
                     (unsigned long long)c->answers, c->all.count);
             return BOUND_PASSED;
         }

@@ -103,7 +103,7 @@ static int one_damaged(struct attack *a, const struct options *o, uint64_t turn)
     }
     if (g.broken != NULL) {
         fflush(stdout);
-        fprintf(stderr, "bench: damaged request %llu: a promise is broken: %s; it was ", (unsigned long long)turn, g.broken);
+        fprintf(stderr, "player: damaged request %llu: a promise is broken: %s; it was ", (unsigned long long)turn, g.broken);
         for (size_t i = 0; i < r.length; i++) {
             fprintf(stderr, "%02x", r.at[i]);
         }

@@ -14,7 +14,7 @@
 #include <unistd.h>
 
 static int say_fault(const char *name, const char *what, int status) {
-    fprintf(stderr, "bench: %s: %s: %s\n", name, what, strerror(errno));
+    fprintf(stderr, "player: %s: %s: %s\n", name, what, strerror(errno));
     return status;
 }
 
@@ -38,7 +38,7 @@ static int read_open(FILE *f, const char *name, size_t most, struct bytes *into)
     if (failed) {
         status = say_fault(name, "it cannot be read", CANNOT_OPEN);
     } else if (into->length > most) {
-        fprintf(stderr, "bench: %s: it is too large: over %zu bytes\n", name, most);
+        fprintf(stderr, "player: %s: it is too large: over %zu bytes\n", name, most);
         status = TOO_LARGE;
     }
     fclose(f);

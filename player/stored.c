@@ -51,12 +51,12 @@ static void cut_words(char *text, struct line *l) {
 }
 
 static int bad_line(const struct line *l, const char *what) {
-    fprintf(stderr, "bench: %s, line %zu: %s\n", l->file, l->number, what);
+    fprintf(stderr, "player: %s, line %zu: %s\n", l->file, l->number, what);
     return WRONG_CONTENT;
 }
 
 static int other_form(const struct line *l, const char *form) {
-    fprintf(stderr, "bench: %s, line %zu: it is no case of the form `%s`\n", l->file, l->number, form);
+    fprintf(stderr, "player: %s, line %zu: it is no case of the form `%s`\n", l->file, l->number, form);
     return WRONG_CONTENT;
 }
 
@@ -121,7 +121,7 @@ static int named_case(const struct line *l, struct stored *c) {
     char *const *w = l->words;
     if (l->count != 3 || strncmp(w[0], "store=", 6) != 0 || strncmp(w[1], "request=", 8) != 0 || strncmp(w[2], "out=", 4) != 0 ||
         !is_room(c, w[2] + 4)) {
-        return bad_line(l, "it is no case (bench --help tells the forms)");
+        return bad_line(l, "it is no case (player --help tells the forms)");
     }
     c->call = CALL_ANSWER;
     int status = read_beside(l->file, w[0] + 6, &c->first);
@@ -190,7 +190,7 @@ int stored_each(const char *name, int (*run)(const struct stored *c, void *with)
         status = all_lines(name, &text, &course);
     }
     if (status == ENDED_WELL && course.cases == 0) {
-        fprintf(stderr, "bench: %s: there is no case in it\n", name);
+        fprintf(stderr, "player: %s: there is no case in it\n", name);
         status = WRONG_CONTENT;
     }
     bytes_free(&text);

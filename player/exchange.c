@@ -22,7 +22,7 @@ static uint64_t answer(struct exchange *x, uint8_t *report) {
 /* ---- both */
 
 static int say_unexpected(const struct exchange *x, const char *what, uint64_t number, const uint8_t *report) {
-    fprintf(stderr, "bench: ask %llu: %s refuses: %llu, input %llu, place %llu (%s)\n", (unsigned long long)x->id, what,
+    fprintf(stderr, "player: ask %llu: %s refuses: %llu, input %llu, place %llu (%s)\n", (unsigned long long)x->id, what,
             (unsigned long long)number, told(report, HUB_AT_INPUT),
             told(report, HUB_AT_PLACE), hub_refusal_text(number));
     return REFUSED;
@@ -60,7 +60,7 @@ static int take_answer(struct exchange *x) {
         return say_unexpected(x, "hub_read", number, x->report);
     }
     if (hub_report_number(x->report, HUB_AT_ID) != x->id) {
-        fprintf(stderr, "bench: ask %llu: the answer is to another ask, with the id %llu\n", (unsigned long long)x->id,
+        fprintf(stderr, "player: ask %llu: the answer is to another ask, with the id %llu\n", (unsigned long long)x->id,
                 told(x->report, HUB_AT_ID));
         return REFUSED;
     }

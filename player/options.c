@@ -9,10 +9,10 @@
 #include <string.h>
 
 static void say_words(void) {
-    puts("bench [OPTIONS] STORE BOOK              hold a talk: bring the book up to what the store has\n"
-         "bench --hostile SEED [OPTIONS] STORE    damage the requests of such a talk and show what the hub says\n"
-         "bench --dump FILE                       print the objects of a store, a request, an answer or a knowledge\n"
-         "bench --replay FILE                     make stored calls again, and show what they give\n"
+    puts("player [OPTIONS] STORE BOOK              hold a talk: bring the book up to what the store has\n"
+         "player --hostile SEED [OPTIONS] STORE    damage the requests of such a talk and show what the hub says\n"
+         "player --dump FILE                       print the objects of a store, a request, an answer or a knowledge\n"
+         "player --replay FILE                     make stored calls again, and show what they give\n"
          "\n"
          "  --limit N         ask for at most N bytes of elements in an answer, or one element (no limit)\n"
          "  --filters FILE    ask with these filters, spelled in hex as a request has them (none)\n"
@@ -65,7 +65,7 @@ void say_help(void) {
 }
 
 static int wrong(const char *what, const char *word) {
-    fprintf(stderr, "bench: %s: %s (bench --help tells more)\n", word, what);
+    fprintf(stderr, "player: %s: %s (player --help tells more)\n", word, what);
     return WRONG_USE;
 }
 
