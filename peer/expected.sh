@@ -66,11 +66,11 @@ put() { # NAME CASES EXPECTED
 {
     lines_of lines crates/cases/stdin $peer_core $peer_lines
     lines_of answer tests/answers.in -Dhub_answer=peer_answer tests/answer.c $peer_core
-    lines_of bench tests/benches.in -Dhub_ask=peer_ask -Dhub_read=peer_read -Dhub_element=peer_element tests/bench.c $peer_core
+    lines_of asking tests/asking.in -Dhub_ask=peer_ask -Dhub_read=peer_read -Dhub_element=peer_element tests/asking.c $peer_core
 }
 put lines crates/cases/stdin crates/cases/stdout
 put answer tests/answers.in tests/answers.out
-put bench tests/benches.in tests/benches.out
+put asking tests/asking.in tests/asking.out
 if [ "$moved" = 0 ]; then
     printf 'nothing moved\n'
 else

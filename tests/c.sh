@@ -63,9 +63,9 @@ hold() { # NAME OTHER-FILES..
 }
 
 hold limits
-hold bench_limits
+hold asking_limits
 hold refusals
-hold bench_refusals
+hold asking_refusals
 hold counts
 hold stack
 hold example
@@ -82,7 +82,7 @@ passed=$((passed + 1))
 
 # ---- stored cases
 compile answer
-compile bench
+compile asking
 
 # With a report of under 24 bytes only the number is told.
 numbers_only() { sed -e 's/^ok .*/ok/' -e 's/^\(no [0-9]*\) .*/\1/'; }
@@ -109,14 +109,14 @@ compare tests/answers.in "$room/numbers" answer 23
 passed=$((passed + 1))
 
 # The last word is the kind that stands for an answer: any but 0.
-knowledge_only tests/benches.in tests/benches.out >"$room/knowledge"
-numbers_only <tests/benches.out >"$room/numbers"
-compare tests/benches.in tests/benches.out bench 88
-compare tests/benches.in tests/benches.out bench 100 18446744073709551615
-compare tests/benches.in "$room/knowledge" bench 87 2
-compare tests/benches.in "$room/knowledge" bench 24
-compare tests/benches.in "$room/numbers" bench 23
-compare tests/benches.in "$room/numbers" bench 0
+knowledge_only tests/asking.in tests/asking.out >"$room/knowledge"
+numbers_only <tests/asking.out >"$room/numbers"
+compare tests/asking.in tests/asking.out asking 88
+compare tests/asking.in tests/asking.out asking 100 18446744073709551615
+compare tests/asking.in "$room/knowledge" asking 87 2
+compare tests/asking.in "$room/knowledge" asking 24
+compare tests/asking.in "$room/numbers" asking 23
+compare tests/asking.in "$room/numbers" asking 0
 passed=$((passed + 1))
 
 # The cases that the program cases is held to, as this form has them: no tables, so none that lends shorter ones, and no rows.
@@ -135,13 +135,13 @@ paste -d '|' crates/cases/stdin crates/cases/stdout | awk -F '|' -v cases="$room
         print $1 >cases
         print $2
     }' >"$room/calls.out"
-compare "$room/calls.in" "$room/calls.out" bench 88
+compare "$room/calls.in" "$room/calls.out" asking 88
 passed=$((passed + 1))
 
 way='the machine'"'"'s compiler'
 [ "$(uname -m)" = x86_64 ] && [ "${HUB_WAY:-}" != toolchain ] || way='the toolchain'
 printf 'tests/c.sh: %s numbers of document 01 and %s more things, %s answers and %s calls of a bench as they should be, by %s\n' \
     "$(lines 'document 01')" "$(lines 'beside it')" "$(cat tests/answers.in "$room/cases.in" | wc -l | tr -d ' ')" \
-    "$(cat tests/benches.in "$room/calls.in" | wc -l | tr -d ' ')" "$way"
+    "$(cat tests/asking.in "$room/calls.in" | wc -l | tr -d ' ')" "$way"
 grep 'bytes of stack at most' "$room/stack.out"
 printf '%s passed, 0 failed\n' "$passed"

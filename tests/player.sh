@@ -510,8 +510,8 @@ awk '/^hub_answer: 0,/ { next }
     /^answer: / { print "ok " $2 }
     /^hub_answer: / { gsub(/,/, ""); print "no " $2 " " $4 " " $6 " " $8 }' "$room/out" >"$room/answers"
 cmp "$room/answers" tests/answers.out || fail 'other results come from --replay tests/answers.in than tests/answers.out has'
-# And those of the bench's calls, as tests/benches.out has them.
-player 0 '' --replay tests/benches.in
+# And those of the bench's calls, as tests/asking.out has them.
+player 0 '' --replay tests/asking.in
 awk '{ gsub(/[,:]/, "") }
     $1 ~ /^hub_/ && $2 != 0 { print "no " $2, ($1 == "hub_ask" ? $4 " " $6 " " $8 : "0 " ($1 == "hub_read" ? $4 " 0" : $4 " " $6)) }
     $1 == "request" || $1 == "element" { print "ok " $2 }
@@ -519,7 +519,7 @@ awk '{ gsub(/[,:]/, "") }
         if ($NF == "null") guid = "0 00000000000000000000000000000000 0"; else guid = "1 " $NF " " $(NF - 2)
         print "ok", $4, $6, guid, $10, $8, $13, $15
     }' "$room/out" >"$room/calls"
-cmp "$room/calls" tests/benches.out || fail 'other results come from --replay tests/benches.in than tests/benches.out has'
+cmp "$room/calls" tests/asking.out || fail 'other results come from --replay tests/asking.in than tests/asking.out has'
 fresh
 printf 'answer 00 00\n' >"$room/cases"
 fault 5 "$room/cases, line 1: it is no case" '* ' --replay "$room/cases"
@@ -543,6 +543,6 @@ player 0 'hub_answer: 1, input 1, place 16777216, length 0' --replay "$room/case
 
 printf 'tests/player.sh: %s talks, %s faults, %s steps of a save, %s texts and %s replayed calls as they should be\n' \
     "$talks" "$faults" "$(wc -l <"$room/order" | tr -d ' ')" "$printed" \
-    "$(cat tests/answers.in tests/benches.in | wc -l | tr -d ' ')"
+    "$(cat tests/answers.in tests/asking.in | wc -l | tr -d ' ')"
 # Talks, faults, the steps of a save, texts and replayed calls are a test each.
 printf '5 passed, 0 failed\n'

@@ -1,6 +1,6 @@
 /* Every refusal that hub_ask, hub_read and hub_element can give, provoked: its number, the input, the place and the needed length,
    with the output left alone. The places are counted by hand from the layouts of document 01; a comment beside a group says
-   where its parts stand. The store's faults stand in faults.h. Lengths and counts at their limits are tried in bench_limits.c and
+   where its parts stand. The store's faults stand in faults.h. Lengths and counts at their limits are tried in asking_limits.c and
    counts.c. The exit status is 1 if a line is not ok. */
 #include "../include/hub.h"
 #include "build.h"
