@@ -1,5 +1,5 @@
 #!/bin/sh
-# peer/sanitize.sh [CASES [TALKS]]: the peer, its drivers and the program in bench/ built natively under the address and
+# peer/sanitize.sh [CASES [TALKS]]: the peer, its drivers and the program in player/ built natively under the address and
 # undefined-behaviour sanitizers, by each compiler of the machine that has them, and run. On x86-64 the library is linked in;
 # elsewhere it cannot be, and the peer is held to the stored results and to itself. A case that tells a difference is saved in
 # target/peer. The last line is 'N passed, 0 failed'.
@@ -7,7 +7,7 @@ set -u
 cd "$(dirname "$0")/.." || exit 1
 . peer/files.sh
 cases=${1:-20000} talks=${2:-1000} passed=0 saved=target/peer/sanitize.case
-# The peer takes nothing from the heap, and what the drivers take ends with them. The program in bench/ gives back what it takes,
+# The peer takes nothing from the heap, and what the drivers take ends with them. The program in player/ gives back what it takes,
 # which is looked at where it is run.
 export ASAN_OPTIONS=detect_leaks=0
 
@@ -24,10 +24,10 @@ mkdir -p target/peer || fail 'there is no room for a case'
 rm -f "$saved"
 
 # ---- with the library or alone
-with='-DPEER_ALONE' archive='' said='the peer alone, and the bench with it,'
+with='-DPEER_ALONE' archive='' said='the peer alone, and the player with it,'
 calls='-Dhub_answer=peer_answer -Dhub_ask=peer_ask -Dhub_read=peer_read -Dhub_element=peer_element'
 if [ "$(uname -m)" = x86_64 ]; then
-    with='' calls='' archive=target/staticlib/libhub.a said='library, peer and bench'
+    with='' calls='' archive=target/staticlib/libhub.a said='library, peer and player'
     [ -s "$archive" ] || fail "there is no $archive: make archive writes it"
 fi
 flags='-std=c99 -O1 -g -Wall -Wextra -Werror -pedantic -Iinclude -fsanitize=address,undefined -fno-sanitize-recover=all'
@@ -71,7 +71,7 @@ stored() { # PROGRAM CASES EXPECTED
     passed=$((passed + 1))
 }
 
-# A talk of the program in bench/ on its sample, damaged requests, a dump of each kind, and cases: all end well, and where leaks can
+# A talk of the player on its sample, damaged requests, a dump of each kind, and cases: all end well, and where leaks can
 # be looked for there is none. Faults end well if they end with their status.
 ends_well() { # WORDS..
     ends_with 0 "$@"
@@ -82,10 +82,10 @@ ends_with() { # STATUS WORDS..
     ASAN_OPTIONS=detect_leaks=$leaks "$room/talk" "$@" >"$room/log" 2>&1
     got=$?
     [ "$got" = "$awaited" ] ||
-        { tail -n 40 "$room/log"; fail "bench $*, built by $compiler, ends with the status $got, not $awaited"; }
+        { tail -n 40 "$room/log"; fail "player $*, built by $compiler, ends with the status $got, not $awaited"; }
 }
 talks_well() {
-    sample=bench/sample
+    sample=player/sample
     rm -f "$room/book" "$room/book.knowledge"
     ends_well --limit 400 --answer-bytes 200 --ask-bytes 60 $sample/book.store "$room/book"
     ends_well $sample/book.store "$room/book"
@@ -93,14 +93,14 @@ talks_well() {
     for file in $sample/book.store $sample/first.request $sample/first.answer "$room/book.knowledge"; do
         ends_well --dump "$file"
     done
-    for file in $sample/sample.cases tests/answers.in tests/benches.in; do
+    for file in $sample/sample.cases tests/answers.in tests/asking.in; do
         ends_well --replay "$file"
     done
     ends_with 2 --limit
     ends_with 3 --replay "$room/absent"
     ends_with 5 --replay $sample/book.store
     ends_with 5 $sample/first.request "$room/other"
-    cmp "$room/book" "$sample/book.store" || fail "the book of the program in bench/, built by $compiler, is not the store"
+    cmp "$room/book" "$sample/book.store" || fail "the book of the program in player/, built by $compiler, is not the store"
     passed=$((passed + 1))
 }
 
@@ -116,7 +116,7 @@ lends_tables() {
 
 # Cases from the field, by both.
 replayed() {
-    for file in bench/sample/sample.cases tests/benches.in; do
+    for file in player/sample/sample.cases tests/asking.in; do
         "$room/compare" --replay "$file" >"$room/log" 2>&1 || { tail -n 40 "$room/log"; fail "$file is not replayed well"; }
     done
     passed=$((passed + 1))
@@ -137,22 +137,22 @@ for compiler in $compilers; do
     # shellcheck disable=SC2086
     {
         build answer -Dhub_answer=peer_answer tests/answer.c $peer_core
-        build bench -Dhub_ask=peer_ask -Dhub_read=peer_read -Dhub_element=peer_element tests/bench.c $peer_core
+        build asking -Dhub_ask=peer_ask -Dhub_read=peer_read -Dhub_element=peer_element tests/asking.c $peer_core
         build lines $peer_core $peer_lines
         build compare $calls $peer_core $peer_compare $archive
         build series $peer_core $peer_series $archive
         build tables $peer_core $peer_tables
         build speed $peer_core $peer_speed $archive
         if [ -n "$archive" ]; then
-            build talk bench/*.c $archive
+            build talk player/*.c $archive
         else
-            build talk $calls bench/*.c $peer_core
+            build talk $calls player/*.c $peer_core
         fi
     }
     talks_well
     stored lines crates/cases/stdin crates/cases/stdout
     stored answer tests/answers.in tests/answers.out
-    stored bench tests/benches.in tests/benches.out
+    stored asking tests/asking.in tests/asking.out
     run compare --cases "$cases" --save "$saved"
     run compare --large --save "$saved"
     run series --talks "$talks" --save "$saved"

@@ -40,14 +40,14 @@ ln -s "$PWD/crates/cases/stdin" "$room/stored/crates/cases/stdin" || fail 'there
 for name in include peer tools; do
     ln -s "$PWD/$name" "$room/stored/$name" || fail 'there is no room for a link'
 done
-# Line 1 is missing there and the next but one are others; behind those of the bench there is one too many.
+# Line 1 is missing there and the next but one are others; behind those of the bench's calls there is one too many.
 awk 'NR >= 3 && NR <= 7 { $0 = "no 15 0 0 0" } NR > 1 { print }' crates/cases/stdout >"$room/stored/crates/cases/stdout"
 cp tests/answers.out "$room/stored/tests/"
-{ cat tests/benches.out && echo touched; } >"$room/stored/tests/benches.out"
+{ cat tests/asking.out && echo touched; } >"$room/stored/tests/asking.out"
 (cd "$room/stored" && unset MAKELEVEL MAKEFLAGS MFLAGS && make expected) >"$room/log" 2>&1 ||
     { cat "$room/log"; fail 'make expected fails'; }
 stored=0
-for name in crates/cases/stdin:crates/cases/stdout tests/answers.in:tests/answers.out tests/benches.in:tests/benches.out; do
+for name in crates/cases/stdin:crates/cases/stdout tests/answers.in:tests/answers.out tests/asking.in:tests/asking.out; do
     [ -s "${name%:*}" ] || fail "there is no case in ${name%:*}"
     cmp "$room/stored/${name#*:}" "${name#*:}" || fail "of ${name%:*} the peer makes other lines than ${name#*:} has"
     stored=$((stored + $(wc -l <"${name%:*}")))
@@ -62,8 +62,8 @@ moved_line() { # NUMBER: with what it was before
     for line in 3 4 5 6; do
         moved_line "$line"
     done
-    printf '  and 1 more\ntests/answers.out: nothing moved\ntests/benches.out: moved lines: 1\n'
-    printf '  behind line %s\n    before: touched\nmoved lines: 7\n' "$(wc -l <tests/benches.in | tr -d ' ')"
+    printf '  and 1 more\ntests/answers.out: nothing moved\ntests/asking.out: moved lines: 1\n'
+    printf '  behind line %s\n    before: touched\nmoved lines: 7\n' "$(wc -l <tests/asking.in | tr -d ' ')"
 } >"$room/moves"
 cmp "$room/moves" "$room/log" || { cat "$room/log"; fail 'make expected tells something else than what moved'; }
 printf 'tests/peer.sh: %s stored cases by the peer\n' "$stored"
@@ -87,11 +87,11 @@ says() { # WORDS: somewhere in what the last replay said
 # Every form in one file, with comments, empty lines, blanks of all kinds and digits of both cases.
 store=ac020055 request=$(awk '$1 == "answer" && NF == 6 { print $3; exit }' crates/cases/stdin)
 mkdir "$room/folder" || fail 'there is no room for a folder'
-cp bench/sample/manifests.store bench/sample/first.request "$room/folder/"
+cp player/sample/manifests.store player/sample/first.request "$room/folder/"
 {
     printf '# words\n\nanswer %s %s 4096\nanswer %s %s 40 1536 2048\n' "$store" "$request" "$store" "$request"
     printf 'store=manifests.store request=first.request out=4096\n  \t\r\n'
-    printf ' store=%s\trequest=../folder/first.request  out=534 \r\n' "$PWD/bench/sample/manifests.store"
+    printf ' store=%s\trequest=../folder/first.request  out=534 \r\n' "$PWD/player/sample/manifests.store"
     printf 'answer AC020055 - 0\nask 1 18446744073709551615 - - 256\nread 00\n#\nreceived 0c00 0\nelement %s 0' "$store"
 } >"$room/folder/field"
 replays 0 9 folder/field
@@ -106,16 +106,16 @@ says 'cases by library and peer: 9, with a difference: 0'
 cmp "$room/before" "$room/log" || fail 'peer/replay.sh in another folder does not do the same'
 
 # The sample, by make; a make above this one would have its own last word on what is printed.
-(unset MAKELEVEL MAKEFLAGS MFLAGS && make replay CASE=bench/sample/sample.cases) >"$room/log" 2>&1 ||
+(unset MAKELEVEL MAKEFLAGS MFLAGS && make replay CASE=player/sample/sample.cases) >"$room/log" 2>&1 ||
     { cat "$room/log"; fail 'make replay fails on the sample'; }
 grep '^library and peer ' "$room/log" >"$room/judged"
-grep -v -e '^library and peer ' -e '^cases by ' "$room/log" | cmp - tests/bench/replay.txt ||
-    fail 'make replay gives another account than the program in bench/'
+grep -v -e '^library and peer ' -e '^cases by ' "$room/log" | cmp - tests/player/replay.txt ||
+    fail 'make replay gives another account than the program in player/'
 [ "$(grep -c '^library and peer agree' "$room/judged")" = 5 ] && [ "$(wc -l <"$room/judged")" -eq 5 ] ||
     { cat "$room/judged"; fail 'of the sample library and peer are to agree in 5 cases'; }
 
 # Stored lines of the bench's calls; and a store of 16,777,216 bytes, one element with as many as fit, by its file and in hex.
-replays 0 "$(wc -l <tests/benches.in | tr -d ' ')" "$PWD/tests/benches.in"
+replays 0 "$(wc -l <tests/asking.in | tr -d ' ')" "$PWD/tests/asking.in"
 {
     printf '\254\002\000\014\126\014\020\021\022\023\024\025\026\027\030\031\032\033\034\035\036\037\200'
     printf '\040\041\042\043\044\045\046\047\050\051\052\053\054\055\056\057\007\000\000\000\000\000\000\000\013'
@@ -136,21 +136,21 @@ says 'line 2: store 16777216 bytes, '
 [ "$(grep -c '^hub_answer: 14, input 0, place 0, length 16777298 ' "$room/log")" = 2 ] ||
     { cut -c 1-200 "$room/log"; fail 'the long store is not answered as it should be'; }
 
-# What cannot be read has the status and the words that it has with the program in bench/, after the cases before it.
+# What cannot be read has the status and the words that it has with the program in player/, after the cases before it.
 replays 3 0 absent
-says 'bench: absent: it cannot be opened: No such file'
+says 'player: absent: it cannot be opened: No such file'
 printf 'read 00\nstore=absent request=first.request out=1\n' >"$room/folder/field"
 replays 3 1 folder/field
-says 'bench: folder/absent: it cannot be opened: No such file'
+says 'player: folder/absent: it cannot be opened: No such file'
 printf 'read 00\nask 1\n' >"$room/folder/field"
 replays 5 1 folder/field
-says 'bench: folder/field, line 2: it is no case of the form `ask ID LIMIT FILTERHEX KNOWLEDGEHEX OUTLEN`'
+says 'player: folder/field, line 2: it is no case of the form `ask ID LIMIT FILTERHEX KNOWLEDGEHEX OUTLEN`'
 printf 'read 00\nanswer 00 00 0 1536 all\n' >"$room/folder/field"
 replays 5 1 folder/field
-says 'bench: folder/field, line 2: it is no case of the form `answer STOREHEX REQUESTHEX OUTLEN [STORETABLELEN KNOWTABLELEN]`'
+says 'player: folder/field, line 2: it is no case of the form `answer STOREHEX REQUESTHEX OUTLEN [STORETABLELEN KNOWTABLELEN]`'
 printf '# none\n' >"$room/folder/field"
 replays 5 0 folder/field
-says 'bench: folder/field: there is no case in it'
+says 'player: folder/field: there is no case in it'
 passed=$((passed + 1))
 
 # ---- generated cases and talks, by both
@@ -190,7 +190,7 @@ passed=$((passed + 1))
 # ---- stored cases that lend tables, by the script of a tree that is made of links, and has by turns all that this one has, no
 # program `cases`, and a peer with one line spoiled in the tables
 mkdir -p "$room/tree/target" || fail 'there is no room for a tree'
-for name in bench include peer tools target/bin target/staticlib; do
+for name in player include peer tools target/bin target/staticlib; do
     ln -s "$PWD/$name" "$room/tree/$name" || fail 'there is no room for a link'
 done
 replays_tables() { # STATUS AGREEMENTS FILE: all agree without their tables
@@ -219,7 +219,7 @@ cmp "$room/into/1.cases" "$room/lent.in" || fail 'stored cases are handed on as 
 cmp "$room/into/1.lines" "$room/lent.out" || fail 'with lent tables the peer makes other lines than crates/cases/stdout has'
 
 # One element, answered with tables and without them, and with a table too short by one, which the call for C does not see.
-one=$(awk '$1 == "answer" { print $2, $3; exit }' bench/sample/sample.cases)
+one=$(awk '$1 == "answer" { print $2, $3; exit }' player/sample/sample.cases)
 {
     printf '# words\nread 00\nanswer %s 132\n\nanswer %s 132 1536 2048\nanswer %s 132 1536 2047\n' "$one" "$one" "$one"
     printf ' answer\tAC020055 %s  0041 05120 5120 \r\nanswer %s 131 1536 2048' "$request" "$one"
