@@ -18,29 +18,41 @@ room=$(mktemp -d) || fail 'there is no room for temporary files'
 trap 'rm -rf "$room"' EXIT
 trap 'exit 1' HUP INT TERM
 found=0
-ln -s "$PWD/player" "$room/player" || fail 'there is no room for a link' # from where the programs have the reader of stored cases
+here=$PWD
+mkdir -p "$room/objects/peer" "$room/objects/player" || fail 'there is no room for objects'
 
-# A copy of the peer with one line of a file spoiled, built into a program.
+# One file is spoiled, and what is not is compiled once, for all programs.
+compile() { # FILE OBJECT WORDS..
+    file=$1 object=$2
+    shift 2
+    sh tools/cc "$room/$object" "$file" -Iinclude "$@" >"$room/log" 2>&1 || { cat "$room/log"; fail "$file is not compiled"; }
+}
+
+# A copy of a file of the peer with one line spoiled, built into a program with the peer's other files.
 build() { # PROGRAM FILE RIGHT WRONG
-    rm -rf "$room/peer"
-    mkdir "$room/peer" || fail 'there is no room for a copy of the peer'
-    cp peer/*.c peer/*.h "$room/peer/"
     grep -Fq "$3" "peer/$2.c" || fail "peer/$2.c has no line with: $3"
     RIGHT=$3 WRONG=$4 awk '
         { at = done ? 0 : index($0, ENVIRON["RIGHT"]) }
         at { $0 = substr($0, 1, at - 1) ENVIRON["WRONG"] substr($0, at + length(ENVIRON["RIGHT"])); done = 1 }
-        { print }' "peer/$2.c" >"$room/peer/$2.c"
+        { print }' "peer/$2.c" >"$room/$2.c"
+    compile "$room/$2.c" spoiled.o -Ipeer
     case $1 in
     compare) others=$peer_compare ;;
     series) others=$peer_series ;;
     lines) others=$peer_lines ;;
     *) others=$peer_tables ;;
     esac
-    # The files of the copy are named from its folder, so that their names have no blanks.
-    here=$PWD
+    objects=''
+    for whole in $peer_core $others; do
+        made=objects/${whole%.c}.o
+        [ -s "$room/$made" ] || compile "$whole" "$made"
+        [ "$whole" != "peer/$2.c" ] || made=spoiled.o
+        objects="$objects $made"
+    done
+    # The objects are named from their folder, so that their names have no blanks.
     # shellcheck disable=SC2086
-    (cd "$room" && sh "$here/tools/cc" "$1" "-I$here/include" $peer_core $others "$here/$archive") >"$room/log" 2>&1 ||
-        { cat "$room/log"; fail "peer/$2.c with '$4' is not compiled"; }
+    (cd "$room" && sh "$here/tools/cc" "$1" $objects "$here/$archive") >"$room/log" 2>&1 ||
+        { cat "$room/log"; fail "peer/$2.c with '$4' is not linked"; }
 }
 
 replay() { # STATUS FILE WRONG
