@@ -2,10 +2,18 @@
    library's own sources. The peer makes each call, on tables, output and inputs that end at a protected page, and what it has no
    right to touch is looked at. Written are files that go together, N.cases with the lines for the program, N.lines with what it has
    to print and N.names with which case each is: as many as are needed for each to be short enough. peer/tables.sh compares. The
+<<<<<<< HEAD
    words: --cases N, --seed N, --into FOLDER, --save FILE, --replay FILE. The cases are generated, and the seed is printed; with
    --replay they are those of a file of stored cases that lend tables. A peer that touches more than it may ends the run with
    status 1, and its case is saved, if it is a generated one. */
 #include "../player/status.h"
+=======
+   words: --cases N, --seed N, --into FOLDER, --save FILE, --replay FILE. The cases are generated, and the seed is printed; they go
+   into files of a hundred, since the first that differs ends the comparison, and the program is slow. With --replay they are those
+   of a file of stored cases that lend tables. A peer that touches more than it may ends the run with status 1, and its case is
+   saved, if it is a generated one. */
+#include "../bench/status.h"
+>>>>>>> 43d0f1e (peer/tables.c: generated cases go into files of a hundred, so that a spoiled peer is told without the rest)
 #include "generate.h"
 #include "lent_answer.h"
 #include "spell.h"
@@ -18,6 +26,7 @@
 
 #define ROWS_NEEDED 1536u
 #define RANGES_NEEDED 2048u
+#define GENERATED_IN_A_FILE 100u
 
 struct run {
     uint64_t seed, cases, done, answered, refused[16];
@@ -131,9 +140,14 @@ static void end_files(struct run *r) {
     }
 }
 
-/* The lines of one case, in new files if those under way would get too long. */
+/* Whether those under way have as many cases as they should, or would get too long. */
+static int is_full(const struct run *r, const struct lent_case *k) {
+    return (r->replay == NULL && r->done % GENERATED_IN_A_FILE == 0) || k->line.length > LONGEST_FILE - r->length;
+}
+
+/* The lines of one case, in new files if there is no room in those under way. */
 static void write_lent(struct run *r, const struct lent_case *k) {
-    if (r->files == 0 || k->line.length > LONGEST_FILE - r->length) {
+    if (r->files == 0 || is_full(r, k)) {
         end_files(r);
         r->files++;
         r->length = 0;
