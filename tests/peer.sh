@@ -1,7 +1,7 @@
 #!/bin/sh
 # Tests of the library against the peer, which is document 01 written in C by itself (peer/): stored cases by the peer, generated
 # cases and whole talks by both, the tables that the call for C has for itself, and peers with one line spoiled, which have to be
-# told from the library. tests/c.sh makes the archive, and rt check cases the program `cases`, through which the tables are
+# told from the library. tests/archive.sh makes the archive, and rt check cases the program `cases`, through which the tables are
 # compared; make test does both before. What is generated is determined by a seed, which is printed; PEER_CASES, PEER_TALKS,
 # PEER_TABLES and PEER_SEED choose other numbers. The last line is 'N passed, 0 failed'.
 set -u
