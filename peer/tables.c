@@ -2,18 +2,11 @@
    library's own sources. The peer makes each call, on tables, output and inputs that end at a protected page, and what it has no
    right to touch is looked at. Written are files that go together, N.cases with the lines for the program, N.lines with what it has
    to print and N.names with which case each is: as many as are needed for each to be short enough. peer/tables.sh compares. The
-<<<<<<< HEAD
-   words: --cases N, --seed N, --into FOLDER, --save FILE, --replay FILE. The cases are generated, and the seed is printed; with
-   --replay they are those of a file of stored cases that lend tables. A peer that touches more than it may ends the run with
-   status 1, and its case is saved, if it is a generated one. */
-#include "../player/status.h"
-=======
    words: --cases N, --seed N, --into FOLDER, --save FILE, --replay FILE. The cases are generated, and the seed is printed; they go
    into files of a hundred, since the first that differs ends the comparison, and the program is slow. With --replay they are those
    of a file of stored cases that lend tables. A peer that touches more than it may ends the run with status 1, and its case is
    saved, if it is a generated one. */
-#include "../bench/status.h"
->>>>>>> 43d0f1e (peer/tables.c: generated cases go into files of a hundred, so that a spoiled peer is told without the rest)
+#include "../player/status.h"
 #include "generate.h"
 #include "lent_answer.h"
 #include "spell.h"
