@@ -26,7 +26,7 @@ use Rattle.talk.specs.Ranges.{Normal, AllFit}
 use Rattle.talk.specs.declared.range.Range.{Range}
 use Rattle.store.specs.Knowledge.{mostSaid}
 use Rattle.store.specs.Accessor.{elementIn, bytesAt}
-use Rattle.store.specs.Chain.{Chain, Fresh}
+use Rattle.store.specs.Chain.{Follows, Fresh}
 use Rattle.store.specs.Element.{sameKey, idsIn, serialsIn, elementAt}
 use Rattle.store.specs.KnowledgeWritten.{knowledgeBytes}
 use Rattle.store.specs.Store.{Walk, walked, packageStart}
@@ -75,7 +75,7 @@ set-here s x there done pre rest w at e n h i j f g =
 -- they are a chain
 chain-set : (s : List ℕ) (page there done : List Element) (pre post w : List ℕ) (at : ℕ) → w ≡ pre ++ (elementsBytes s page ++ post) → length pre ≡ at
     → Each (StandsIn s) page → idsIn there ≡ idsIn done → serialsIn there ≡ serialsIn done → Fresh (λ x. x .id) done page → Fresh (λ x. x .serial) done page
-    → Chain w there at (setDown at page) (at + length (elementsBytes s page))
+    → Follows w there at (setDown at page) (at + length (elementsBytes s page))
 unfolding elementsBytes setDown
 chain-set s [] there done pre post w at e n h i j f g = omega arith
 chain-set s (x ∷ xs) there done pre post w at e n h i j f g =
@@ -90,7 +90,7 @@ chain-set s (x ∷ xs) there done pre post w at e n h i j f g =
     let o = chain-set s xs (there ++ (y ∷ [])) (done ++ (x ∷ [])) (pre ++ b) post w (at + x .length) (e′ ∙ sym (append-assoc pre b rest)) (omega arith) (h .1)
     (keys-more (λ z. z .id) there done y x i refl) (keys-more (λ z. z .serial) there done y x j refl) (f .1) (g .1) in
     let m : at + x .length + length (elementsBytes s xs) ≡ at + length (b ++ elementsBytes s xs) = omega arith in
-    (r, subst (λ (k : ℕ). Chain w (there ++ (y ∷ [])) (at + x .length) (setDown (at + x .length) xs) k) m o)
+    (r, subst (λ (k : ℕ). Follows w (there ++ (y ∷ [])) (at + x .length) (setDown (at + x .length) xs) k) m o)
 
 pub length-set-down : (at : ℕ) (page : List Element) → length (setDown at page) ≡ length page
 unfolding setDown

@@ -15,7 +15,7 @@ use Rattle.objects.specs.declared.reading.Reading.{Reading}
 use Rattle.objects.specs.declared.reading.Reading.the-variants.{At, Refused}
 use Rattle.objects.proofs.Keep.{good-front, onward-valued, onward-start, onward-finish}
 use Rattle.objects.proofs.InputFaults.{InputFault, input-fault}
-use Rattle.store.specs.Knowledge.{Knowing}
+use Rattle.store.specs.Knowledge.{mostSaid, Knowing}
 use Rattle.store.proofs.KnowledgeHeld.{onward-knowledge}
 use Rattle.request.specs.Filter.{filtersFrom}
 use Rattle.request.proofs.Places.{good-filters}
@@ -37,7 +37,7 @@ filters-fault f r h =
 good-knowledge-of : (k : List ℕ) → Good k (knowledgeOf k .last)
 unfolding knowledgeOf
 good-knowledge-of k =
-    pick-all (λ (m : Knowing). Good k (m .last)) (eqb (length k) 0) _ _ (λ e. good-front k 0) (λ e. onward-knowledge 12 0x42 k [] (At 0 0) .good (good-front k 0))
+    pick-all (λ (m : Knowing). Good k (m .last)) (eqb (length k) 0) _ _ (λ e. good-front k 0) (λ e. onward-knowledge mostSaid 12 0x42 k [] (At 0 0) .good (good-front k 0))
 
 pub knowledge-fault : (k : List ℕ) (r : Refusal) → knowledgeGiven k ≡ Refused r → InputFault longestInput k r
 unfolding knowledgeGiven

@@ -26,7 +26,7 @@ use Rattle.request.specs.Filter.{filterAt, filtersFrom}
 use Rattle.request.specs.Message.{inRequest}
 use Rattle.request.proofs.Places.{good-filters}
 use Rattle.client.specs.AskWritten.{askBytes}
-use Rattle.client.specs.Ask.{noMore, filtersGiven, knowledgeOf, knowledgeGiven, writtenIn, judgedKnowledge, judgedFilters, askWrote, outputAfter, WroteAs, WritesRequest}
+use Rattle.client.specs.Ask.{noMore, filtersGiven, knowledgeOf, knowledgeGiven, writtenIn, judgedKnowledge, judgedFilters, askWrote, askOutput, WroteAs, WritesRequest}
 
 -- ---- neither input is over-long
 
@@ -127,26 +127,26 @@ filters-whole f p n h =
 -- ---- what writing answers, of inputs that were judged
 
 pub sent-long : (room : ℕ) (w out : List ℕ) → longestInput < length w → WroteAs (writtenIn room w) w (wrote.Refused (faultAt 1 0)) out out
-unfolding writtenIn outputAfter
+unfolding writtenIn askOutput
 sent-long room w out h = rw (lt-ltb _ _ h) (refl, refl)
 
 pub sent-short : (room : ℕ) (w out : List ℕ) → length w ≤ longestInput → room < length w → WroteAs (writtenIn room w) w (wrote.Refused (tooShort (length w))) out out
-unfolding writtenIn outputAfter
+unfolding writtenIn askOutput
 sent-short room w out h l = rw (le-ltb _ _ h, lt-ltb _ _ l) (refl, refl)
 
 pub sent-done : (room : ℕ) (w out : List ℕ) → length w ≤ longestInput → length w ≤ room → WroteAs (writtenIn room w) w (wrote.Done (length w)) out (laid 0 w out)
-unfolding writtenIn outputAfter
+unfolding writtenIn askOutput
 sent-done room w out h l = rw (le-ltb _ _ h, le-ltb _ _ l) (refl, laid-front w out)
 
 -- ---- and of any
 
 module _ (id limit : ℕ) (f k out : List ℕ) where
   pub filters-refused : (r : Refusal) → filtersGiven f ≡ Refused r → WritesRequest id limit f k (wrote.Refused r) out out
-  unfolding askWrote judgedFilters outputAfter
+  unfolding askWrote judgedFilters askOutput
   filters-refused r e = rw e (refl, refl)
 
   pub knowledge-refused : (p n : ℕ) (r : Refusal) → filtersGiven f ≡ At p n → knowledgeGiven k ≡ Refused r → WritesRequest id limit f k (wrote.Refused (inRequest r)) out out
-  unfolding askWrote judgedFilters judgedKnowledge outputAfter
+  unfolding askWrote judgedFilters judgedKnowledge askOutput
   knowledge-refused p n r e g = rw (e, g) (refl, refl)
 
   pub both-judged : (p n q v : ℕ) (r : Wrote) (out′ : List ℕ) → filtersGiven f ≡ At p n → knowledgeGiven k ≡ At q v

@@ -33,7 +33,7 @@ use Rattle.store.proofs.KnowledgeForward.{knowledge-end}
 use Rattle.store.proofs.KnowledgeCarry.{knowledge-carry}
 use Rattle.request.specs.Filter.{oneNumber, filtersFrom}
 use Rattle.request.specs.Meaning.{filtersRead}
-use Rattle.request.specs.Message.{versions, requestSignature, userAgent, subRequestFields, subRequest, queryChanges, argumentFields, arguments, constraint, knowledgePart, packagePart, identified, constrainedFrom, constrained, filtered, ended, requestKnowing, requestAnswer, requestIn}
+use Rattle.request.specs.Message.{versions, requestSignature, userAgent, subRequestFields, subRequest, queryChanges, argumentFields, arguments, constraint, knowledgePart, packagePart, identified, constrainedFrom, constrained, filtered, requestEnd, requestKnowing, requestAnswer, requestIn}
 use Rattle.request.proofs.Turns.{filters-end}
 use Rattle.request.proofs.FiltersCarry.{filters-between}
 use Rattle.pages.specs.Written.{versionBytes}
@@ -209,8 +209,8 @@ module _ (k s t : List ℕ) (at u : ℕ) (stands : drop at s ≡ k ++ askEnds) w
   known-there : (q v : ℕ) → knowledgeGiven k ≡ At q v → KnownThere k s t at u
   known-there q v g = by-eq (length k) 0 none-there (some-there q v g)
 
-ended-there : (s : List ℕ) (x u : ℕ) → drop x s ≡ askEnds → ended s (At x u) ≡ At (x + length (endBytes 0x42) + length (endBytes 0x40)) 0
-unfolding ended packagePart askEnds
+ended-there : (s : List ℕ) (x u : ℕ) → drop x s ≡ askEnds → requestEnd s (At x u) ≡ At (x + length (endBytes 0x42) + length (endBytes 0x40)) 0
+unfolding requestEnd packagePart askEnds
 ended-there s x u h =
     let e = endBytes 0x42 in
     let g = endBytes 0x40 in

@@ -24,7 +24,7 @@ use Rattle.talk.specs.Wanted.{keep, wanted}
 use Rattle.talk.specs.declared.range.Range.{Range}
 use Rattle.talk.proofs.Delivery.{length-wanted}
 use Rattle.talk.proofs.Things.{each-first, each-kept, each-so}
-use Rattle.store.specs.Chain.{Chain, Fresh, Tiles}
+use Rattle.store.specs.Chain.{Follows, Fresh, Tiles}
 use Rattle.store.specs.Element.{sameKey, idsIn, serialsIn, elementAt}
 use Rattle.store.specs.Knowledge.{mostSaid}
 use Rattle.store.specs.KnowledgeWritten.{rangesBytes}
@@ -57,7 +57,7 @@ use Rattle.client.proofs.AnswerBack.{answer-back}
 -- ---- the elements of a store
 
 -- each stands in it
-chain-stands : (s : List ℕ) (done xs : List Element) (at e : ℕ) → Chain s done at xs e → Each (StandsIn s) xs
+chain-stands : (s : List ℕ) (done xs : List Element) (at e : ℕ) → Follows s done at xs e → Each (StandsIn s) xs
 unfolding placeOf
 chain-stands s done [] at e c = tt
 chain-stands s done (x ∷ xs) at e c =

@@ -19,7 +19,7 @@ use Rattle.store.specs.declared.element.Element.{Element}
 use Rattle.talk.specs.declared.range.Range.{Range}
 use Rattle.request.specs.Message.{requestKnowing}
 use Rattle.client.specs.AskWritten.{askBytes}
-use Rattle.client.specs.Ask.{filtersGiven, knowledgeGiven, writtenIn, judgedKnowledge, judgedFilters, askWrote, outputAfter, WritesRequest}
+use Rattle.client.specs.Ask.{filtersGiven, knowledgeGiven, writtenIn, judgedKnowledge, judgedFilters, askWrote, askOutput, WritesRequest}
 use Rattle.client.specs.Read.{answerIn}
 use Rattle.client.specs.Back.{ReadBack}
 use Rattle.client.specs.declared.answer.Received.{Received}
@@ -61,14 +61,14 @@ pub record WrittenReads (id limit : ℕ) (f k s t : List ℕ) : Type 0 where
 
 pub written-reads : (id limit : ℕ) (f k : List ℕ) (n : ℕ) (out out′ : List ℕ) → id < 2 ^ 64 → limit < 2 ^ 64
     → WritesRequest id limit f k (wrote.Done n) out out′ → (t : List ℕ) → WrittenReads id limit f k (take n out′) t
-unfolding askWrote outputAfter
+unfolding askWrote askOutput
 written-reads id limit f k n out out′ hi hl h t =
     let w = askBytes id limit f k in
     let o : askWrote id limit f k (length out) ≡ wrote.Done n = sym (wrote-telling (wrote.Done n) (askWrote id limit f k (length out)) (h .0)) in
     let a = filters-fine (filtersGiven f) _ n o in
     let b = knowledge-fine (knowledgeGiven k) _ n (a .3) in
     let c = room-enough (length out) w n (b .3) in
-    let e : out′ ≡ w ++ drop (length w) out = h .1 ∙ ap (λ (r : Wrote). outputAfter r w out) o in
+    let e : out′ ≡ w ++ drop (length w) out = h .1 ∙ ap (λ (r : Wrote). askOutput r w out) o in
     let s : take n out′ ≡ w = rw e (take-at w (drop (length w) out) n (c .1)) in
     record {
       count = a .1;

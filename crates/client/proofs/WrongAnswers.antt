@@ -50,6 +50,11 @@ one-byte-short : WritesRequest 1 0xFFFFFFFFFFFFFFFF [] [] (Refused (tooShort 44)
 unfolding askWrote judgedFilters judgedKnowledge filtersGiven noMore filtersFrom knowledgeGiven knowledgeOf valued finish nextIs headerAt headerOf sized startOf endOf le writtenIn askBytes askFront versionBytes userAgentBytes subRequestBytes subRequestData queryBytes argumentBytes argumentData constraintBytes askEnds startBytes longStart endBytes extendedGuidBytes compactBytes sizeOf formOf formFrom bytes
 one-byte-short h = let z : _≡_ {A = ℕ} 44 45 = ap (λ (t : Told). t .needed) (h .0) in omega arith
 
+-- with a limit of 5 the same needs its constraint too: the limit left out
+limit-dropped : WritesRequest 1 5 [] [] (Refused (tooShort 45)) [] [] → ⊥
+unfolding askWrote judgedFilters judgedKnowledge filtersGiven noMore filtersFrom knowledgeGiven knowledgeOf valued finish nextIs headerAt headerOf sized startOf endOf le writtenIn askBytes askFront versionBytes userAgentBytes subRequestBytes subRequestData queryBytes argumentBytes argumentData constraintBytes askEnds startBytes longStart endBytes extendedGuidBytes compactBytes sizeOf formOf formFrom bytes
+limit-dropped h = ?
+
 -- ---- read_answer
 
 -- nothing lacks its version: 2, and not 7
@@ -95,7 +100,7 @@ abbrev marked : Received
 marked = record { id = 1; partial = true; index = id.Null; elements = 20; count = 0; knowledge = 34; length = 3 }
 
 marked-partial : ReadsAnswer smallest (answer.Is marked) → ⊥
-unfolding versions fixedIn le responseStart startHere runHere closedAt packageStart startOfLength lengthIs placeOf skip walkFrom nextIs endHere subResponse changes knowledgeIn knowledgeAt knowledgeFrom knowledgeTurn toGo iterate turns valued endsOf finish restOf answerEnd headerAt headerOf sized startOf endOf lengthAt statusByte responseFields subResponseFields changesFields need valueOf number numberIs idHere onId readCompact formAt readForm compact.valueOf sizeOf readExtendedGuid formOfId trailingZeros answerOn answerIn receivedFrom idIn idNumbers receivedNumbers
+unfolding versions fixedIn le responseStart startHere runHere closedAt packageStart startOfLength lengthIs placeOf skip walkFrom nextIs endHere subResponse changes knowledgeIn knowledgeAt knowledgeFrom knowledgeTurn toGo iterate turns valued endsOf finish restOf answerEnd headerAt headerOf sized startOf endOf lengthAt statusByte responseFields subResponseFields changesFields need valueOf number numberIs idHere onId readCompact formAt readForm compact.compactValue sizeOf readExtendedGuid formOfId trailingZeros answerOn answerIn receivedFrom idIn idNumbers receivedNumbers
 marked-partial h = let z : _≡_ {A = ℕ} 1 0 = ap (λ (t : Told). getD (t .values) 3 0) h in omega arith
 
 -- and with a status byte that announces an error it is refused with 5, and not read
@@ -104,7 +109,7 @@ failed =
     0x0C ∷ 0x00 ∷ 0x0B ∷ 0x00 ∷ 0x9D ∷ 0xCF ∷ 0x29 ∷ 0xF3 ∷ 0x39 ∷ 0x94 ∷ 0x06 ∷ 0x9B ∷ 0x16 ∷ 0x03 ∷ 0x02 ∷ 0x00 ∷ 0x01 ∷ 0xAC ∷ 0x02 ∷ 0x00 ∷ 0x55 ∷ 0x0E ∷ 0x02 ∷ 0x06 ∷ 0x00 ∷ 0x03 ∷ 0x05 ∷ 0x00 ∷ 0xFA ∷ 0x02 ∷ 0x04 ∷ 0x00 ∷ 0x00 ∷ 0x00 ∷ 0x84 ∷ 0x00 ∷ 0x41 ∷ 0x07 ∷ 0x01 ∷ 0x8B ∷ 0x01 ∷ []
 
 error-taken : (x : Received) → ReadsAnswer failed (answer.Is x) → ⊥
-unfolding versions fixedIn le responseStart startHere runHere closedAt packageStart startOfLength lengthIs placeOf skip walkFrom nextIs endHere subResponse changes knowledgeIn knowledgeAt knowledgeFrom knowledgeTurn toGo iterate turns valued endsOf finish restOf answerEnd headerAt headerOf sized startOf endOf lengthAt statusByte responseFields subResponseFields changesFields need valueOf number numberIs idHere onId readCompact formAt readForm compact.valueOf sizeOf readExtendedGuid formOfId trailingZeros answerOn answerIn receivedFrom idIn idNumbers receivedNumbers
+unfolding versions fixedIn le responseStart startHere runHere closedAt packageStart startOfLength lengthIs placeOf skip walkFrom nextIs endHere subResponse changes knowledgeIn knowledgeAt knowledgeFrom knowledgeTurn toGo iterate turns valued endsOf finish restOf answerEnd headerAt headerOf sized startOf endOf lengthAt statusByte responseFields subResponseFields changesFields need valueOf number numberIs idHere onId readCompact formAt readForm compact.compactValue sizeOf readExtendedGuid formOfId trailingZeros answerOn answerIn receivedFrom idIn idNumbers receivedNumbers
 error-taken x h = let z : _≡_ {A = ℕ} 0 5 = ap (λ (t : Told). t .number) h in omega arith
 
 -- ---- an answer that holds one element, of 46 bytes from place 20 on
@@ -115,10 +120,10 @@ of-one =
 
 -- find_received: 9, though it is there
 refused-there : FindsReceived of-one 0 (found.Refused (faultAt 9 0)) → ⊥
-unfolding versions fixedIn le responseStart startHere runHere closedAt packageStart startOfLength lengthIs placeOf skip walkFrom nextIs endHere subResponse changes knowledgeIn knowledgeAt knowledgeFrom knowledgeTurn toGo iterate turns valued endsOf finish restOf answerEnd headerAt headerOf sized startOf endOf lengthAt statusByte responseFields subResponseFields changesFields need valueOf number numberIs idHere onId readCompact formAt readForm compact.valueOf sizeOf readExtendedGuid formOfId trailingZeros elementAt elementOn dataOf fieldsOf serialField idField onKey keyHere freshKey numberedKey namedKey seen sameKey serialHere onSerial readSerial numbered guidAt shortForm namedOf inside runAt objectAt elementIn receivedAt
+unfolding versions fixedIn le responseStart startHere runHere closedAt packageStart startOfLength lengthIs placeOf skip walkFrom nextIs endHere subResponse changes knowledgeIn knowledgeAt knowledgeFrom knowledgeTurn toGo iterate turns valued endsOf finish restOf answerEnd headerAt headerOf sized startOf endOf lengthAt statusByte responseFields subResponseFields changesFields need valueOf number numberIs idHere onId readCompact formAt readForm compact.compactValue sizeOf readExtendedGuid formOfId trailingZeros elementAt elementOn dataOf fieldsOf serialField idField onKey keyHere freshKey numberedKey namedKey seen sameKey serialHere onSerial readSerial numbered guidAt shortForm namedOf inside runAt objectAt elementIn receivedAt
 refused-there h = let z : _≡_ {A = ℕ} 9 0 = ap (λ (t : Told). t .number) h in omega arith
 
 -- received_bytes: nothing, though it is there
 none-given : [] ≡ receivedBytes of-one 0 → ⊥
-unfolding versions fixedIn le responseStart startHere runHere closedAt packageStart startOfLength lengthIs placeOf skip walkFrom nextIs endHere subResponse changes knowledgeIn knowledgeAt knowledgeFrom knowledgeTurn toGo iterate turns valued endsOf finish restOf answerEnd headerAt headerOf sized startOf endOf lengthAt statusByte responseFields subResponseFields changesFields need valueOf number numberIs idHere onId readCompact formAt readForm compact.valueOf sizeOf readExtendedGuid formOfId trailingZeros elementAt elementOn dataOf fieldsOf serialField idField onKey keyHere freshKey numberedKey namedKey seen sameKey serialHere onSerial readSerial numbered guidAt shortForm namedOf inside runAt objectAt elementIn receivedAt receivedBytes
+unfolding versions fixedIn le responseStart startHere runHere closedAt packageStart startOfLength lengthIs placeOf skip walkFrom nextIs endHere subResponse changes knowledgeIn knowledgeAt knowledgeFrom knowledgeTurn toGo iterate turns valued endsOf finish restOf answerEnd headerAt headerOf sized startOf endOf lengthAt statusByte responseFields subResponseFields changesFields need valueOf number numberIs idHere onId readCompact formAt readForm compact.compactValue sizeOf readExtendedGuid formOfId trailingZeros elementAt elementOn dataOf fieldsOf serialField idField onKey keyHere freshKey numberedKey namedKey seen sameKey serialHere onSerial readSerial numbered guidAt shortForm namedOf inside runAt objectAt elementIn receivedAt receivedBytes
 none-given h = impossible (cc)

@@ -61,13 +61,13 @@ askWrote id limit f k room =
     judgedFilters (filtersGiven f) (judgedKnowledge (knowledgeGiven k) (writtenIn room (askBytes id limit f k)))
 
 -- the output then: "output past the answer, keep their contents"; on a refusal it stays as it was
-unfoldable pub outputAfter : Wrote → List ℕ → List ℕ → List ℕ
-outputAfter (wrote.Done n) w out = w ++ drop (length w) out
-outputAfter (wrote.Refused r) w out = out
+unfoldable pub askOutput : Wrote → List ℕ → List ℕ → List ℕ
+askOutput (wrote.Done n) w out = w ++ drop (length w) out
+askOutput (wrote.Refused r) w out = out
 
 -- what is promised where writing the bytes w answers o
 abbrev pub WroteAs : Wrote → List ℕ → Wrote → List ℕ → List ℕ → Type 0
-WroteAs o w r out out′ = (tellWrote r ≡ tellWrote o) × (out′ ≡ outputAfter o w out)
+WroteAs o w r out out′ = (tellWrote r ≡ tellWrote o) × (out′ ≡ askOutput o w out)
 
 -- what the call that writes a request promises
 abbrev pub WritesRequest : ℕ → ℕ → List ℕ → List ℕ → Wrote → List ℕ → List ℕ → Type 0

@@ -5,7 +5,10 @@ ghost use Rattle.client.specs.Accessor.{rowsReceived, idsReceived};
 use numbers::extended_guid::ExtendedGuid;
 use numbers::refusal::Refusal;
 use numbers::refusal::at_place;
+use objects::layout::COMPOUND;
 use objects::layout::NOTHING;
+use objects::layout::PLAIN;
+use objects::layout::ROOM;
 use objects::reading::Reading;
 use objects::reading::ReadingId;
 use pages::write::CHANGES;
@@ -65,7 +68,7 @@ fn response_fields(d: &[u8]) -> Reading
 fn response_start(s: &[u8]) -> Reading
     ensures { λ r. ⌜ r ≡ responseStart (now (s .entry)) ⌝ }
 {
-    let o = versions(s, SIGNATURE).start(s, NOTHING, RESPONSE, true, true);
+    let o = versions(s, SIGNATURE).start(s, NOTHING, RESPONSE, COMPOUND, ROOM);
     o.closed(s, response_fields(o.run(s)))
 }
 
@@ -80,7 +83,7 @@ fn sub_response_fields(d: &[u8]) -> Reading
 fn sub_response(s: &[u8], c: Reading) -> Reading
     ensures { λ r. ⌜ r ≡ subResponse (now (s .entry)) c ⌝ }
 {
-    let o = c.start(s, RESPONSE, SUB_RESPONSE, true, true);
+    let o = c.start(s, RESPONSE, SUB_RESPONSE, COMPOUND, ROOM);
     o.closed(s, sub_response_fields(o.run(s)))
 }
 
@@ -116,7 +119,7 @@ fn read_rest(s: &[u8], c: Reading, elements: usize, count: usize) -> ReadAnswer
     ensures { λ r. ⌜ r ≡ answerOn (restOf (now (s .entry)) c) (receivedFrom (now (s .entry)) c elements count) ⌝ }
 {
     let sub = sub_response(s, c);
-    let o = sub.start(s, SUB_RESPONSE, CHANGES, false, true);
+    let o = sub.start(s, SUB_RESPONSE, CHANGES, PLAIN, ROOM);
     let d = o.run(s);
     let mark = o.closed(s, changes_fields(d));
     let mut table = [0u64; SAID_NUMBERS];

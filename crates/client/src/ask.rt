@@ -12,6 +12,8 @@ use numbers::refusal::Wrote;
 use numbers::refusal::at_place;
 use numbers::refusal::over_long;
 use numbers::refusal::too_short;
+use objects::layout::COMPOUND;
+use objects::layout::ROOM;
 use objects::reading::Reading;
 use pages::write::lay_versions;
 use request::filter::FILTER;
@@ -50,7 +52,7 @@ fn no_more(s: &[u8], c: Reading) -> Reading
         Reading::Refused(r) => Reading::Refused(r),
         Reading::At(at, n) => {
             if at < s.len() {
-                return c.start(s, SUB_REQUEST, FILTER, true, true);
+                return c.start(s, SUB_REQUEST, FILTER, COMPOUND, ROOM);
             }
             Reading::At(at, n)
         }

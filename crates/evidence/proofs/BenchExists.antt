@@ -48,7 +48,7 @@ use Rattle.hub.specs.Bench.{wroteReport, HubAsks, reportAfter, HubReads}
 use Rattle.hub.proofs.Laws.{tables-enough}
 use Rattle.evidence.specs.Calling.{reportNumber, exported}
 use Rattle.evidence.specs.Talk.{serialOf, elementsOf, leavesIn, wantedOf, rangesIn}
-use Rattle.evidence.specs.Bench.{filtersIn, knowsBy, saidBy, Choice, Turn, BenchTalk, choicesIn, Ample}
+use Rattle.evidence.specs.Bench.{filtersIn, knowsBy, saidBy, Choice, Exchange, BenchTalk, choicesIn, Ample}
 use Rattle.evidence.proofs.DemandTwo.{DemandTwo, demand-two}
 use Rattle.evidence.proofs.BytesWritten.{ask-bytes}
 use Rattle.evidence.proofs.Steps.{sent-room}
@@ -79,7 +79,7 @@ ask-written id limit f k out p n q v hf hk short room =
 
 -- what it then leaves
 abbrev askOut : ℕ → ℕ → List ℕ → List ℕ → List ℕ → List ℕ
-askOut id limit f k out = ask.outputAfter (askWrote id limit f k (length out)) (askBytes id limit f k) out
+askOut id limit f k out = ask.askOutput (askWrote id limit f k (length out)) (askBytes id limit f k) out
 
 abbrev askReport : ℕ → ℕ → List ℕ → List ℕ → List ℕ → List ℕ → List ℕ
 askReport id limit f k out report = placed (wroteReport (askWrote id limit f k (length out))) report
@@ -151,7 +151,7 @@ ready-first s f k b q v e said =
     record { bytes = b; place = q; value = v; given = e; size = omega arith; few = omega arith }
 
 -- .. and then from what each turn leaves
-ready-next : (s f first k w k′ : List ℕ) → AllBytes s → AllBytes f → Turn s f k w k′ → Ready s f first k → Ready s f first k′
+ready-next : (s f first k w k′ : List ℕ) → AllBytes s → AllBytes f → Exchange s f k w k′ → Ready s f first k → Ready s f first k′
 ready-next s f first k w k′ bs bf turn g =
     let t = turn-tells s f k w k′ bs bf (g .bytes) turn in
     let most = t .held .read .most in
@@ -225,7 +225,7 @@ module _ (s f first : List ℕ) (bs : AllBytes s) (bf : AllBytes f) (h : Stands 
     abbrev next-knowledge : List ℕ
     next-knowledge = take (reportNumber 2 read-report) (drop (reportNumber 1 read-report) answer)
 
-    turn : Turn s f k answer next-knowledge
+    turn : Exchange s f k answer next-knowledge
     turn =
         record {
           choice = c;

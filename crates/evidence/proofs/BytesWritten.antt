@@ -17,7 +17,7 @@ use Rattle.numbers.specs.declared.extended_guid.ExtendedGuid.the-variants.{Null
 use Rattle.objects.specs.Header.{startNumber, escape, longStart, startBytes, endBytes}
 use Rattle.talk.specs.declared.range.Range.{Range}
 use Rattle.store.specs.Knowledge.{cellGuid}
-use Rattle.store.specs.KnowledgeWritten.{guidOf, rangeData, rangeBytes, rangesBytes, cellFront, cellBack, knowledgeBytes}
+use Rattle.store.specs.KnowledgeWritten.{rangeGuid, rangeData, rangeBytes, rangesBytes, cellFront, cellBack, knowledgeBytes}
 use Rattle.request.specs.Message.{requestSignature}
 use Rattle.pages.specs.Written.{versionBytes}
 use Rattle.client.specs.AskWritten.{userAgentBytes, subRequestData, subRequestBytes, queryBytes, argumentData, argumentBytes, constraintBytes, askFront, askEnds, askBytes}
@@ -107,7 +107,7 @@ range-bytes : (x : Range) → AllBytes (rangeBytes x)
 unfolding rangeBytes rangeData
 range-bytes x =
     headed-bytes 0x0F false _ _
-    (append-bytes (guidBytes (guidOf x)) (compactBytes (x .from) ++ compactBytes (x .to)) (guid-bytes (guidOf x))
+    (append-bytes (guidBytes (rangeGuid x)) (compactBytes (x .from) ++ compactBytes (x .to)) (guid-bytes (rangeGuid x))
     (append-bytes (compactBytes (x .from)) (compactBytes (x .to)) (compact-bytes (x .from)) (compact-bytes (x .to))))
 
 ranges-bytes : (l : List Range) → AllBytes (rangesBytes l)

@@ -17,7 +17,7 @@ use Rattle.numbers.specs.declared.refusal.Refusal.{Refusal}
 use Rattle.numbers.proofs.OneAnswers.{values-of}
 use Rattle.talk.specs.declared.range.Range.{Range}
 use Rattle.store.specs.declared.element.Element.{Element}
-use Rattle.pages.specs.Answer.{Outcome, refused, answered, numberIn, tellAnswered, told, answerOf, outcome, outputAfter, Answers, knowledgeNumbers}
+use Rattle.pages.specs.Answer.{Outcome, refused, answered, numberIn, tellAnswered, answerTold, answerOf, outcome, outputAfter, Answers, knowledgeNumbers}
 use Rattle.pages.specs.declared.answer.Answered.the-variants as answer
 use Rattle.client.specs.Read.{longestAnswer, answerIn, answerEnd, answerOn}
 use Rattle.client.specs.declared.answer.Received.{Received}
@@ -33,9 +33,9 @@ use Rattle.evidence.specs.Calling.{reportNumber, GivesAnswer, lent, expo
 
 -- ---- what was told
 
-sent-is : (o : Outcome) (n rows ranges : ℕ) → tellAnswered (answer.Sent n rows ranges) ≡ tellAnswered (told o)
+sent-is : (o : Outcome) (n rows ranges : ℕ) → tellAnswered (answer.Sent n rows ranges) ≡ tellAnswered (answerTold o)
     → (w : List ℕ) × (all : List Element) × (l : List Range) × (o ≡ answered w all l) × (length w ≡ n)
-unfolding told
+unfolding answerTold
 sent-is (refused r) n rows ranges e = let v = values-of _ _ e in impossible (cc)
 sent-is (answered w all l) n rows ranges e = let v = values-of _ _ e in (w, all, l, refl, cc)
 
@@ -52,8 +52,8 @@ unfolding numberIn
 number-outcome s q rows ranges room n d e =
     ⊎-elim (λ z. absurd (d (sym e ∙ ap numberIn (z .1)))) (λ z. (z .0, sym (ap numberIn (z .1)) ∙ e)) (by-tables s q rows ranges room)
 
-refusal-is : (o : Outcome) (r : Refusal) → tellAnswered (answer.Refused r) ≡ tellAnswered (told o) → (x : Refusal) × (o ≡ refused x) × (r .number ≡ x .number)
-unfolding told
+refusal-is : (o : Outcome) (r : Refusal) → tellAnswered (answer.Refused r) ≡ tellAnswered (answerTold o) → (x : Refusal) × (o ≡ refused x) × (r .number ≡ x .number)
+unfolding answerTold
 refusal-is (refused x) r e = (x, refl, ap (λ (t : Told). t .number) e)
 refusal-is (answered w all l) r e = let v = values-of _ _ e in impossible (cc)
 

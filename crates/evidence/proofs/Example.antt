@@ -37,18 +37,18 @@ use Rattle.ranges.specs.Ranged.{rangeOf, knows}
 use Rattle.store.specs.KnowledgeWritten as knowledge
 use Rattle.store.specs.KnowledgeWritten.{rangeData, rangeBytes, rangesBytes, cellFront, cellBack, knowledgeBytes}
 use Rattle.store.specs.Store.{walked, packageStart, walkFrom, storeWalk}
-use Rattle.store.specs.Written.{Content, guidOf, fieldBytes, writtenElement, writtenElements, packageFront, packageBytes}
+use Rattle.store.specs.Written.{Content, keyGuid, fieldBytes, writtenElement, writtenElements, packageFront, packageBytes}
 use Rattle.store.specs.declared.element.Key.{Key}
 use Rattle.store.specs.declared.element.Element.{Element}
 use Rattle.request.specs.Filter.{oneNumber, filtersFrom}
 use Rattle.request.specs.Meaning.{leftIn, filtersRead}
-use Rattle.request.specs.Message.{versions, userAgent, subRequestFields, subRequest, queryChanges, argumentFields, arguments, constraint, knowledgePart, packagePart, identified, constrainedFrom, ended, requestKnowing, requestAnswer, requestIn}
+use Rattle.request.specs.Message.{versions, userAgent, subRequestFields, subRequest, queryChanges, argumentFields, arguments, constraint, knowledgePart, packagePart, identified, constrainedFrom, requestEnd, requestKnowing, requestAnswer, requestIn}
 use Rattle.pages.specs.Choice.{wantedIn, serialRange, rangesWith, storedLength, storageIndex}
 use Rattle.pages.specs.Decision.{isSendable, decision}
 use Rattle.pages.specs.Written.{versionBytes, responseBytes, storedBytes, elementsBytes, packageOf, subResponseData, subResponseBytes, partialByte, changesData, changesBytes, endsBytes, answerBytes}
 use Rattle.pages.specs.Answer as answer
 use Rattle.pages.specs.Answer.{Outcome, refused, answered, numberIn, pageRanges, pageBytes, pageMeasure, onDecided, pageDecided, pageOutcome, onRequest, onStore, outcome}
-use Rattle.client.specs.Ask.{noMore, filtersGiven, knowledgeOf, knowledgeGiven, writtenIn, judgedKnowledge, judgedFilters, askWrote, outputAfter}
+use Rattle.client.specs.Ask.{noMore, filtersGiven, knowledgeOf, knowledgeGiven, writtenIn, judgedKnowledge, judgedFilters, askWrote, askOutput}
 use Rattle.client.specs.AskWritten.{userAgentBytes, subRequestData, subRequestBytes, queryBytes, argumentData, argumentBytes, constraintBytes, askFront, askEnds, askBytes}
 use Rattle.client.specs.Read.{statusByte, responseFields, responseStart, packageIn, subResponseFields, subResponse, changesFields, changes, idIn, knowledgeIn, endsOf, receivedFrom, restOf, answerEnd, answerOn, answerIn, receivedNumbers, idNumbers, tellReadAnswer}
 use Rattle.client.specs.declared.answer.Received.{Received}
@@ -60,13 +60,13 @@ use Rattle.hub.specs.Bench.{wroteReport, reportAfter}
 use Rattle.talk.specs.Series.{Chain}
 use Rattle.talk.specs.Series.Chain.{done, next}
 use Rattle.evidence.specs.Calling.{reportNumber}
-use Rattle.evidence.specs.Bench.{Turn, BenchTalk}
+use Rattle.evidence.specs.Bench.{Exchange, BenchTalk}
 
 -- ---- what the prover looks through: a definition computes where it is named, and to name one of these is to name all of its line
 
 -- numbers and names
 numbers : Unit {0}
-unfolding le bytes be compactBytes sizeOf formOf formFrom marked readForm formAt readCompact compact.valueOf trailingZeros guidAt guidBytes taggedBytes swapped extendedGuidBytes namedBytes shortBytes readExtendedGuid formOfId shortForm namedOf serialBytes readSerial numbered
+unfolding le bytes be compactBytes sizeOf formOf formFrom marked readForm formAt readCompact compact.compactValue trailingZeros guidAt guidBytes taggedBytes swapped extendedGuidBytes namedBytes shortBytes readExtendedGuid formOfId shortForm namedOf serialBytes readSerial numbered
 numbers = tt
 
 -- headers, and the steps of a layout
@@ -80,12 +80,12 @@ unfolding objects seen sameKey namedKey numberedKey freshKey keyHere onKey idFie
 stores = tt
 
 unfoldable pub knowledges : Unit {0}
-unfolding objects rangeOf guidIn rangeFields itemOf rangeItem itemNext itemAt onItem united knows itemsFrom isCell specializedGuid cellFrom specializedFrom knowledgeTurn toGo knowledgeFrom knowledgeAt knowledge.guidOf rangeData rangeBytes rangesBytes cellFront cellBack knowledgeBytes within holds isBefore joined absorb insert
+unfolding objects rangeOf guidIn rangeFields itemOf rangeItem itemNext itemAt onItem united knows itemsFrom isCell specializedGuid cellFrom specializedFrom knowledgeTurn toGo knowledgeFrom knowledgeAt knowledge.rangeGuid rangeData rangeBytes rangesBytes cellFront cellBack knowledgeBytes within holds isBefore joined absorb insert
 knowledges = tt
 
 -- requests, written and read
 requests : Unit {0}
-unfolding knowledges versionBytes userAgentBytes subRequestData subRequestBytes queryBytes argumentData argumentBytes constraintBytes askFront askEnds askBytes versions userAgent subRequestFields subRequest queryChanges argumentFields arguments constraint knowledgePart packagePart identified constrainedFrom ended requestKnowing requestAnswer requestIn oneNumber filtersFrom filtersRead leftIn
+unfolding knowledges versionBytes userAgentBytes subRequestData subRequestBytes queryBytes argumentData argumentBytes constraintBytes askFront askEnds askBytes versions userAgent subRequestFields subRequest queryChanges argumentFields arguments constraint knowledgePart packagePart identified constrainedFrom requestEnd requestKnowing requestAnswer requestIn oneNumber filtersFrom filtersRead leftIn
 requests = tt
 
 -- the answering call
@@ -100,7 +100,7 @@ reading = tt
 
 -- the exported calls
 unfoldable pub exporting : Unit {0}
-unfolding reading noMore filtersGiven knowledgeOf knowledgeGiven writtenIn judgedKnowledge judgedFilters askWrote outputAfter placed wroteReport numbersBytes reportBytes numberIn answer.answerOf answer.outputAfter reportAfter receivedNumbers idNumbers
+unfolding reading noMore filtersGiven knowledgeOf knowledgeGiven writtenIn judgedKnowledge judgedFilters askWrote askOutput placed wroteReport numbersBytes reportBytes numberIn answer.answerOf answer.outputAfter reportAfter receivedNumbers idNumbers
 exporting = tt
 
 -- ---- the stores
@@ -154,7 +154,7 @@ asking limit knowledge = askingWith [] limit knowledge
 
 -- the numbers from a to b under the GUID
 abbrev pub numbersTo : ℕ → ℕ → Range
-numbersTo a b = rangeOf (guidOf (key a)) a b
+numbersTo a b = rangeOf (keyGuid (key a)) a b
 
 -- the bytes of such a range: its start, the GUID, from and to
 abbrev pub rangeWritten : ℕ → ℕ → List ℕ
@@ -323,7 +323,7 @@ report = replicate 24 0
 
 -- what hub_ask, hub_answer and hub_read promise to leave in them: the request and its report, ..
 abbrev askOutput : List ℕ → ℕ → List ℕ → List ℕ
-askOutput f limit k = outputAfter (askWrote 1 limit f k (length output)) (askingWith f limit k) output
+askOutput f limit k = askOutput (askWrote 1 limit f k (length output)) (askingWith f limit k) output
 
 abbrev askReport : List ℕ → ℕ → List ℕ → List ℕ
 askReport f limit k = placed (wroteReport (askWrote 1 limit f k (length output))) report
@@ -372,7 +372,7 @@ TurnFine f limit k w k′ = returned f limit k w ≡ record { asked = 0; answere
 
 -- a turn with some filters under a limit, and with none
 abbrev pub TurnWith : List ℕ → ℕ → List ℕ → List ℕ → List ℕ → Type 0
-TurnWith f limit k w k′ = (t : Turn three f k w k′) × (t .choice .limit ≡ limit)
+TurnWith f limit k w k′ = (t : Exchange three f k w k′) × (t .choice .limit ≡ limit)
 
 abbrev pub TurnUnder : ℕ → List ℕ → List ℕ → List ℕ → Type 0
 TurnUnder limit k w k′ = TurnWith [] limit k w k′

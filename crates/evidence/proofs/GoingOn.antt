@@ -28,7 +28,7 @@ use Rattle.store.proofs.Found.{store-most}
 use Rattle.request.specs.Meaning.{Filter}
 use Rattle.request.specs.Message.{filtersOf}
 use Rattle.request.proofs.RequestFits.{known-fit, known-normal}
-use Rattle.pages.specs.Answer.{Ask, answered, numberIn, told, knownIn, outcome, pageBytes, pageRanges, Answers}
+use Rattle.pages.specs.Answer.{Ask, answered, numberIn, answerTold, knownIn, outcome, pageBytes, pageRanges, Answers}
 use Rattle.pages.specs.declared.answer.Answered.the-variants as answer
 use Rattle.pages.specs.Choice.{knowsKey, serialRange, wantedIn}
 use Rattle.pages.specs.Cases.{Few, smallest, Asks}
@@ -124,7 +124,7 @@ module _ (s q : List ℕ) (a : Ask) (asks : Asks s q a) (few : Few a) where
 
   pub none-refused : (r : Refusal) (rows rows′ ranges ranges′ out out′ : List ℕ) → Tables (length rows) (length ranges) → length (pageBytes a (smallest a)) ≤ length out
       → Answers s q (answer.Refused r) rows rows′ ranges ranges′ out out′ → ⊥
-  unfolding told
+  unfolding answerTold
   none-refused r rows rows′ ranges ranges′ out out′ t l h =
       let e = tables-fine s q (length rows) (length ranges) (length out) (t .0) (t .1) ∙ is-answered (length out) l .1 in
       let z = values-of _ _ (rw e at (h .0)) in

@@ -8,7 +8,7 @@ use Prim.Native.Nat.{ℕ, _<_}
 use native.Mathlib.Omega.{arith}
 use lib.ListN.{length}
 use Rattle.numbers.specs.Refusals.{Told}
-use Rattle.pages.specs.Answer.{Ask, Outcome, refused, answered, numberIn, pageRanges, tellAnswered, told, outcome, answerOf, knowledgeNumbers}
+use Rattle.pages.specs.Answer.{Ask, Outcome, refused, answered, numberIn, pageRanges, tellAnswered, answerTold, outcome, answerOf, knowledgeNumbers}
 use Rattle.pages.specs.Cases.{Asks, OverLong, TooShort}
 use Rattle.pages.specs.declared.answer.Answered.{Answered}
 use Rattle.pages.proofs.Refusing.{tables-fine, thirteen-if, thirteen-only-if, one-only-if, one-if-store, one-if-request, fourteen-of-call, call-of-fourteen, nine-of-call, call-of-nine}
@@ -16,8 +16,8 @@ use Rattle.evidence.specs.Refusing.{Tables, IfAndOnlyIf}
 use Rattle.evidence.proofs.Calling.{number-outcome}
 
 -- what the call that is lent tables tells, as a number
-pub number-told : (r : Answered) (o : Outcome) → tellAnswered r ≡ tellAnswered (told o) → tellAnswered r .number ≡ numberIn o
-unfolding told numberIn
+pub number-told : (r : Answered) (o : Outcome) → tellAnswered r ≡ tellAnswered (answerTold o) → tellAnswered r .number ≡ numberIn o
+unfolding answerTold numberIn
 number-told r (refused x) h = ap (λ (t : Told). t .number) h
 number-told r (answered w all l) h = ap (λ (t : Told). t .number) h
 

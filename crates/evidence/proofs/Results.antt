@@ -17,7 +17,7 @@ use Rattle.store.specs.Accessor.{tellFound}
 use Rattle.store.specs.declared.accessor.Found.{Found}
 use Rattle.store.specs.declared.accessor.Found.the-variants as found
 use Rattle.store.specs.declared.element.Element.{Element}
-use Rattle.pages.specs.Answer.{Outcome, refused, answered, numberIn, told, rowsAfter, rangesAfter, answerOf, Gives, Answers, outputAfter as answerAfter, knowledgeNumbers}
+use Rattle.pages.specs.Answer.{Outcome, refused, answered, numberIn, answerTold, rowsAfter, rangesAfter, answerOf, Gives, Answers, outputAfter as answerAfter, knowledgeNumbers}
 use Rattle.pages.specs.Cases.{Sends}
 use Rattle.pages.specs.declared.answer.Answered.{Answered}
 use Rattle.pages.specs.declared.answer.Answered.the-variants.{Sent, Refused}
@@ -91,7 +91,7 @@ module _ (s q : List ℕ) (r : Answered) (rows rows′ ranges ranges′ out out�
       (Why s q (length rows) (length ranges) (length out))
 
   answer-by : (o : Outcome) → answerOf s q (length rows) (length ranges) (length out) ≡ o → Gives o r rows rows′ ranges ranges′ out out′ → AnswerComes
-  unfolding told rowsAfter rangesAfter answerAfter
+  unfolding answerTold rowsAfter rangesAfter answerAfter
   answer-by (refused x) e h =
       let y = refused-why s q (length rows) (length ranges) (length out) x e in
       refuses x (answer-telling r (Refused x) (h .0), why-fault s q (length rows) (length ranges) (length out) x y, h .1, h .2, h .3) y
@@ -191,7 +191,7 @@ pub export-kept : (inputs : List (List ℕ)) (Given : Type 0) (Reason : Refusal 
     × ((number ≡ 0 → ⊥) → out′ ≡ out)
 export-kept inputs Given Reason number out out′ report report′ (gives (e, g) none) = (inl (e, g), λ x w. absurd (none x w), λ z. absurd (z e))
 export-kept inputs Given Reason number out out′ report report′ (refuses x (e, f, u, t) w one) = (
-  inr (record { refusal = x; number-is = e; fault = f; reason = w; told = t }),
+  inr (record { refusal = x; number-is = e; fault = f; reason = w; answerTold = t }),
   λ y v. rw (← one y v) (e, t),
   λ z. u,
 )

@@ -34,7 +34,7 @@ use Rattle.report.specs.Report.{threeNumbers}
 use Rattle.hub.specs.Bench.{wroteReport, HubAsks, reportAfter, HubReads}
 use Rattle.evidence.specs.Calling.{reportNumber, GivesAnswer, exported}
 use Rattle.evidence.specs.Talk.{AnsweredAsk, Talk, rangesIn}
-use Rattle.evidence.specs.Bench.{filtersIn, knowsBy, Turn, BenchTalk}
+use Rattle.evidence.specs.Bench.{filtersIn, knowsBy, Exchange, BenchTalk}
 use Rattle.evidence.proofs.Refusals.{request-written}
 use Rattle.evidence.proofs.Calling.{read-within}
 use Rattle.evidence.proofs.DemandTwo.{DemandTwo, demand-two}
@@ -50,7 +50,7 @@ pub record AskReads (id limit : ℕ) (f k q : List ℕ) : Type 0 where
 
 pub asks-read : (id limit : ℕ) (f k out out′ report report′ : List ℕ) → id < 2 ^ 64 → limit < 2 ^ 64 → 24 ≤ length report
     → HubAsks id limit f k 0 out out′ report report′ → AskReads id limit f k (take (reportNumber 2 report′) out′)
-unfolding askWrote ask.outputAfter wroteReport valueOf
+unfolding askWrote ask.askOutput wroteReport valueOf
 asks-read id limit f k out out′ report report′ hi hl room h =
     let w = askBytes id limit f k in
     let z = request-written id limit f k (length out) (askWrote id limit f k (length out)) refl (h .0) in
@@ -58,7 +58,7 @@ asks-read id limit f k out out′ report report′ hi hl room h =
     let a = filters-fine (filtersGiven f) _ n (z .1) in
     let b = knowledge-fine (knowledgeGiven k) _ n (a .3) in
     let c = room-enough (length out) w n (b .3) in
-    let output : out′ ≡ w ++ drop (length w) out = h .1 ∙ ap (λ (o : Wrote). ask.outputAfter o w out) (z .1) in
+    let output : out′ ≡ w ++ drop (length w) out = h .1 ∙ ap (λ (o : Wrote). ask.askOutput o w out) (z .1) in
     let told : report′ ≡ placed (threeNumbers 0 0 n) report = h .2 ∙ ap (λ (o : Wrote). placed (wroteReport o) report) (z .1) in
     let number : reportNumber 2 report′ ≡ n = rw told (three-numbers 0 0 n report room (omega arith) (omega arith) (omega arith) .2) in
     let is : take (reportNumber 2 report′) out′ ≡ w = rw (number, output) (take-at w (drop (length w) out) n (c .1)) in
@@ -106,7 +106,7 @@ pub record TurnTells (s f k w k′ : List ℕ) : Type 0 where
   pub held : DemandTwo s request room w
   pub next-is : k′ ≡ knowledgeBytes (rangesIn w)
 
-pub turn-tells : (s f k w k′ : List ℕ) → AllBytes s → AllBytes f → AllBytes k → Turn s f k w k′ → TurnTells s f k w k′
+pub turn-tells : (s f k w k′ : List ℕ) → AllBytes s → AllBytes f → AllBytes k → Exchange s f k w k′ → TurnTells s f k w k′
 turn-tells s f k w k′ bs bf bk t =
     let c = t .choice in
     let l = t .lends in
@@ -126,7 +126,7 @@ turn-tells s f k w k′ bs bf bk t =
       next-is = reads-knowledge s q (length (c .out)) w held (c .read-report) (t .read-report) k′ (l .read-report) (t .reads) (t .next);
     }
 
-module _ (s f k w k′ : List ℕ) (bs : AllBytes s) (bf : AllBytes f) (bk : AllBytes k) (t : Turn s f k w k′) where
+module _ (s f k w k′ : List ℕ) (bs : AllBytes s) (bf : AllBytes f) (bk : AllBytes k) (t : Exchange s f k w k′) where
   abbrev tells : TurnTells s f k w k′
   tells = turn-tells s f k w k′ bs bf bk t
 

@@ -52,7 +52,7 @@ pub record Lends (c : Choice) : Type 0 where
   pub read-report : 24 ≤ length (c .read-report)
 
 -- one turn on the store s with the filters f: the knowledge k is handed in, w is answered, and k′ is the knowledge that stands in it
-pub record Turn (s f k w k′ : List ℕ) : Type 0 where
+pub record Exchange (s f k w k′ : List ℕ) : Type 0 where
   pub choice : Choice
   pub lends : Lends choice
   -- the request: as many bytes of the output as the report says
@@ -70,7 +70,7 @@ pub record Turn (s f k w k′ : List ℕ) : Type 0 where
   pub next : k′ ≡ take (reportNumber 2 read-report) (drop (reportNumber 1 read-report) w)
 
 abbrev pub BenchTalk : List ℕ → List ℕ → List ℕ → List (List ℕ) → List ℕ → Type 0
-BenchTalk s f k answers k′ = Chain (Turn s f) k answers k′
+BenchTalk s f k answers k′ = Chain (Exchange s f) k answers k′
 
 -- the choices under which the turns of a talk were made
 abbrev pub choicesIn : {s f k k′ : List ℕ} {answers : List (List ℕ)} → BenchTalk s f k answers k′ → List Choice

@@ -9,7 +9,7 @@ use Rattle.laws.proofs.Cases.{impossible}
 use Rattle.numbers.specs.Refusals.{Told, refuses}
 use Rattle.numbers.specs.declared.refusal.Refusal.{Refusal}
 use Rattle.numbers.proofs.OneAnswers.{values-of}
-use Rattle.pages.specs.Answer.{Outcome, refused, answered, numberIn, tellAnswered, told, outputAfter, Answers, knowledgeNumbers}
+use Rattle.pages.specs.Answer.{Outcome, refused, answered, numberIn, tellAnswered, answerTold, outputAfter, Answers, knowledgeNumbers}
 use Rattle.pages.specs.declared.answer.Answered.{Answered}
 use Rattle.pages.specs.declared.answer.Answered.the-variants as answer
 use Rattle.report.specs.Report.{threeNumbers, refusalReport}
@@ -17,9 +17,9 @@ use Rattle.hub.specs.Call.{reportBytes, hubOutcome, HubAnswers}
 
 -- ---- what is told, as number and report
 
-pub sent-told : (o : Outcome) (n rows ranges : ℕ) → tellAnswered (answer.Sent n rows ranges) ≡ tellAnswered (told o)
+pub sent-told : (o : Outcome) (n rows ranges : ℕ) → tellAnswered (answer.Sent n rows ranges) ≡ tellAnswered (answerTold o)
     → (0 ≡ numberIn o) × (threeNumbers 0 0 n ≡ reportBytes o)
-unfolding told numberIn reportBytes
+unfolding answerTold numberIn reportBytes
 sent-told (refused r) n rows ranges e = let v = values-of _ _ e in impossible (cc)
 sent-told (answered w all l) n rows ranges e = let v = values-of _ _ e in let m : n ≡ length w = cc in (refl, ap (threeNumbers 0 0) m)
 
@@ -30,9 +30,9 @@ same-refusal r q e = (
   rw (ap (λ (t : Told). t .input) e, ap (λ (t : Told). t .place) e, ap (λ (t : Told). t .needed) e),
 )
 
-pub refused-told : (o : Outcome) (r : Refusal) → tellAnswered (answer.Refused r) ≡ tellAnswered (told o)
+pub refused-told : (o : Outcome) (r : Refusal) → tellAnswered (answer.Refused r) ≡ tellAnswered (answerTold o)
     → (r .number ≡ numberIn o) × (refusalReport r ≡ reportBytes o)
-unfolding told numberIn reportBytes
+unfolding answerTold numberIn reportBytes
 refused-told (refused q) r e = same-refusal r q e
 refused-told (answered w all l) r e = let v = values-of _ _ e in impossible (cc)
 
@@ -42,7 +42,7 @@ abbrev AnswersIn : List ℕ → List ℕ → Answered → List ℕ → List ℕ 
 AnswersIn s q r rows ranges out out′ = Answers s q r (replicate 1536 0) rows (replicate knowledgeNumbers 0) ranges out out′
 
 enough : (s q : List ℕ) (r : Answered) (rows ranges out out′ : List ℕ) → AnswersIn s q r rows ranges out out′
-    → (tellAnswered r ≡ tellAnswered (told (hubOutcome s q (length out)))) × (out′ ≡ outputAfter (hubOutcome s q (length out)) out)
+    → (tellAnswered r ≡ tellAnswered (answerTold (hubOutcome s q (length out)))) × (out′ ≡ outputAfter (hubOutcome s q (length out)) out)
 enough s q r rows ranges out out′ e =
     let f = rw (length-replicate {A = ℕ} 1536 0, length-replicate {A = ℕ} knowledgeNumbers 0) at e in
     (f .0, f .3)

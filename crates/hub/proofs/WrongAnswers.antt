@@ -19,7 +19,7 @@ use Rattle.request.specs.Message.{versions}
 use Rattle.pages.specs.Answer.{numberIn, onStore, outcome, answerOf}
 use Rattle.pages.specs.Written.{versionBytes}
 use Rattle.client.specs.AskWritten.{userAgentBytes, subRequestData, subRequestBytes, queryBytes, argumentData, argumentBytes, constraintBytes, askFront, askEnds, askBytes}
-use Rattle.client.specs.Ask.{noMore, filtersGiven, knowledgeOf, knowledgeGiven, writtenIn, judgedKnowledge, judgedFilters, askWrote, outputAfter}
+use Rattle.client.specs.Ask.{noMore, filtersGiven, knowledgeOf, knowledgeGiven, writtenIn, judgedKnowledge, judgedFilters, askWrote, askOutput}
 use Rattle.client.specs.Read.{responseStart, subResponse, changes, knowledgeIn, endsOf, restOf, answerEnd, answerOn, answerIn}
 use Rattle.client.specs.Accessor.{receivedAt}
 use Rattle.report.specs.Report.{numbersBytes}
@@ -47,7 +47,7 @@ taken-knowledge h = let z = h .0 in omega arith
 
 -- an output with no room for the request that is written to
 short-output-written : HubAsks 1 0xFFFFFFFFFFFFFFFF [] [] 14 (7 ∷ []) (0 ∷ []) [] [] → ⊥
-unfolding askWrote judgedFilters judgedKnowledge outputAfter filtersGiven noMore filtersFrom knowledgeGiven knowledgeOf valued finish nextIs headerAt headerOf sized startOf endOf le writtenIn askBytes askFront versionBytes userAgentBytes subRequestBytes subRequestData queryBytes argumentBytes argumentData constraintBytes askEnds startBytes longStart endBytes extendedGuidBytes compactBytes sizeOf formOf formFrom bytes
+unfolding askWrote judgedFilters judgedKnowledge askOutput filtersGiven noMore filtersFrom knowledgeGiven knowledgeOf valued finish nextIs headerAt headerOf sized startOf endOf le writtenIn askBytes askFront versionBytes userAgentBytes subRequestBytes subRequestData queryBytes argumentBytes argumentData constraintBytes askEnds startBytes longStart endBytes extendedGuidBytes compactBytes sizeOf formOf formFrom bytes
 short-output-written h = impossible (cc (h .1))
 
 -- ---- hub_read and hub_element, of no bytes

@@ -15,7 +15,7 @@ use Rattle.store.specs.Accessor.{foundIn, tellFound}
 use Rattle.store.specs.declared.accessor.Found.{Found}
 use Rattle.store.specs.declared.accessor.Found.the-variants as found
 use Rattle.client.specs.AskWritten.{askBytes}
-use Rattle.client.specs.Ask.{askWrote, outputAfter}
+use Rattle.client.specs.Ask.{askWrote, askOutput}
 use Rattle.client.specs.Read.{answerIn, receivedNumbers, tellReadAnswer}
 use Rattle.client.specs.Accessor.{receivedAt}
 use Rattle.client.specs.declared.answer.Received.{Received}
@@ -32,7 +32,7 @@ wroteReport (wrote.Refused r) = refusalReport r
 -- what is promised where writing the bytes w answers o
 abbrev pub HubWrites : Wrote → List ℕ → ℕ → List ℕ → List ℕ → List ℕ → List ℕ → Type 0
 HubWrites o w r out out′ report report′ =
-    (r ≡ tellWrote o .number) × (out′ ≡ outputAfter o w out) × (report′ ≡ placed (wroteReport o) report)
+    (r ≡ tellWrote o .number) × (out′ ≡ askOutput o w out) × (report′ ≡ placed (wroteReport o) report)
 
 abbrev pub HubAsks : ℕ → ℕ → List ℕ → List ℕ → ℕ → List ℕ → List ℕ → List ℕ → List ℕ → Type 0
 HubAsks id limit f k r out out′ report report′ =

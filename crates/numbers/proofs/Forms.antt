@@ -14,7 +14,7 @@ use borrow.Author.Tests.{eq-eqb, ne-eqb, lt-ltb, le-ltb}
 use Rattle.laws.specs.Bytes.{AllBytes, le, bytes}
 use Rattle.laws.proofs.Cases.{by-lt, by-eq}
 use Rattle.laws.proofs.Numbers.{shl-one, length-bytes}
-use Rattle.numbers.specs.Compact.{sizeOf, valueOf, formFrom, formOf, marked, compactBytes}
+use Rattle.numbers.specs.Compact.{sizeOf, compactValue, formFrom, formOf, marked, compactBytes}
 
 -- ---- how long a form is
 
@@ -33,8 +33,8 @@ pub size-pos : (k : ℕ) → 0 < sizeOf k
 size-pos k = by-eq k 7 (λ e. rw (size-long k e) (lit< tt)) (λ n. rw (size-short k n) (omega arith))
 
 -- the long form's first byte holds no bit of the value
-pub value-long : (s : List ℕ) → AllBytes s → valueOf 7 s ≡ le (take 8 (drop 1 s))
-unfolding valueOf sizeOf le
+pub value-long : (s : List ℕ) → AllBytes s → compactValue 7 s ≡ le (take 8 (drop 1 s))
+unfolding compactValue sizeOf le
 value-long [] h = refl
 value-long (b ∷ s) h = digits-div (le (take 8 s)) (h 0)
 

@@ -16,7 +16,7 @@ use Rattle.laws.proofs.Cases.{by-lt, by-eq, impossible}
 use Rattle.laws.proofs.Parts.{same-first, same-part}
 use Rattle.laws.proofs.Agreement.{Agree, agree-less}
 use Rattle.numbers.specs.Refusals.{fault}
-use Rattle.numbers.specs.Compact.{sizeOf, valueOf, readForm, formAt, readCompact}
+use Rattle.numbers.specs.Compact.{sizeOf, compactValue, readForm, formAt, readCompact}
 use Rattle.numbers.specs.Guid.{guidAt}
 use Rattle.numbers.specs.ExtendedGuid.{namedOf, shortForm, longForm, formOfId, readExtendedGuid}
 use Rattle.numbers.specs.Serial.{numbered, readSerial}
@@ -41,12 +41,12 @@ not-empty s t n p a e = omega (arith, a .long)
 -- ---- compact integers
 
 read-form-own : (k : ℕ) (s t : List ℕ) (v n : ℕ) (longer : Bool) → readForm k s ≡ Holds v n longer → Agree s t n → readForm k t ≡ Holds v n longer
-unfolding readForm valueOf
+unfolding readForm compactValue
 read-form-own k s t v n longer e a =
     by-lt (length s) (sizeOf k)
     (λ l. let x : form.Refused (fault 2) ≡ Holds v n longer = rw (lt-ltb _ _ l) at e in impossible (cc))
     (λ l.
-    let x : Holds (valueOf k s) (sizeOf k) (ltb (valueOf k s) (128 ^ k)) ≡ Holds v n longer = rw (le-ltb _ _ l) at e in
+    let x : Holds (compactValue k s) (sizeOf k) (ltb (compactValue k s) (128 ^ k)) ≡ Holds v n longer = rw (le-ltb _ _ l) at e in
     let q : sizeOf k ≡ n = cc in
     let w : take (sizeOf k) t ≡ take (sizeOf k) s = rw q (sym (a .same)) in
     let m : sizeOf k ≤ length t = rw q (a .long) in

@@ -19,7 +19,7 @@ use Rattle.laws.specs.Bytes.{AllBytes, le, bytes}
 use Rattle.laws.proofs.Cases.{by-lt, by-eq, impossible}
 use Rattle.laws.proofs.Numbers.{take-bytes, drop-bytes, le-lt, length-bytes, le-bytes, bytes-le, first-byte, low-byte}
 use Rattle.numbers.specs.Refusals.{fault}
-use Rattle.numbers.specs.Compact.{sizeOf, valueOf, readForm, formAt, strict, readCompact, formOf, marked, compactBytes}
+use Rattle.numbers.specs.Compact.{sizeOf, compactValue, readForm, formAt, strict, readCompact, formOf, marked, compactBytes}
 use Rattle.numbers.specs.declared.compact.Form.{Form}
 use Rattle.numbers.specs.declared.compact.Form.the-variants.{Holds}
 use Rattle.numbers.specs.declared.compact.Form.the-variants as form
@@ -31,7 +31,7 @@ use Rattle.numbers.proofs.Forms.{size-short, size-pos, form-is, form-of
 
 read-form-written : (k v : ℕ) (t : List ℕ) → marked k v < 256 ^ sizeOf k
     → readForm k (bytes (sizeOf k) (marked k v) ++ t) ≡ Holds v (sizeOf k) (ltb v (128 ^ k))
-unfolding readForm valueOf
+unfolding readForm compactValue
 read-form-written k v t b =
     let n = sizeOf k in
     let s = bytes n (marked k v) ++ t in
@@ -66,15 +66,15 @@ read-written v h t = rw (form-written v h t)
 -- ---- what is read is what is written for the value
 
 -- the number of a short form is below the next form's least value
-value-lt : (k : ℕ) (s : List ℕ) → AllBytes s → (k ≡ 7 → ⊥) → valueOf k s < 128 ^ suc k
-unfolding valueOf
+value-lt : (k : ℕ) (s : List ℕ) → AllBytes s → (k ≡ 7 → ⊥) → compactValue k s < 128 ^ suc k
+unfolding compactValue
 value-lt k s b n =
     let p : le (take (k + 1) s) < 256 ^ (k + 1) = le-lt (k + 1) (take (k + 1) s) (simp length-take (omega arith)) (take-bytes (k + 1) s b) in
     let q : 256 ^ (k + 1) ≡ 128 ^ suc k * 2 ^ (k + 1) = rw (pow-bytes (k + 1), add-one) in
     rw (size-short k n) (div-lt-iff-lt-mul (pow-pos (k + 1)) .1 (omega arith))
 
 -- what any form holds fits 64 bits
-value-fits : (k : ℕ) (s : List ℕ) → AllBytes s → k < 8 → valueOf k s < 2 ^ 64
+value-fits : (k : ℕ) (s : List ℕ) → AllBytes s → k < 8 → compactValue k s < 2 ^ 64
 value-fits k s b h =
     by-eq k 7
     (λ e. rw (e, value-long s b) (le-lt 8 (take 8 (drop 1 s)) (simp length-take (omega arith)) (take-bytes 8 (drop 1 s) (drop-bytes 1 s b))))
@@ -95,8 +95,8 @@ form-at-fits s v n longer b e =
     by-lt (length s) (sizeOf k)
     (λ l. let x : form.Refused (fault 2) ≡ Holds v n longer = rw (ne-eqb _ _ z, ne-eqb _ _ f, lt-ltb _ _ l) at e in impossible (cc))
     (λ l.
-    let x : Holds (valueOf k s) (sizeOf k) (ltb (valueOf k s) (128 ^ k)) ≡ Holds v n longer = rw (ne-eqb _ _ z, ne-eqb _ _ f, le-ltb _ _ l) at e in
-    let q : valueOf k s ≡ v = cc in
+    let x : Holds (compactValue k s) (sizeOf k) (ltb (compactValue k s) (128 ^ k)) ≡ Holds v n longer = rw (ne-eqb _ _ z, ne-eqb _ _ f, le-ltb _ _ l) at e in
+    let q : compactValue k s ≡ v = cc in
     rw (← q) (value-fits k s b (zeros-lt 8 (getD s 0 0) (b 0) f)))))
 
 pub strict-value : (f : Form) (v n : ℕ) → strict f ≡ Value v n → f ≡ Holds v n false
@@ -104,17 +104,17 @@ strict-value (Holds w m true) v n e = impossible (cc)
 strict-value (Holds w m false) v n e = cc
 strict-value (form.Refused r) v n e = impossible (cc)
 
-value-written : (s : List ℕ) (k : ℕ) → AllBytes s → k ≡ trailingZeros 8 (getD s 0 0) → k < 8 → sizeOf k ≤ length s → 128 ^ k ≤ valueOf k s
-    → take (sizeOf k) s ≡ compactBytes (valueOf k s)
-unfolding valueOf formOf
+value-written : (s : List ℕ) (k : ℕ) → AllBytes s → k ≡ trailingZeros 8 (getD s 0 0) → k < 8 → sizeOf k ≤ length s → 128 ^ k ≤ compactValue k s
+    → take (sizeOf k) s ≡ compactBytes (compactValue k s)
+unfolding compactValue formOf
 value-written s k b ek hk l m =
     let n = sizeOf k in
     let x = le (take n s) in
     let z : trailingZeros 8 x ≡ k = sym (zeros-mod 8 x) ∙ ap (trailingZeros 8) (low-byte n s b (size-pos k)) ∙ sym ek in
-    let low : x ≡ marked k (valueOf k s) = rw z at (zeros-low 8 x (rw z hk)) in
-    let f : formOf (valueOf k s) ≡ k = form-is 7 k (valueOf k s) (omega arith) (λ p. m) (λ p. value-lt k s b (λ e. omega arith)) in
+    let low : x ≡ marked k (compactValue k s) = rw z at (zeros-low 8 x (rw z hk)) in
+    let f : formOf (compactValue k s) ≡ k = form-is 7 k (compactValue k s) (omega arith) (λ p. m) (λ p. value-lt k s b (λ e. omega arith)) in
     let y : bytes n x ≡ take n s = rw (length-take-le n s l) at (bytes-le (take n s) (take-bytes n s b)) in
-    rw (compact-is (valueOf k s) (λ e. omega (arith, one-le-pow k 128 (lit< tt))), f, ← low) (sym y)
+    rw (compact-is (compactValue k s) (λ e. omega (arith, one-le-pow k 128 (lit< tt))), f, ← low) (sym y)
 
 form-read : (s : List ℕ) (k v n : ℕ) → AllBytes s → k ≡ trailingZeros 8 (getD s 0 0) → k < 8 → readForm k s ≡ Holds v n false
     → take n s ≡ compactBytes v
@@ -123,10 +123,10 @@ form-read s k v n b ek hk r =
     by-lt (length s) (sizeOf k)
     (λ l. let x : form.Refused (fault 2) ≡ Holds v n false = rw (lt-ltb _ _ l) at r in impossible (cc))
     (λ l.
-    let x : Holds (valueOf k s) (sizeOf k) (ltb (valueOf k s) (128 ^ k)) ≡ Holds v n false = rw (le-ltb _ _ l) at r in
-    let ev : valueOf k s ≡ v = cc in
+    let x : Holds (compactValue k s) (sizeOf k) (ltb (compactValue k s) (128 ^ k)) ≡ Holds v n false = rw (le-ltb _ _ l) at r in
+    let ev : compactValue k s ≡ v = cc in
     let en : sizeOf k ≡ n = cc in
-    let el : ltb (valueOf k s) (128 ^ k) ≡ false = cc in
+    let el : ltb (compactValue k s) (128 ^ k) ≡ false = cc in
     rw (← ev, ← en) (value-written s k b ek hk l (ltb-false _ _ el)))
 
 form-at-read : (s : List ℕ) (v n : ℕ) → AllBytes s → formAt s ≡ Holds v n false → take n s ≡ compactBytes v

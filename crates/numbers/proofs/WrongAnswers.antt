@@ -11,7 +11,7 @@ use Rattle.laws.specs.Bytes.{le, bytes, before}
 use Rattle.laws.proofs.Cases.{impossible}
 use Rattle.laws.specs.Placed.{placed}
 use Rattle.numbers.specs.Refusals.{Told, fault, tooShort}
-use Rattle.numbers.specs.Compact.{sizeOf, valueOf, readForm, formAt, readCompact, formFrom, formOf, marked, compactBytes}
+use Rattle.numbers.specs.Compact.{sizeOf, compactValue, readForm, formAt, readCompact, formFrom, formOf, marked, compactBytes}
 use Rattle.numbers.specs.Guid.{guidAt, guidBytes, taggedBytes, guidBefore}
 use Rattle.numbers.specs.ExtendedGuid.{namedOf, shortForm, formOfId, readExtendedGuid, shortBytes, namedBytes, extendedGuidBytes}
 use Rattle.numbers.specs.Serial.{numbered, readSerial, serialBytes}
@@ -35,12 +35,12 @@ nothing = record { low = 0; high = 0 }
 
 -- `02 00` is not 0: a shorter form would do
 padded-taken : ReadsCompact (0x02 ∷ 0x00 ∷ []) (compact.Value 0 2) → ⊥
-unfolding single readCompact formAt readForm valueOf sizeOf le trailingZeros
+unfolding single readCompact formAt readForm compactValue sizeOf le trailingZeros
 padded-taken h = let z : _≡_ {A = ℕ} 0 3 = ap (λ (t : Told). t .number) h in omega arith
 
 -- `01` is whole: not 2
 whole-cut : ReadsCompact (0x01 ∷ []) (compact.Refused (fault 2)) → ⊥
-unfolding single readCompact formAt readForm valueOf sizeOf le trailingZeros
+unfolding single readCompact formAt readForm compactValue sizeOf le trailingZeros
 whole-cut h = let z : _≡_ {A = ℕ} 2 3 = ap (λ (t : Told). t .number) h in omega arith
 
 -- ---- write_compact
@@ -111,12 +111,12 @@ null-of-two h = let z = h .1 in let y : _≡_ {A = ℕ} 0 9 = cc in omega arith
 
 -- the two bytes `02 00` are longer than needed
 not-longer : formAt (0x02 ∷ 0x00 ∷ []) ≡ form.Holds 0 2 false → ⊥
-unfolding formAt readForm valueOf sizeOf le trailingZeros
+unfolding formAt readForm compactValue sizeOf le trailingZeros
 not-longer h = impossible (cc)
 
 -- `80` alone is cut
 cut-holds : formAt (0x80 ∷ []) ≡ form.Holds 0 1 true → ⊥
-unfolding formAt readForm valueOf sizeOf le trailingZeros
+unfolding formAt readForm compactValue sizeOf le trailingZeros
 cut-holds h = impossible (cc)
 
 -- ---- the order of GUIDs, by which ranges stand

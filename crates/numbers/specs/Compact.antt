@@ -22,15 +22,15 @@ unfoldable pub sizeOf : ℕ → ℕ
 sizeOf k = pick (eqb k 7) 9 (k + 1)
 
 -- the value of an item of form k at the front of s: the number without its k + 1 low bits
-unfoldable pub valueOf : ℕ → List ℕ → ℕ
-valueOf k s = le (take (sizeOf k) s) / 2 ^ (k + 1)
+unfoldable pub compactValue : ℕ → List ℕ → ℕ
+compactValue k s = le (take (sizeOf k) s) / 2 ^ (k + 1)
 
 -- form k: 2 where it runs past the end; else the value, the bytes used, and whether a shorter form would do (the table's
 -- column 'range' starts at 128 ^ k)
 unfoldable pub readForm : ℕ → List ℕ → Form
 readForm k s =
     pick (ltb (length s) (sizeOf k)) (form.Refused (fault 2))
-    (Holds (valueOf k s) (sizeOf k) (ltb (valueOf k s) (128 ^ k)))
+    (Holds (compactValue k s) (sizeOf k) (ltb (compactValue k s) (128 ^ k)))
 
 -- what the form at the front of s says by itself
 unfoldable pub formAt : List ℕ → Form

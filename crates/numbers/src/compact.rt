@@ -4,7 +4,7 @@ ghost use mathlib.Core.List.{_++_, [], _∷_};
 ghost use Prim.Native.Nat.{_+_, _*_, _^_, _≤_, _<_};
 ghost use lib.ListN.{length, drop};
 ghost use Rattle.laws.specs.Bytes.{bytes};
-ghost use Rattle.numbers.specs.Compact.{sizeOf, valueOf, readForm, formAt, readCompact, formOf, marked, compactBytes};
+ghost use Rattle.numbers.specs.Compact.{sizeOf, compactValue, readForm, formAt, readCompact, formOf, marked, compactBytes};
 ghost use Rattle.numbers.specs.Calls.{ReadsCompact, Writes, WritesCompact};
 use crate::bytes::put_le;
 use crate::bytes::read_le;
@@ -37,7 +37,7 @@ fn size_of(k: usize) -> usize
 
 fn value_of(s: &[u8], k: usize) -> u64
     requires { ⌜ (k ≤ 7) × (sizeOf k ≤ length (now s)) ⌝ }
-    ensures { λ r. ⌜ r ≡ valueOf k (now (s .entry)) ⌝ }
+    ensures { λ r. ⌜ r ≡ compactValue k (now (s .entry)) ⌝ }
 {
     if k == 7 {
         return read_le(&s[1..], 8);

@@ -20,6 +20,16 @@ use numbers::refusal::at_place;
 // Nothing is open: no object has this type (proofs/Types).
 pub const NOTHING: u64 = 0xFFFF;
 
+// The compound bit of a start: there are objects inside, or there are none.
+pub const COMPOUND: bool = true;
+
+pub const PLAIN: bool = false;
+
+// Whether the layout has room for one more such object: without it, 9.
+pub const ROOM: bool = true;
+
+pub const NO_ROOM: bool = false;
+
 // The place where the data begins, with its length as the number.
 fn length_to(s: &[u8], at: usize, n: u64) -> Reading
     ensures { λ r. ⌜ r ≡ lengthTo (lengthAt (now (s .entry)) at n) ⌝ }

@@ -21,7 +21,7 @@ use Rattle.pages.specs.Choice.{wantedIn, storageIndex, rangesWith, store
 use Rattle.pages.specs.Decision.{decision}
 use Rattle.pages.specs.Written.{answerBytes}
 use Rattle.pages.specs.Tables.{takenIn, fixedLength, StoreHeld, chosenIn, tableMeasure, Decides}
-use Rattle.pages.specs.Answer.{Ask, pageRanges, pageBytes, pageMeasure, onDecided, pageDecided, pageOutcome, knownIn, told, rowsAfter, rangesAfter, outputAfter, Gives}
+use Rattle.pages.specs.Answer.{Ask, pageRanges, pageBytes, pageMeasure, onDecided, pageDecided, pageOutcome, knownIn, answerTold, rowsAfter, rangesAfter, outputAfter, Gives}
 use Rattle.pages.specs.Held.{RequestHeld, askIn, wantedFlags, boundsFor, knownAfter, PageSent}
 use Rattle.pages.specs.declared.page.Decided.{Decided}
 use Rattle.pages.specs.declared.page.Decided.the-variants.{Sent, Crowded, Short}
@@ -74,12 +74,12 @@ module _ (s q : List ℕ) (a : Asked) (rows ids known : List ℕ) (n : ℕ) (h :
   module _ (out rows₀ ranges₀ : List ℕ) where
     pub page-crowded : (d : Decided) → d ≡ Crowded → d ≡ pageDecided ask (length out)
         → Gives (pageOutcome ask (length out)) (answer.Refused (faultAt 9 0)) rows₀ rows₀ ranges₀ ranges₀ out out
-    unfolding pageOutcome onDecided told rowsAfter rangesAfter outputAfter
+    unfolding pageOutcome onDecided answerTold rowsAfter rangesAfter outputAfter
     page-crowded d e f = rw (← f, e) (refl, refl, refl, refl)
 
     pub page-short : (d : Decided) (needed : ℕ) → d ≡ Short needed → d ≡ pageDecided ask (length out)
         → Gives (pageOutcome ask (length out)) (answer.Refused (tooShort needed)) rows₀ rows₀ ranges₀ ranges₀ out out
-    unfolding pageOutcome onDecided told rowsAfter rangesAfter outputAfter
+    unfolding pageOutcome onDecided answerTold rowsAfter rangesAfter outputAfter
     page-short d needed e f = rw (← f, e) (refl, refl, refl, refl)
 
     -- the page of k is sent: what is written is its answer, and it fits
@@ -123,7 +123,7 @@ module _ (s q : List ℕ) (a : Asked) (rows ids known : List ℕ) (n : ℕ) (h :
       pub page-sent : (rows′ ranges′ out′ : List ℕ)
           → PageSent (answerBytes s (a .id) (storageIndex (storeWalk s .elements)) (take k w) more (rangesAt t 0 count)) rows n t count out out′ rows₀ rows′ ranges₀ ranges′
           → Gives (pageOutcome ask (length out)) (answer.Sent whole n count) rows₀ rows′ ranges₀ ranges′ out out′
-      unfolding pageOutcome onDecided told rowsAfter rangesAfter outputAfter
+      unfolding pageOutcome onDecided answerTold rowsAfter rangesAfter outputAfter
       page-sent rows′ ranges′ out′ l =
           rw (← f, e) (
             rw (← whole-is, ← count-is, h .count),

@@ -16,7 +16,7 @@ use Rattle.talk.proofs.Insertion.{normal-insert}
 use Rattle.ranges.specs.Ranged.{rangeOf}
 use Rattle.ranges.specs.RangeTable.{FirstNotBefore, rangeAt, rangesAt, numbersOf, laidRanges, laidIn}
 use Rattle.store.specs.KnowledgeWritten.{rangeBytes, rangesBytes}
-use Rattle.store.specs.Written.{guidOf}
+use Rattle.store.specs.Written.{keyGuid}
 use Rattle.store.specs.declared.element.Element.{Element}
 use Rattle.store.proofs.KnowledgeFits.{range-fits}
 use Rattle.ranges.proofs.OneAnswers.{rows-before-one}
@@ -142,7 +142,7 @@ unfolding rangesWith serialRange
 fit-with [] l h f = f
 fit-with (x ∷ xs) l h f =
     fit-with xs (insert (serialRange x) l) (h .1)
-    (insert-fits (serialRange x) l (range-fits (guidOf (x .serial)) (x .serial .number) (x .serial .number) (h .0) (h .0)) f)
+    (insert-fits (serialRange x) l (range-fits (keyGuid (x .serial)) (x .serial .number) (x .serial .number) (h .0) (h .0)) f)
 
 -- the table's rows hold the ranges
 pub rows-laid : (xs : List Element) (l : List Range) (t : List ℕ) → rangesAt t 0 (length l) ≡ l

@@ -17,7 +17,7 @@ use Rattle.numbers.specs.declared.extended_guid.ExtendedGuid.the-variants.{Null
 use Rattle.talk.specs.Ranges.{range, within, holds, insert}
 use Rattle.talk.specs.declared.range.Range.{Range}
 use Rattle.ranges.specs.Ranged.{rangeOf, knows}
-use Rattle.store.specs.KnowledgeWritten.{guidOf, rangeBytes, rangesBytes}
+use Rattle.store.specs.KnowledgeWritten.{rangeGuid, rangeBytes, rangesBytes}
 use Rattle.store.proofs.KnowledgeLengths.{length-range}
 use Rattle.ranges.specs.RangeTable.{rangesAt}
 use Rattle.store.specs.declared.element.Key.{Key}
@@ -27,7 +27,7 @@ use Rattle.pages.specs.Choice.{isKnown, serialRange, rangesWith, storedL
 use Rattle.pages.specs.Decision.{isSendable, decision}
 use Rattle.pages.specs.Written.{changesData, subResponseData, partialByte}
 use Rattle.pages.specs.Tables.{wholeOf, fixedLength, Priced, Decides}
-use Rattle.pages.specs.Answer.{rangeRows, answerOf, told, rowsAfter, Answers}
+use Rattle.pages.specs.Answer.{rangeRows, answerOf, answerTold, rowsAfter, Answers}
 use Rattle.pages.specs.declared.price.Price.{Price}
 use Rattle.pages.specs.declared.page.Bounds.{Bounds}
 use Rattle.pages.specs.declared.page.Decided.{Decided}
@@ -146,11 +146,11 @@ ends-twice h = omega arith
 -- ---- copy_ranges: the GUID's halves as the working table has them; the halves turned
 
 bytes-turned : 1 ∷ 0 ∷ 7 ∷ 9 ∷ [] ≡ rangeRows (range 1 0 7 9 ∷ []) → ⊥
-unfolding rangeRows guidOf swapped be bytes
+unfolding rangeRows rangeGuid swapped be bytes
 bytes-turned h = impossible (cc)
 
 halves-turned : 0 ∷ 0x0100000000000000 ∷ 7 ∷ 9 ∷ [] ≡ rangeRows (range 1 0 7 9 ∷ []) → ⊥
-unfolding rangeRows guidOf swapped be bytes
+unfolding rangeRows rangeGuid swapped be bytes
 halves-turned h = impossible (cc)
 
 -- ---- write_answer, part by part: a partial answer not marked; another type of sub-request named
@@ -166,7 +166,7 @@ put-named h = let z : _≡_ {A = ℕ} 0x0B 5 = ap (λ (l : List ℕ). getD l 1 0
 -- ---- answer: with a table too short, the store's fault before 13; a number of a table put to 0
 
 fault-first : Answers [] [] (answer.Refused (faultAt 2 0)) (7 ∷ []) (7 ∷ []) [] [] [] [] → ⊥
-unfolding answerOf told
+unfolding answerOf answerTold
 fault-first h = let z : _≡_ {A = ℕ} 2 13 = ap (λ t. t .number) (h .0) in omega arith
 
 table-cleared : Answers [] [] (answer.Refused (faultAt 13 0)) (7 ∷ []) (0 ∷ []) [] [] [] [] → ⊥

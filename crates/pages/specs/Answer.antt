@@ -13,7 +13,7 @@ use Rattle.objects.specs.declared.reading.Reading.{Reading}
 use Rattle.objects.specs.declared.reading.Reading.the-variants as reading
 use Rattle.talk.specs.declared.range.Range.{Range}
 use Rattle.ranges.specs.RangeTable.{rangeWidth}
-use Rattle.store.specs.KnowledgeWritten.{guidOf}
+use Rattle.store.specs.KnowledgeWritten.{rangeGuid}
 use Rattle.store.specs.Store.{storeWalk}
 use Rattle.store.specs.Tables.{rowWidth, rowNumbers, rowsOf}
 use Rattle.store.specs.declared.element.Element.{Element}
@@ -130,16 +130,16 @@ abbrev pub tellAnswered : Answered → Told
 tellAnswered (answer.Sent n rows ranges) = gives (n ∷ rows ∷ ranges ∷ [])
 tellAnswered (answer.Refused r) = refuses r
 
-unfoldable pub told : Outcome → Answered
-told (refused r) = answer.Refused r
-told (answered w all l) = answer.Sent (length w) (length all) (length l)
+unfoldable pub answerTold : Outcome → Answered
+answerTold (refused r) = answer.Refused r
+answerTold (answered w all l) = answer.Sent (length w) (length all) (length l)
 
 -- ---- and what the lent buffers then hold: "Later rows, and output past the answer, keep their contents"; on a refusal "Output and
 -- tables stay as they were"
 
 -- "the knowledge table a row per range of the answer (GUID as two little-endian numbers, from, to)"
 abbrev pub rangeRow : Range → List ℕ
-rangeRow x = guidOf x .low ∷ guidOf x .high ∷ x .from ∷ x .to ∷ []
+rangeRow x = rangeGuid x .low ∷ rangeGuid x .high ∷ x .from ∷ x .to ∷ []
 
 unfoldable pub rangeRows : List Range → List ℕ
 rangeRows [] = []
@@ -161,7 +161,7 @@ outputAfter (answered w all l) out = w ++ drop (length w) out
 -- what is promised where the outcome is o: the answer, both tables and the output at exit
 abbrev pub Gives : Outcome → Answered → List ℕ → List ℕ → List ℕ → List ℕ → List ℕ → List ℕ → Type 0
 Gives o r rows rows′ ranges ranges′ out out′ =
-    (tellAnswered r ≡ tellAnswered (told o)) × (rows′ ≡ rowsAfter o rows) × (ranges′ ≡ rangesAfter o ranges) × (out′ ≡ outputAfter o out)
+    (tellAnswered r ≡ tellAnswered (answerTold o)) × (rows′ ≡ rowsAfter o rows) × (ranges′ ≡ rangesAfter o ranges) × (out′ ≡ outputAfter o out)
 
 -- what the answering call promises
 abbrev pub Answers : List ℕ → List ℕ → Answered → List ℕ → List ℕ → List ℕ → List ℕ → List ℕ → List ℕ → Type 0

@@ -11,7 +11,7 @@ use Rattle.numbers.specs.declared.extended_guid.ExtendedGuid.the-variants.{Null
 use Rattle.talk.specs.Ranges.{insert}
 use Rattle.talk.specs.Wanted.{wanted}
 use Rattle.talk.specs.declared.range.Range.{Range}
-use Rattle.store.specs.Written.{guidOf}
+use Rattle.store.specs.Written.{keyGuid}
 use Rattle.ranges.specs.Ranged.{rangeOf, knows}
 use Rattle.store.specs.declared.element.Key.{Key}
 use Rattle.store.specs.declared.element.Element.{Element}
@@ -19,7 +19,7 @@ use Rattle.request.specs.Meaning.{Filter, leftIn}
 
 -- whether the ranges hold a serial number, and whether that of an element
 abbrev pub knowsKey : List Range → Key → Bool
-knowsKey l k = knows l (guidOf k) (k .number)
+knowsKey l k = knows l (keyGuid k) (k .number)
 
 unfoldable pub isKnown : List Range → Element → Bool
 isKnown l x = knowsKey l (x .serial)
@@ -30,7 +30,7 @@ wantedIn fs l all = wanted (λ (x : Element). x .serial) (λ (x : Element). left
 
 -- an element's serial number as a range
 unfoldable pub serialRange : Element → Range
-serialRange x = rangeOf (guidOf (x .serial)) (x .serial .number) (x .serial .number)
+serialRange x = rangeOf (keyGuid (x .serial)) (x .serial .number) (x .serial .number)
 
 -- the ranges with the serial numbers of some elements, one after the other (D-20)
 unfoldable pub rangesWith : List Range → List Element → List Range
@@ -45,4 +45,4 @@ storedLength (x ∷ xs) = x .length + storedLength xs
 -- "the extended GUID of the first element of type 1 in the store (null if none)"
 unfoldable pub storageIndex : List Element → ExtendedGuid
 storageIndex [] = Null
-storageIndex (x ∷ xs) = pick (eqb (x .kind) 1) (Named (guidOf (x .id)) (x .id .number)) (storageIndex xs)
+storageIndex (x ∷ xs) = pick (eqb (x .kind) 1) (Named (keyGuid (x .id)) (x .id .number)) (storageIndex xs)

@@ -9,7 +9,7 @@ ghost use Rattle.store.specs.Knowledge.{mostSaid};
 ghost use Rattle.store.specs.KnowledgeWritten.{rangesBytes};
 ghost use Rattle.pages.specs.Choice.{serialRange};
 ghost use Rattle.pages.specs.Tables.{Priced};
-use crate::wanted::guid_of;
+use crate::wanted::key_guid;
 use ranges::gather;
 use ranges::range_of;
 use ranges::rows_before;
@@ -32,7 +32,7 @@ pub(crate) fn serial_range(x: Element) -> Range
     ensures { λ r. ⌜ r ≡ serialRange x ⌝ }
 {
     let serial = x.serial;
-    range_of(guid_of(serial), serial.number, serial.number)
+    range_of(key_guid(serial), serial.number, serial.number)
 }
 
 // The price of x, where the first `count` rows take `spelled` bytes. Ruled out (proofs/WrongAnswers), in an empty table: no row

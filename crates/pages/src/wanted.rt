@@ -4,7 +4,7 @@ ghost use Prim.Native.Nat.{ℕ, _+_, _*_, _^_, _≤_, _<_};
 ghost use lib.ListN.{length};
 ghost use Rattle.numbers.specs.declared.extended_guid.ExtendedGuid.the-variants.{Named};
 ghost use Rattle.ranges.specs.RangeTable.{rangesAt, RangesStand};
-ghost use Rattle.store.specs.Written.{guidOf};
+ghost use Rattle.store.specs.Written.{keyGuid};
 ghost use Rattle.store.specs.Tables.{RowsStand, elementInRow, elementsIn};
 ghost use Rattle.request.specs.Choice.{setFlags};
 ghost use Rattle.pages.specs.Choice.{isKnown, storageIndex};
@@ -18,8 +18,8 @@ use store::table::element_in_row;
 // The type of a storage index.
 pub const STORAGE_INDEX: u64 = 1;
 
-pub(crate) fn guid_of(k: Key) -> Guid
-    ensures { λ r. ⌜ r ≡ guidOf k ⌝ }
+pub(crate) fn key_guid(k: Key) -> Guid
+    ensures { λ r. ⌜ r ≡ keyGuid k ⌝ }
 {
     Guid {
         low: k.low,
@@ -33,7 +33,7 @@ fn knows_element(table: &[u64], count: usize, x: Element) -> bool
     ensures { λ r. ⌜ r ≡ isKnown (rangesAt (now (table .entry)) 0 count) x ⌝ }
 {
     let serial = x.serial;
-    is_known(table, count, guid_of(serial), serial.number)
+    is_known(table, count, key_guid(serial), serial.number)
 }
 
 // The flag of each of n elements whose serial number is known is put to 0. Ruled out (proofs/WrongAnswers): a known one that stays
@@ -61,9 +61,9 @@ pub(crate) fn clear_known(
 // An id as an extended GUID.
 fn named(k: Key) -> ExtendedGuid
     requires { ⌜ k .number < 2 ^ 32 ⌝ }
-    ensures { λ r. ⌜ r ≡ Named (guidOf k) (k .number) ⌝ }
+    ensures { λ r. ⌜ r ≡ Named (keyGuid k) (k .number) ⌝ }
 {
-    ExtendedGuid::Named(guid_of(k), k.number as u32)
+    ExtendedGuid::Named(key_guid(k), k.number as u32)
 }
 
 // The id of the first of n elements that is a storage index; null if none is. Ruled out (proofs/WrongAnswers): null though there is

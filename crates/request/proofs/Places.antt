@@ -20,7 +20,7 @@ use Rattle.objects.proofs.InputFaults.{InputFault, input-fault}
 use Rattle.store.specs.Knowledge.{mostSaid, Knowing}
 use Rattle.store.proofs.KnowledgeHeld.{onward-knowledge}
 use Rattle.request.specs.Filter.{filterFields, oneNumber, typePart, idsField, idsPart, kindPart, filterStart, filterKind, filterOpened, filterAt, filtersFrom}
-use Rattle.request.specs.Message.{versions, requestSignature, userAgent, subRequestFields, subRequest, queryChanges, argumentFields, arguments, constraint, knowledgePart, packagePart, identified, constrainedFrom, constrained, filtered, ended, requestKnowing, inRequest, requestAnswer, requestIn}
+use Rattle.request.specs.Message.{versions, requestSignature, userAgent, subRequestFields, subRequest, queryChanges, argumentFields, arguments, constraint, knowledgePart, packagePart, identified, constrainedFrom, constrained, filtered, requestEnd, requestKnowing, inRequest, requestAnswer, requestIn}
 use Rattle.request.specs.declared.message.Request.the-variants as request
 use Rattle.request.proofs.Inside.{good-one-number, good-sub-request-fields, good-argument-fields, good-filter-fields, good-ids-field}
 
@@ -91,8 +91,8 @@ unfolding packagePart
 good-package-part s c g =
     pick-all (Good s) (nextIs s 0x15 c) _ _ (λ e. onward-inside s 14 0x15 _ .good (onward-skip s 1 _ .good (onward-start-of-length s 0x40 0x15 true true 1 c .good g))) (λ e. g)
 
-good-ended : (s : List ℕ) (c : Reading) → Good s c → Good s (ended s c)
-unfolding ended
+good-ended : (s : List ℕ) (c : Reading) → Good s c → Good s (requestEnd s c)
+unfolding requestEnd
 good-ended s c g = onward-finish s _ .good (onward-end s 0x40 _ .good (good-package-part s _ (onward-end s 0x42 c .good g)))
 
 -- ---- the whole
@@ -108,16 +108,16 @@ answer-fault (At e v) a b p n m r h = impossible (cc)
 answer-fault (Refused q) a b p n m r h = (q, refl, cc)
 
 -- an over-long request is refused to the end
-over-ended : (s : List ℕ) → ended s (Refused overLong) ≡ Refused overLong
-unfolding ended endHere packagePart nextIs finish
+over-ended : (s : List ℕ) → requestEnd s (Refused overLong) ≡ Refused overLong
+unfolding requestEnd endHere packagePart nextIs finish
 over-ended s = refl
 
 pub request-fault : (s t : List ℕ) (r : Refusal) → requestIn s t ≡ request.Refused r → (q : Refusal) × (r ≡ inRequest q) × InputFault longestInput s q
 unfolding requestIn requestKnowing
 request-fault s t r h =
     let c = knowledgePart s t (filtered s) .last in
-    let (q, e, i) = answer-fault (ended s (requestKnowing s t .last)) _ _ _ _ _ r h in
+    let (q, e, i) = answer-fault (requestEnd s (requestKnowing s t .last)) _ _ _ _ _ r h in
     let g = good-ended s c (good-knowledge-part s t (filtered s) (good-filtered s)) in
-    let f = input-fault longestInput s (ended s (requestKnowing s t .last)) (ended s c) q (λ l. rw (lt-ltb longestInput (length s) l) (over-ended s))
+    let f = input-fault longestInput s (requestEnd s (requestKnowing s t .last)) (requestEnd s c) q (λ l. rw (lt-ltb longestInput (length s) l) (over-ended s))
     (λ l. rw (le-ltb longestInput (length s) l)) g e in
     (q, i, f)

@@ -22,7 +22,7 @@ use Rattle.store.proofs.KnowledgeHeld.{Held, knowledge-held}
 use Rattle.store.proofs.TableFree.{Alike, table-free}
 use Rattle.request.specs.Filter.{filterOpened, filterAt, filtersFrom}
 use Rattle.request.specs.Meaning.{filterRead, filtersRead}
-use Rattle.request.specs.Message.{knowledgePart, packagePart, identified, constrained, filtered, ended, requestKnowing, inRequest, requestAnswer, onKnowledge, rowsKnown, requestIn, filtersOf, ReadsRequest}
+use Rattle.request.specs.Message.{knowledgePart, packagePart, identified, constrained, filtered, requestEnd, requestKnowing, inRequest, requestAnswer, onKnowledge, rowsKnown, requestIn, filtersOf, ReadsRequest}
 use Rattle.request.specs.declared.message.Request.{Request}
 use Rattle.request.specs.declared.message.Request.the-variants as request
 
@@ -30,7 +30,7 @@ use Rattle.request.specs.declared.message.Request.the-variants as reques
 
 -- "An over-long input gives 1 before its other faults", and nothing is written
 pub over-long-read : (s t : List ℕ) → longestInput < length s → ReadsRequest s t (request.Refused (inRequest overLong)) t
-unfolding requestKnowing requestIn ended endHere packagePart nextIs finish requestAnswer rangesAt Normal
+unfolding requestKnowing requestIn requestEnd endHere packagePart nextIs finish requestAnswer rangesAt Normal
 over-long-read s t h = rw (lt-ltb _ _ h) (refl, refl, refl, tt)
 
 -- ---- read through to its end
@@ -38,13 +38,13 @@ over-long-read s t h = rw (lt-ltb _ _ h) (refl, refl, refl, tt)
 -- the code goes on from what reading the knowledge answered
 abbrev pub answered : List ℕ → ReadKnowledge → Request
 answered s k =
-    requestAnswer (ended s (onKnowledge k)) (valueOf (identified s)) (valueOf (constrained s)) (placeOf (constrained s)) (valueOf (filtered s)) (rowsKnown k)
+    requestAnswer (requestEnd s (onKnowledge k)) (valueOf (identified s)) (valueOf (constrained s)) (placeOf (constrained s)) (valueOf (filtered s)) (rowsKnown k)
 
 -- which is where the knowledge ended
 answered-is : (s : List ℕ) (n : ℕ) (c : Reading)
     → answered s (knowledgeAnswer n c)
-    ≡ requestAnswer (ended s c) (valueOf (identified s)) (valueOf (constrained s)) (placeOf (constrained s)) (valueOf (filtered s)) n
-unfolding knowledgeAnswer onKnowledge rowsKnown ended endHere packagePart nextIs finish requestAnswer
+    ≡ requestAnswer (requestEnd s c) (valueOf (identified s)) (valueOf (constrained s)) (placeOf (constrained s)) (valueOf (filtered s)) n
+unfolding knowledgeAnswer onKnowledge rowsKnown requestEnd endHere packagePart nextIs finish requestAnswer
 answered-is s n (At e v) = refl
 answered-is s n (Refused r) = refl
 
@@ -109,7 +109,7 @@ module _ (s t : List ℕ) (a b p n m : ℕ) (h : requestIn s t ≡ request.Asked
   told-parts : (placeOf (constrained s) ≡ p) × (valueOf (filtered s) ≡ n) × (length (requestKnowing s t .ranges) ≡ m) × (valueOf (identified s) ≡ a)
   unfolding requestIn
   told-parts =
-      asked-parts (ended s (requestKnowing s t .last)) (valueOf (identified s)) (valueOf (constrained s)) (placeOf (constrained s)) (valueOf (filtered s)) (length (requestKnowing s t .ranges)) a b p n m h
+      asked-parts (requestEnd s (requestKnowing s t .last)) (valueOf (identified s)) (valueOf (constrained s)) (placeOf (constrained s)) (valueOf (filtered s)) (length (requestKnowing s t .ranges)) a b p n m h
 
   -- the filters that stand at the place that is told, as many as are told, are those of the request
   pub asked-filters : filtersRead n s (At p 0) ≡ filtersOf s

@@ -89,8 +89,8 @@ abbrev pub filtersOf : List ℕ → List Filter
 filtersOf s = filtersRead (valueOf (filtered s)) s (constrained s)
 
 -- "knowledge; ends; package, passed over": "After the last end any byte is 5"
-unfoldable pub ended : List ℕ → Reading → Reading
-ended s c = c ▹ endHere s 0x42 ▹ packagePart s ▹ endHere s 0x40 ▹ finish s
+unfoldable pub requestEnd : List ℕ → Reading → Reading
+requestEnd s c = c ▹ endHere s 0x42 ▹ packagePart s ▹ endHere s 0x40 ▹ finish s
 
 -- "An over-long input gives 1 before its other faults": then nothing is known; else what the knowledge tells
 unfoldable pub requestKnowing : List ℕ → List ℕ → Knowing
@@ -108,7 +108,7 @@ requestAnswer (Refused r) id limit place count rows = request.Refused (inRequest
 
 unfoldable pub requestIn : List ℕ → List ℕ → Request
 requestIn s t =
-    requestAnswer (ended s (requestKnowing s t .last)) (valueOf (identified s)) (valueOf (constrained s)) (placeOf (constrained s))
+    requestAnswer (requestEnd s (requestKnowing s t .last)) (valueOf (identified s)) (valueOf (constrained s)) (placeOf (constrained s))
     (valueOf (filtered s)) (length (requestKnowing s t .ranges))
 
 -- what reading promises: the answer, and the table at exit, whose first rows are the ranges, in normal form

@@ -21,6 +21,9 @@ use crate::filter::filter_fields;
 use crate::filter::one_number;
 use crate::filter::type_part;
 use numbers::extended_guid::ExtendedGuid;
+use objects::layout::COMPOUND;
+use objects::layout::PLAIN;
+use objects::layout::ROOM;
 use objects::reading::Reading;
 use objects::reading::ReadingId;
 use store::element::Key;
@@ -208,7 +211,7 @@ fn put_kind(
         return t;
     }
     if kind == WITH_IDS {
-        let listed = c.start(s, FILTER, FILTER_IDS, false, true);
+        let listed = c.start(s, FILTER, FILTER_IDS, PLAIN, ROOM);
         let e = set_with_ids(listed.run(s), rows, ids, n, heads, links, flags, to);
         return listed.closed(s, e);
     }
@@ -240,7 +243,7 @@ fn put_filter(
     requires { ⌜ RowsStand (now rows) (now ids) n × (n ≤ length (now flags)) × Indexed (now heads) (now links) (now ids) n ⌝ }
     ensures { λ r. ⌜ (r ≡ filterAt (now (s .entry)) c) × (now (flags .exit) ≡ setByFilter (filterRead (now (s .entry)) c) (elementsIn (now (rows .entry)) (now (ids .entry)) n) (now (flags .entry))) ⌝ }
 {
-    let o = c.start(s, SUB_REQUEST, FILTER, true, true);
+    let o = c.start(s, SUB_REQUEST, FILTER, COMPOUND, ROOM);
     let f = filter_fields(o.run(s));
     let last = f.last;
     let k = o.closed(s, last);

@@ -2,6 +2,10 @@
 ghost use mathlib.Core.Path.{_≡_};
 ghost use Rattle.request.specs.Filter.{kindTaken, kindField, filterFields, oneNumber, typePart, idStep, idsFrom, idsField, idsPart, kindPart, filterAt, filtersFrom};
 ghost use Rattle.request.specs.ShortId.{shortId};
+use objects::layout::COMPOUND;
+use objects::layout::NO_ROOM;
+use objects::layout::PLAIN;
+use objects::layout::ROOM;
 use objects::reading::Reading;
 
 // The types of the objects.
@@ -76,7 +80,7 @@ pub(crate) fn one_number(d: &[u8]) -> Reading
 pub(crate) fn type_part(s: &[u8], c: Reading) -> Reading
     ensures { λ r. ⌜ r ≡ typePart (now (s .entry)) c ⌝ }
 {
-    let o = c.start(s, FILTER, FILTER_TYPE, false, true);
+    let o = c.start(s, FILTER, FILTER_TYPE, PLAIN, ROOM);
     o.closed(s, one_number(o.run(s)))
 }
 
@@ -149,7 +153,7 @@ fn ids_field(d: &[u8]) -> Reading
 fn ids_part(s: &[u8], c: Reading) -> Reading
     ensures { λ r. ⌜ r ≡ idsPart (now (s .entry)) c ⌝ }
 {
-    let o = c.start(s, FILTER, FILTER_IDS, false, true);
+    let o = c.start(s, FILTER, FILTER_IDS, PLAIN, ROOM);
     o.closed(s, ids_field(o.run(s)))
 }
 
@@ -170,7 +174,7 @@ fn kind_part(s: &[u8], kind: u64, c: Reading) -> Reading
 fn filter_at(s: &[u8], c: Reading) -> Reading
     ensures { λ r. ⌜ r ≡ filterAt (now (s .entry)) c ⌝ }
 {
-    let o = c.start(s, SUB_REQUEST, FILTER, true, true);
+    let o = c.start(s, SUB_REQUEST, FILTER, COMPOUND, ROOM);
     let f = filter_fields(o.run(s));
     let last = f.last;
     let k = o.closed(s, last);
@@ -185,7 +189,7 @@ pub fn read_filters(s: &[u8], c: Reading) -> Reading
     let mut n = 0;
     while at.next_is(s, FILTER) {
         if n == MOST_FILTERS {
-            return at.start(s, SUB_REQUEST, FILTER, true, false);
+            return at.start(s, SUB_REQUEST, FILTER, COMPOUND, NO_ROOM);
         }
         at = filter_at(s, at);
         n += 1;

@@ -1,14 +1,17 @@
 // The request message, read whole: a function for each part, in the order of document 01.
 ghost use mathlib.Core.Path.{_≡_};
 ghost use Rattle.store.specs.Knowledge.{ReadsKnowledge};
-ghost use Rattle.request.specs.Message.{versions, userAgent, subRequestFields, subRequest, queryChanges, argumentFields, arguments, constraint, packagePart, identified, constrainedFrom, ended, knowledgePart, onKnowledge, rowsKnown, inRequest, requestAnswer, ReadsRequest};
+ghost use Rattle.request.specs.Message.{versions, userAgent, subRequestFields, subRequest, queryChanges, argumentFields, arguments, constraint, packagePart, identified, constrainedFrom, requestEnd, knowledgePart, onKnowledge, rowsKnown, inRequest, requestAnswer, ReadsRequest};
 use crate::filter::SUB_REQUEST;
 use crate::filter::one_number;
 use crate::filter::read_filters;
 use numbers::refusal::LONGEST_INPUT;
 use numbers::refusal::Refusal;
 use numbers::refusal::over_long;
+use objects::layout::COMPOUND;
 use objects::layout::NOTHING;
+use objects::layout::PLAIN;
+use objects::layout::ROOM;
 use objects::reading::Reading;
 use store::element::PACKAGE;
 use store::knowledge::KNOWLEDGE;
@@ -59,8 +62,8 @@ pub fn versions(s: &[u8], signature: u64) -> Reading
 fn user_agent(s: &[u8], c: Reading) -> Reading
     ensures { λ r. ⌜ r ≡ userAgent (now (s .entry)) c ⌝ }
 {
-    c.start_of_length(s, NOTHING, REQUEST, true, true, 0)
-        .start_of_length(s, REQUEST, USER_AGENT, true, true, 0)
+    c.start_of_length(s, NOTHING, REQUEST, COMPOUND, ROOM, 0)
+        .start_of_length(s, REQUEST, USER_AGENT, COMPOUND, ROOM, 0)
         .inside(s, LEVELS_INSIDE, USER_AGENT)
 }
 
@@ -75,14 +78,14 @@ fn sub_request_fields(d: &[u8]) -> Reading
 fn sub_request(s: &[u8], c: Reading) -> Reading
     ensures { λ r. ⌜ r ≡ subRequest (now (s .entry)) c ⌝ }
 {
-    let o = c.start(s, REQUEST, SUB_REQUEST, true, true);
+    let o = c.start(s, REQUEST, SUB_REQUEST, COMPOUND, ROOM);
     o.closed(s, sub_request_fields(o.run(s)))
 }
 
 fn query_changes(s: &[u8], c: Reading) -> Reading
     ensures { λ r. ⌜ r ≡ queryChanges (now (s .entry)) c ⌝ }
 {
-    c.start_of_length(s, SUB_REQUEST, QUERY_CHANGES, false, true, 1)
+    c.start_of_length(s, SUB_REQUEST, QUERY_CHANGES, PLAIN, ROOM, 1)
         .skip(s, 1)
 }
 
@@ -100,7 +103,7 @@ fn argument_fields(d: &[u8]) -> Reading
 fn arguments(s: &[u8], c: Reading) -> Reading
     ensures { λ r. ⌜ r ≡ arguments (now (s .entry)) c ⌝ }
 {
-    let o = c.start(s, SUB_REQUEST, ARGUMENTS, false, true);
+    let o = c.start(s, SUB_REQUEST, ARGUMENTS, PLAIN, ROOM);
     o.closed(s, argument_fields(o.run(s)))
 }
 
@@ -109,7 +112,7 @@ fn constraint(s: &[u8], c: Reading) -> Reading
     ensures { λ r. ⌜ r ≡ constraint (now (s .entry)) c ⌝ }
 {
     if c.next_is(s, CONSTRAINT) {
-        let o = c.start(s, SUB_REQUEST, CONSTRAINT, false, true);
+        let o = c.start(s, SUB_REQUEST, CONSTRAINT, PLAIN, ROOM);
         return o.closed(s, one_number(o.run(s)));
     }
     c.valued(NO_LIMIT)
@@ -120,7 +123,7 @@ fn package_part(s: &[u8], c: Reading) -> Reading
     ensures { λ r. ⌜ r ≡ packagePart (now (s .entry)) c ⌝ }
 {
     if c.next_is(s, PACKAGE) {
-        return c.start_of_length(s, REQUEST, PACKAGE, true, true, 1)
+        return c.start_of_length(s, REQUEST, PACKAGE, COMPOUND, ROOM, 1)
             .skip(s, 1)
             .inside(s, LEVELS_INSIDE, PACKAGE);
     }
@@ -142,8 +145,8 @@ fn constrained(s: &[u8], c: Reading) -> Reading
 }
 
 // From behind the knowledge to the end.
-fn ended(s: &[u8], c: Reading) -> Reading
-    ensures { λ r. ⌜ r ≡ ended (now (s .entry)) c ⌝ }
+fn request_end(s: &[u8], c: Reading) -> Reading
+    ensures { λ r. ⌜ r ≡ requestEnd (now (s .entry)) c ⌝ }
 {
     package_part(s, c.end(s, SUB_REQUEST))
         .end(s, REQUEST)
@@ -214,6 +217,6 @@ pub fn read_request(s: &[u8], table: &mut [u64; SAID_NUMBERS]) -> Request
     let b = constrained(s, a);
     let c = read_filters(s, b);
     let k = knowledge_part(s, c, table);
-    let e = ended(s, on_knowledge(k));
+    let e = request_end(s, on_knowledge(k));
     answer(e, a.value(), b.value(), b.place(), c.value(), rows_known(k))
 }

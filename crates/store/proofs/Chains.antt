@@ -22,7 +22,7 @@ use Rattle.objects.specs.declared.reading.Reading.the-variants as reading
 use Rattle.store.specs.Element.{sameKey, fieldsOf, opened, dataOf, elementAt, idsIn, serialsIn}
 use Rattle.store.specs.Tables.{mostElements}
 use Rattle.store.specs.Store.{packageStart, Walk, walked, closing, onElement, walkFrom, packageWalk, finished, storeWalk, Stands}
-use Rattle.store.specs.Chain.{Chain, Fresh, Tiles}
+use Rattle.store.specs.Chain.{Follows, Fresh, Tiles}
 use Rattle.store.specs.declared.element.Key.{Key}
 use Rattle.store.specs.declared.element.Element.{Element}
 use Rattle.store.specs.declared.element.ReadElement.{ReadElement}
@@ -39,7 +39,7 @@ pub record Read (s : List ℕ) (done : List Element) (at : ℕ) (w : Walk) : Typ
   pub end : ℕ
   pub value : ℕ
   pub split : w .elements ≡ done ++ elements
-  pub chain : Chain s done at elements end
+  pub chain : Follows s done at elements end
   pub ends : w .last ≡ (reading.At end value ▹ endHere s 0x15)
 
 -- the number that a state carries does not matter
@@ -106,7 +106,7 @@ walk-read (suc left) s done at v =
 
 -- ---- what a chain is
 
-pub chain-tiles : (s : List ℕ) (done xs : List Element) (at e : ℕ) → Chain s done at xs e → Tiles at xs e
+pub chain-tiles : (s : List ℕ) (done xs : List Element) (at e : ℕ) → Follows s done at xs e → Tiles at xs e
 chain-tiles s done [] at e c = c
 chain-tiles s done (x ∷ xs) at e c =
     let w = element-some 14 (idsIn done) (serialsIn done) s at 0 x (c .0) in
@@ -114,12 +114,12 @@ chain-tiles s done (x ∷ xs) at e c =
     (w .0, w .1, subst (λ (m : ℕ). Tiles m xs e) q (chain-tiles s (done ++ (x ∷ [])) xs (x .place + x .length) e (c .1)))
 
 -- ids and serial numbers are new, each to those before
-pub chain-ids : (s : List ℕ) (done xs : List Element) (at e : ℕ) → Chain s done at xs e → Fresh (λ x. x .id) done xs
+pub chain-ids : (s : List ℕ) (done xs : List Element) (at e : ℕ) → Follows s done at xs e → Fresh (λ x. x .id) done xs
 chain-ids s done [] at e c = tt
 chain-ids s done (x ∷ xs) at e c =
     (element-unseen 14 (idsIn done) (serialsIn done) s (reading.At at 0) x (c .0) .0, chain-ids s (done ++ (x ∷ [])) xs (x .place + x .length) e (c .1))
 
-pub chain-serials : (s : List ℕ) (done xs : List Element) (at e : ℕ) → Chain s done at xs e → Fresh (λ x. x .serial) done xs
+pub chain-serials : (s : List ℕ) (done xs : List Element) (at e : ℕ) → Follows s done at xs e → Fresh (λ x. x .serial) done xs
 chain-serials s done [] at e c = tt
 chain-serials s done (x ∷ xs) at e c =
     (element-unseen 14 (idsIn done) (serialsIn done) s (reading.At at 0) x (c .0) .1, chain-serials s (done ++ (x ∷ [])) xs (x .place + x .length) e (c .1))
@@ -137,11 +137,11 @@ once-fresh key done (x ∷ xs) h f =
     ap (once sameKey) (map-append key done (x ∷ [])) ∙ once-more sameKey same-turn (key x) (map key done) ∙ rw (h, f .0) in
     rw (← append-assoc done (x ∷ []) xs) (once-fresh key (done ++ (x ∷ [])) xs e (f .1))
 
-pub chain-ids-once : (s : List ℕ) (xs : List Element) (at e : ℕ) → Chain s [] at xs e → once sameKey (map (λ (x : Element). x .id) xs) ≡ true
+pub chain-ids-once : (s : List ℕ) (xs : List Element) (at e : ℕ) → Follows s [] at xs e → once sameKey (map (λ (x : Element). x .id) xs) ≡ true
 unfolding once
 chain-ids-once s xs at e c = once-fresh (λ x. x .id) [] xs refl (chain-ids s [] xs at e c)
 
-pub chain-serials-once : (s : List ℕ) (xs : List Element) (at e : ℕ) → Chain s [] at xs e → once sameKey (map (λ (x : Element). x .serial) xs) ≡ true
+pub chain-serials-once : (s : List ℕ) (xs : List Element) (at e : ℕ) → Follows s [] at xs e → once sameKey (map (λ (x : Element). x .serial) xs) ≡ true
 unfolding once
 chain-serials-once s xs at e c = once-fresh (λ x. x .serial) [] xs refl (chain-serials s [] xs at e c)
 
@@ -175,7 +175,7 @@ any-end : (s : List ℕ) (kind at v : ℕ) → endHere s kind (reading.At at 0) 
 unfolding endHere
 any-end s kind at v = refl
 
-pub chain-walked : (left : ℕ) (s : List ℕ) (done xs : List Element) (at v e q u : ℕ) → Chain s done at xs e → length xs ≤ left
+pub chain-walked : (left : ℕ) (s : List ℕ) (done xs : List Element) (at v e q u : ℕ) → Follows s done at xs e → length xs ≤ left
     → endHere s 0x15 (reading.At e 0) ≡ reading.At q u → walkFrom left s done (reading.At at v) ≡ walked (done ++ xs) (reading.At q u)
 chain-walked left s done [] at v e q u c l h =
     let d : endHere s 0x15 (reading.At at v) ≡ reading.At q u = sym (any-end s 0x15 at v) ∙ rw c h in
@@ -188,7 +188,7 @@ chain-walked (suc left) s done (x ∷ xs) at v e q u c l h =
     ∙ rw (append-assoc done (x ∷ []) xs)
 
 pub package-walked : (outer : ℕ) (s : List ℕ) (c : Reading) (first v : ℕ) (xs : List Element) (e q u : ℕ)
-    → packageStart outer s c ≡ reading.At first v → Chain s [] first xs e → length xs ≤ mostElements → endHere s 0x15 (reading.At e 0) ≡ reading.At q u
+    → packageStart outer s c ≡ reading.At first v → Follows s [] first xs e → length xs ≤ mostElements → endHere s 0x15 (reading.At e 0) ≡ reading.At q u
     → packageWalk outer s c ≡ walked xs (reading.At q u)
 package-walked outer s c first v xs e q u h chain l ends =
     ap (walkFrom mostElements s []) h ∙ chain-walked mostElements s [] xs first v e q u chain l ends
@@ -201,7 +201,7 @@ pub record PackageRead (outer : ℕ) (s : List ℕ) (c : Reading) : Type 0 where
   pub end : ℕ
   pub behind : ℕ
   pub start : packageStart outer s c ≡ reading.At first 0
-  pub chain : Chain s [] first (packageWalk outer s c .elements) end
+  pub chain : Follows s [] first (packageWalk outer s c .elements) end
   pub ends : endHere s 0x15 (reading.At end 0) ≡ reading.At behind 0
   pub last : packageWalk outer s c .last ≡ reading.At behind 0
 
@@ -240,7 +240,7 @@ package-ended outer s c at v b r (reading.At q u) h k =
       end = r .end;
       behind = q;
       start = rw y at b;
-      chain = subst (λ (xs : List Element). Chain s [] at xs (r .end)) (sym (r .split)) (r .chain);
+      chain = subst (λ (xs : List Element). Follows s [] at xs (r .end)) (sym (r .split)) (r .chain);
       ends = any-end s 0x15 (r .end) (r .value) ∙ rw z at d;
       last = rw z at h;
     }
@@ -266,7 +266,7 @@ pub record StoreRead (s : List ℕ) : Type 0 where
   pub end : ℕ
   pub value : ℕ
   pub start : placeOf (packageStart nothingOpen s (reading.At 0 0)) ≡ first
-  pub chain : Chain s [] first (storeWalk s .elements) end
+  pub chain : Follows s [] first (storeWalk s .elements) end
   pub ends : storeWalk s .last ≡ (reading.At end value ▹ endHere s 0x15 ▹ finish s)
 
 pub over-long : (s : List ℕ) → longestInput < length s → Stands (storeWalk s .last) → ⊥
@@ -292,7 +292,7 @@ store-within s l h =
       end = r .end;
       value = 0;
       start = ap placeOf (r .start);
-      chain = subst (λ (xs : List Element). Chain s [] (r .first) xs (r .end)) (sym (ap (λ (x : Walk). x .elements) w)) (r .chain);
+      chain = subst (λ (xs : List Element). Follows s [] (r .first) xs (r .end)) (sym (ap (λ (x : Walk). x .elements) w)) (r .chain);
       ends = ap (λ (x : Walk). x .last) w ∙ ap (finish s) (r .last ∙ sym (r .ends));
     }
 

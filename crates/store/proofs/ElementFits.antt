@@ -26,10 +26,10 @@ use Rattle.objects.specs.declared.reading.Reading.the-variants as reading
 use Rattle.objects.proofs.Keep.{good-front, good-place}
 use Rattle.talk.specs.Each.{Each}
 use Rattle.talk.proofs.Things.{each-so}
-use Rattle.store.specs.Chain.{Chain}
+use Rattle.store.specs.Chain.{Follows}
 use Rattle.store.specs.Element.{sameKey, idsIn, serialsIn, namedKey, numberedKey, freshKey, keyHere, onKey, idField, serialField, fieldsOf, opened}
 use Rattle.store.specs.Store.{packageStart, storeWalk}
-use Rattle.store.specs.Written.{guidOf}
+use Rattle.store.specs.Written.{keyGuid}
 use Rattle.store.specs.declared.element.Key.{Key}
 use Rattle.store.specs.declared.element.Element.{Element}
 use Rattle.store.specs.declared.element.ReadingKey.{ReadingKey}
@@ -43,10 +43,10 @@ use Rattle.store.proofs.Chains.{StoreRead}
 
 -- an id that can be written, and a serial number
 abbrev pub NamedFits : Key → Type 0
-NamedFits k = ExtendedGuidFits (id.Named (guidOf k) (k .number))
+NamedFits k = ExtendedGuidFits (id.Named (keyGuid k) (k .number))
 
 abbrev pub NumberedFits : Key → Type 0
-NumberedFits k = SerialFits (number.Numbered (guidOf k) (k .number))
+NumberedFits k = SerialFits (number.Numbered (keyGuid k) (k .number))
 
 named-fits : (d : List ℕ) (r : ReadExtendedGuid) → AllBytes d → readExtendedGuid (drop 0 d) ≡ r → NamedFits (keyHere (namedKey 0 (idOn 0 r)))
 unfolding namedKey keyHere
@@ -97,7 +97,7 @@ KeysFit x = NamedFits (x .id) × NumberedFits (x .serial)
 abbrev Fits : List ℕ → Element → Type 0
 Fits s x = (x .place + x .length ≤ length s) × KeysFit x
 
-chain-fits : (s : List ℕ) (done xs : List Element) (at e : ℕ) → AllBytes s → at ≤ length s → Chain s done at xs e → Each (Fits s) xs
+chain-fits : (s : List ℕ) (done xs : List Element) (at e : ℕ) → AllBytes s → at ≤ length s → Follows s done at xs e → Each (Fits s) xs
 chain-fits s done [] at e b h c = tt
 chain-fits s done (x ∷ xs) at e b h c =
     let o = opened s (reading.At at 0) in

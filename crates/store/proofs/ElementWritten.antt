@@ -26,7 +26,7 @@ use Rattle.objects.specs.declared.reading.Reading.the-variants as reading
 use Rattle.objects.proofs.Written.{behind, id-written, serial-written, reads-number}
 use Rattle.objects.proofs.ObjectsWritten.{reads-start, reads-inside}
 use Rattle.store.specs.Element.{sameKey, namedKey, numberedKey, freshKey, keyHere, onKey, idField, serialField, fieldsOf, opened, dataOf, elementOn, elementAt}
-use Rattle.store.specs.Written.{Content, guidOf, fieldBytes, writtenElement, ContentFits, elementOf}
+use Rattle.store.specs.Written.{Content, keyGuid, fieldBytes, writtenElement, ContentFits, elementOf}
 use Rattle.store.specs.declared.element.Key.{Key}
 use Rattle.store.specs.declared.element.ReadingKey.the-variants.{At}
 use Rattle.store.specs.declared.element.ReadElement.the-variants.{Is}
@@ -54,22 +54,22 @@ pub fields-most : (c : Content) → length (fieldBytes c) ≤ 55
 unfolding fieldBytes extendedGuidBytes serialBytes
 fields-most c =
     rw (length-append, length-append, length-tagged)
-    (omega (arith, named-most (guidOf (c .id)) (c .id .number), compact-most (c .kind)))
+    (omega (arith, named-most (keyGuid (c .id)) (c .id .number), compact-most (c .kind)))
 
 -- ---- the fields in their run
 
 module _ (depth : ℕ) (c : Content) (f : ContentFits depth c) where
   abbrev idBytes : List ℕ
-  idBytes = extendedGuidBytes (Named (guidOf (c .id)) (c .id .number))
+  idBytes = extendedGuidBytes (Named (keyGuid (c .id)) (c .id .number))
 
   abbrev numberBytes : List ℕ
-  numberBytes = serialBytes (Numbered (guidOf (c .serial)) (c .serial .number))
+  numberBytes = serialBytes (Numbered (keyGuid (c .serial)) (c .serial .number))
 
   id-is : (ids : List Key) → seen sameKey (c .id) ids ≡ false → idField ids (fieldBytes c) ≡ At (length idBytes) (c .id)
   unfolding idField namedKey freshKey keyHere fieldBytes
   id-is ids h =
       rw (
-        id-written (fieldBytes c) 0 0 (Named (guidOf (c .id)) (c .id .number)) (numberBytes ++ compactBytes (c .kind)) ((f .id-low, f .id-high), f .id-number) refl,
+        id-written (fieldBytes c) 0 0 (Named (keyGuid (c .id)) (c .id .number)) (numberBytes ++ compactBytes (c .kind)) ((f .id-low, f .id-high), f .id-number) refl,
         h,
         zero-add (length idBytes),
       )
@@ -79,7 +79,7 @@ module _ (depth : ℕ) (c : Content) (f : ContentFits depth c) where
   unfolding serialField numberedKey freshKey keyHere fieldBytes placeOf
   serial-is serials h =
       rw (
-        serial-written (fieldBytes c) (length idBytes) 0 (Numbered (guidOf (c .serial)) (c .serial .number)) (compactBytes (c .kind))
+        serial-written (fieldBytes c) (length idBytes) 0 (Numbered (keyGuid (c .serial)) (c .serial .number)) (compactBytes (c .kind))
             ((f .serial-low, f .serial-high), f .serial-number) (drop-append-seam idBytes (numberBytes ++ compactBytes (c .kind))),
         h,
       )

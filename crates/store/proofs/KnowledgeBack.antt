@@ -22,26 +22,26 @@ use Rattle.talk.specs.declared.range.Range.{Range}
 use Rattle.talk.proofs.Insertion.{insert-last}
 use Rattle.store.specs.Knowledge.{guidIn, guidField, fromField, toField, rangeFields, itemOf, rangeStart, rangeItem, itemNext, itemAt, onItem, united, Knowing, knowing, itemsFrom, cellGuid, isCell, specializedGuid, cellFrom, specializedFrom, knowledgeFrom, knowledgeAt}
 use Rattle.ranges.specs.Ranged.{rangeOf}
-use Rattle.store.specs.KnowledgeWritten.{guidOf, rangeData, rangeBytes, rangesBytes, cellFront, cellBack, knowledgeBytes}
+use Rattle.store.specs.KnowledgeWritten.{rangeGuid, rangeData, rangeBytes, rangesBytes, cellFront, cellBack, knowledgeBytes}
 use Rattle.store.specs.declared.item.Item.the-variants as item
 use Rattle.store.proofs.KnowledgeForward.{knowledge-more, knowledge-end}
 use Rattle.store.proofs.KnowledgeLengths.{data-most, length-front, length-back}
 
 -- ---- the GUID there and back
 
-guid-fits : (x : Range) → GuidFits (guidOf x)
-unfolding guidOf
+guid-fits : (x : Range) → GuidFits (rangeGuid x)
+unfolding rangeGuid
 guid-fits x = (swapped-fits (x .upper), swapped-fits (x .lower))
 
-range-back : (x : Range) → RangeFits x → rangeOf (guidOf x) (x .from) (x .to) ≡ x
-unfolding rangeOf guidOf
+range-back : (x : Range) → RangeFits x → rangeOf (rangeGuid x) (x .from) (x .to) ≡ x
+unfolding rangeOf rangeGuid
 range-back x f = rw (swapped-back (x .upper) (f .0), swapped-back (x .lower) (f .1))
 
 -- ---- one range
 
 module _ (x : Range) (f : RangeFits x) (v : x .from ≤ x .to) where
   abbrev guidPart : List ℕ
-  guidPart = guidBytes (guidOf x)
+  guidPart = guidBytes (rangeGuid x)
 
   abbrev fromPart : List ℕ
   fromPart = compactBytes (x .from)
@@ -49,9 +49,9 @@ module _ (x : Range) (f : RangeFits x) (v : x .from ≤ x .to) where
   abbrev toPart : List ℕ
   toPart = compactBytes (x .to)
 
-  guid-is : guidField (rangeData x) ≡ guid′.At (0 + length guidPart) (guidOf x)
+  guid-is : guidField (rangeData x) ≡ guid′.At (0 + length guidPart) (rangeGuid x)
   unfolding rangeData
-  guid-is = guid-written (rangeData x) 0 0 (guidOf x) (fromPart ++ toPart) (guid-fits x) refl
+  guid-is = guid-written (rangeData x) 0 0 (rangeGuid x) (fromPart ++ toPart) (guid-fits x) refl
 
   from-is : fromField (rangeData x) ≡ At (0 + length guidPart + length fromPart) (x .from)
   unfolding rangeData onGuid

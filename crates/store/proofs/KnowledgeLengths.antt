@@ -15,7 +15,7 @@ use Rattle.objects.specs.Header.{startBytes, longStart, endBytes}
 use Rattle.objects.proofs.HeaderForms.{length-short}
 use Rattle.talk.specs.declared.range.Range.{Range}
 use Rattle.ranges.specs.RangeTable.{rangeAt, rangesAt}
-use Rattle.store.specs.KnowledgeWritten.{guidOf, rangeData, rangeBytes, rangesBytes, cellFront, cellBack, knowledgeBytes}
+use Rattle.store.specs.KnowledgeWritten.{rangeGuid, rangeData, rangeBytes, rangesBytes, cellFront, cellBack, knowledgeBytes}
 use Rattle.store.proofs.ElementWritten.{compact-most}
 use Rattle.ranges.proofs.RangeRows.{rows-step, rows-none}
 
@@ -24,8 +24,8 @@ use Rattle.ranges.proofs.RangeRows.{rows-step, rows-none}
 pub length-data : (x : Range) → length (rangeData x) ≡ 16 + (length (compactBytes (x .from)) + length (compactBytes (x .to)))
 unfolding rangeData
 length-data x =
-    length-append (guidBytes (guidOf x)) (compactBytes (x .from) ++ compactBytes (x .to))
-    ∙ (let a = length-guid (guidOf x) in let b = length-append (compactBytes (x .from)) (compactBytes (x .to)) in omega arith)
+    length-append (guidBytes (rangeGuid x)) (compactBytes (x .from) ++ compactBytes (x .to))
+    ∙ (let a = length-guid (rangeGuid x) in let b = length-append (compactBytes (x .from)) (compactBytes (x .to)) in omega arith)
 
 pub data-most : (x : Range) → length (rangeData x) ≤ 34
 data-most x = omega (arith, length-data x, compact-most (x .from), compact-most (x .to))

@@ -28,7 +28,7 @@ use Rattle.ranges.specs.declared.Added.the-variants.{Rows}
 use Rattle.store.specs.declared.knowledge.ReadKnowledge.the-variants.{Holds}
 use Rattle.store.specs.Knowledge.{guidIn, rangeFields, knowledgeTurn, toGo, knowledgeFrom, knowledgeAt, knowledgeAnswer, ReadsKnowledge}
 use Rattle.ranges.specs.Ranged.{rangeOf, knows}
-use Rattle.store.specs.KnowledgeWritten.{guidOf, rangeData, rangeBytes, rangesBytes, cellFront, cellBack, knowledgeBytes}
+use Rattle.store.specs.KnowledgeWritten.{rangeGuid, rangeData, rangeBytes, rangesBytes, cellFront, cellBack, knowledgeBytes}
 
 -- one row: the GUID 1, 2, and the numbers from 3 to 4
 abbrev one : List ℕ
@@ -55,7 +55,7 @@ end-not-counted h = let z : _≡_ {A = ℕ} 2 3 = ap (λ (t : Told). t .needed) 
 
 -- one row: its GUID's first byte, the 27th of all, is 0, and not 1
 bytes-of-the-row : (out exit : List ℕ) → length out ≡ 48 → getD exit 26 0 ≡ 1 → Writes (knowledgeBytes (rangesAt one 0 1)) out (Done 48) exit → ⊥
-unfolding knowledgeBytes rangesAt rangesBytes rangeBytes rangeData guidOf cellFront cellBack startBytes longStart startNumber endBytes guidBytes swapped be compactBytes formOf formFrom sizeOf marked bytes
+unfolding knowledgeBytes rangesAt rangesBytes rangeBytes rangeData rangeGuid cellFront cellBack startBytes longStart startNumber endBytes guidBytes swapped be compactBytes formOf formFrom sizeOf marked bytes
 bytes-of-the-row out exit l e h =
     let w = knowledgeBytes (rangesAt one 0 1) in
     let f : length w ≤ length out = omega arith in
@@ -66,12 +66,12 @@ bytes-of-the-row out exit l e h =
 
 -- the header counts
 header-left-out : 18 ≡ length (rangeBytes (range 0 0 0 0)) → ⊥
-unfolding rangeBytes rangeData guidOf guidBytes bytes compactBytes startBytes startNumber
+unfolding rangeBytes rangeData rangeGuid guidBytes bytes compactBytes startBytes startNumber
 header-left-out h = omega arith
 
 -- a range is as long as its numbers need
 always-longest : 36 ≡ length (rangeBytes (range 0 0 0 0)) → ⊥
-unfolding rangeBytes rangeData guidOf guidBytes bytes compactBytes startBytes startNumber
+unfolding rangeBytes rangeData rangeGuid guidBytes bytes compactBytes startBytes startNumber
 always-longest h = omega arith
 
 -- ---- read_knowledge, on `84 00 41`, which holds nothing, and on a table of one number
@@ -88,7 +88,7 @@ table-cleared h = impossible (cc)
 
 from-and-to-turned :
     rangeFields (0 ∷ 0 ∷ 0 ∷ 0 ∷ 0 ∷ 0 ∷ 0 ∷ 0 ∷ 0 ∷ 0 ∷ 0 ∷ 0 ∷ 0 ∷ 0 ∷ 0 ∷ 0 ∷ 0x03 ∷ 0x05 ∷ []) .range ≡ range 0 0 2 1 → ⊥
-unfolding rangeFields guidIn guidHere onGuid guidAt number valueOf readCompact formAt readForm compact.valueOf trailingZeros rangeOf sizeOf swapped be bytes le
+unfolding rangeFields guidIn guidHere onGuid guidAt number valueOf readCompact formAt readForm compact.compactValue trailingZeros rangeOf sizeOf swapped be bytes le
 from-and-to-turned h = let z : _≡_ {A = ℕ} 1 2 = ap (λ (r : Range). r .from) h in omega arith
 
 -- ---- add_range: 5 to 6 put to 1 to 4, in a table with room for two rows

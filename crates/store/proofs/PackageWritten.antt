@@ -21,7 +21,7 @@ use Rattle.objects.proofs.ObjectsWritten.{reads-start-of-length, reads-end}
 use Rattle.store.specs.Element.{sameKey, elementAt}
 use Rattle.store.specs.Tables.{mostElements}
 use Rattle.store.specs.Store.{packageStart, Walk, walked, packageWalk, storeWalk}
-use Rattle.store.specs.Chain.{Chain}
+use Rattle.store.specs.Chain.{Follows}
 use Rattle.store.specs.Written.{Content, writtenElement, writtenElements, packageFront, packageBytes, AllFit, elementOf, elementsFrom}
 use Rattle.store.specs.declared.element.Key.{Key}
 use Rattle.store.specs.declared.element.Element.{Element}
@@ -46,7 +46,7 @@ keys-more key done x rest = rw (map-append key done (x ∷ []), append-assoc)
 written-chain : (s : List ℕ) (at : ℕ) (done : List Element) (cs : List Content) (t : List ℕ) → AllFit 14 cs
     → once sameKey (ids done ++ map (λ (c : Content). c .id) cs) ≡ true
     → once sameKey (serials done ++ map (λ (c : Content). c .serial) cs) ≡ true → drop at s ≡ writtenElements cs ++ t
-    → Chain s done at (elementsFrom at cs) (at + length (writtenElements cs))
+    → Follows s done at (elementsFrom at cs) (at + length (writtenElements cs))
 unfolding writtenElements elementsFrom
 written-chain s at done [] t f a b h = omega arith
 written-chain s at done (c ∷ cs) t f a b h =
@@ -62,7 +62,7 @@ written-chain s at done (c ∷ cs) t f a b h =
     (rw (keys-more (λ (y : Element). y .serial) done x (map (λ (y : Content). y .serial) cs)) b) (behind s at w (writtenElements cs ++ t) h′) in
     let n : at + length w + length (writtenElements cs) ≡ at + length (w ++ writtenElements cs) =
     let m = length-append w (writtenElements cs) in omega arith in
-    (r, subst (λ (e : ℕ). Chain s (done ++ (x ∷ [])) (at + length w) (elementsFrom (at + length w) cs) e) n i)
+    (r, subst (λ (e : ℕ). Follows s (done ++ (x ∷ [])) (at + length w) (elementsFrom (at + length w) cs) e) n i)
 
 elements-count : (at : ℕ) (cs : List Content) → length (elementsFrom at cs) ≡ length cs
 unfolding elementsFrom

@@ -12,11 +12,11 @@ use Rattle.store.specs.declared.element.Element.{Element}
 use Rattle.store.specs.declared.element.ReadElement.the-variants as element
 
 -- from a place behind the elements `done` to a place behind the last
-abbrev pub Chain : List ℕ → List Element → ℕ → List Element → ℕ → Type 0
-Chain s done at [] e = at ≡ e
-Chain s done at (x ∷ xs) e =
+abbrev pub Follows : List ℕ → List Element → ℕ → List Element → ℕ → Type 0
+Follows s done at [] e = at ≡ e
+Follows s done at (x ∷ xs) e =
     (elementAt 14 (idsIn done) (serialsIn done) s (reading.At at 0) ≡ element.Is x)
-    × Chain s (done ++ (x ∷ [])) (x .place + x .length) xs e
+    × Follows s (done ++ (x ∷ [])) (x .place + x .length) xs e
 
 -- each key is new to those before it
 abbrev pub Fresh : (Element → Key) → List Element → List Element → Type 0

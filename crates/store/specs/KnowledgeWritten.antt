@@ -13,12 +13,12 @@ use Rattle.talk.specs.declared.range.Range.{Range}
 use Rattle.store.specs.Knowledge.{cellGuid}
 
 -- a range's GUID, its halves as little-endian numbers again
-unfoldable pub guidOf : Range → Guid
-guidOf x = record { low = swapped (x .upper); high = swapped (x .lower) }
+unfoldable pub rangeGuid : Range → Guid
+rangeGuid x = record { low = swapped (x .upper); high = swapped (x .lower) }
 
 -- "ranges (GUID, from, to, both ends known)"
 unfoldable pub rangeData : Range → List ℕ
-rangeData x = guidBytes (guidOf x) ++ (compactBytes (x .from) ++ compactBytes (x .to))
+rangeData x = guidBytes (rangeGuid x) ++ (compactBytes (x .from) ++ compactBytes (x .to))
 
 unfoldable pub rangeBytes : Range → List ℕ
 rangeBytes x = startBytes 0x0F false (length (rangeData x)) ++ rangeData x

@@ -25,14 +25,14 @@ pub record Content : Type 0 where
   pub kind : ℕ
   pub inner : List ℕ  -- what is inside, and the element's end
 
-abbrev pub guidOf : Key → Guid
-guidOf k = record { low = k .low; high = k .high }
+abbrev pub keyGuid : Key → Guid
+keyGuid k = record { low = k .low; high = k .high }
 
 -- "data = extended GUID, serial number, element type"
 unfoldable pub fieldBytes : Content → List ℕ
 fieldBytes c =
-    extendedGuidBytes (Named (guidOf (c .id)) (c .id .number))
-    ++ (serialBytes (Numbered (guidOf (c .serial)) (c .serial .number)) ++ compactBytes (c .kind))
+    extendedGuidBytes (Named (keyGuid (c .id)) (c .id .number))
+    ++ (serialBytes (Numbered (keyGuid (c .serial)) (c .serial .number)) ++ compactBytes (c .kind))
 
 unfoldable pub writtenElement : Content → List ℕ
 writtenElement c = startBytes 0x01 true (length (fieldBytes c)) ++ (fieldBytes c ++ c .inner)

@@ -11,6 +11,8 @@ use numbers::guid::Guid;
 use numbers::refusal::Refusal;
 use numbers::refusal::at_place;
 use numbers::serial::Serial;
+use objects::layout::COMPOUND;
+use objects::layout::ROOM;
 use objects::reading::Reading;
 use objects::reading::ReadingId;
 use objects::reading::ReadingSerial;
@@ -187,7 +189,7 @@ pub(crate) fn read_element(
     requires { ⌜ Lent (now rows) (now rowmarks) (now ids) (now idmarks) n ⌝ }
     ensures { λ r. ⌜ r ≡ elementAt depth (idKeys (now (ids .entry)) n) (serialKeys (now (rows .entry)) n) (now (s .entry)) c ⌝ }
 {
-    let o = c.start(s, PACKAGE, ELEMENT, true, true);
+    let o = c.start(s, PACKAGE, ELEMENT, COMPOUND, ROOM);
     let f = read_fields(o.run(s), rows, rowmarks, ids, idmarks, n);
     let last = f.last;
     let k = o.closed(s, last);

@@ -5,6 +5,8 @@ use numbers::guid::Guid;
 use numbers::refusal::Refusal;
 use numbers::serial::Serial;
 use objects::header::short_number;
+use objects::layout::PLAIN;
+use objects::layout::ROOM;
 use objects::reading::Reading;
 use objects::reading::ReadingGuid;
 use objects::reading::ReadingSerial;
@@ -84,7 +86,7 @@ fn range_start(s: &[u8], c: Reading) -> Reading
                     return Reading::At(at + 2, n);
                 }
             }
-            c.start(s, CELL, RANGE, false, true)
+            c.start(s, CELL, RANGE, PLAIN, ROOM)
         }
     }
 }
@@ -120,7 +122,7 @@ fn entry_of(k: ReadingSerial, c: Reading) -> Item
 fn entry_item(s: &[u8], c: Reading) -> Item
     ensures { λ r. ⌜ r ≡ entryItem (now (s .entry)) c ⌝ }
 {
-    let o = c.start(s, CELL, ENTRY, false, true);
+    let o = c.start(s, CELL, ENTRY, PLAIN, ROOM);
     let k = Reading::At(0, 0).serial(o.run(s));
     entry_of(k, o.closed(s, k.on()))
 }

@@ -11,6 +11,10 @@ use crate::item::item_kind;
 use crate::item::item_next;
 use crate::item::read_item;
 use numbers::refusal::Refusal;
+use objects::layout::COMPOUND;
+use objects::layout::NO_ROOM;
+use objects::layout::PLAIN;
+use objects::layout::ROOM;
 use objects::reading::Reading;
 use objects::reading::ReadingGuid;
 use ranges::Added;
@@ -72,7 +76,7 @@ fn read_items(s: &[u8], c: Reading, table: &mut [u64], rows: usize, allowed: usi
     let mut left = allowed;
     while item_next(s, at) {
         if left == 0 {
-            let last = at.start(s, CELL, item_kind(s, at), false, false);
+            let last = at.start(s, CELL, item_kind(s, at), PLAIN, NO_ROOM);
             return Known {
                 rows: n,
                 left,
@@ -111,7 +115,7 @@ fn read_cell(s: &[u8], c: Reading, table: &mut [u64], rows: usize, left: usize) 
     requires { ⌜ ((rows + left) * rangeWidth ≤ length (now table)) × Normal (rangesAt (now table) 0 rows) ⌝ }
     ensures { λ r. ⌜ KnownIs (cellFrom (now (s .entry)) (knowing (rangesAt (now (table .entry)) 0 rows) (now (table .entry)) left c) c) r (now (table .exit)) ⌝ }
 {
-    let o = c.start_of_length(s, SPECIALIZED, CELL, true, true, 0);
+    let o = c.start_of_length(s, SPECIALIZED, CELL, COMPOUND, ROOM, 0);
     let k = read_items(s, o, table, rows, left);
     let last = k.last;
     Known {
@@ -133,7 +137,7 @@ fn read_specialized(
     requires { ⌜ ((rows + left) * rangeWidth ≤ length (now table)) × Normal (rangesAt (now table) 0 rows) ⌝ }
     ensures { λ r. ⌜ KnownIs (specializedFrom depth (now (s .entry)) (knowing (rangesAt (now (table .entry)) 0 rows) (now (table .entry)) left c)) r (now (table .exit)) ⌝ }
 {
-    let o = c.start_of_length(s, KNOWLEDGE, SPECIALIZED, true, true, 16);
+    let o = c.start_of_length(s, KNOWLEDGE, SPECIALIZED, COMPOUND, ROOM, 16);
     let g = Reading::At(0, 0).guid(o.run(s));
     let behind = o.closed(s, g.on());
     if is_cell(g) {
@@ -171,7 +175,7 @@ pub fn read_knowledge(
     requires { ⌜ allowed * rangeWidth ≤ length (now table) ⌝ }
     ensures { λ r. ⌜ ReadsKnowledge (knowledgeAt allowed depth outer (now (s .entry)) (now (table .entry)) c) r (now (table .exit)) ⌝ }
 {
-    let mut at = c.start_of_length(s, outer, KNOWLEDGE, true, true, 0);
+    let mut at = c.start_of_length(s, outer, KNOWLEDGE, COMPOUND, ROOM, 0);
     let mut n = 0;
     let mut left = allowed;
     while at.next_is(s, SPECIALIZED) {

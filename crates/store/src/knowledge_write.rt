@@ -10,7 +10,7 @@ ghost use Rattle.numbers.specs.Calls.{Writes};
 ghost use Rattle.objects.specs.Header.{startBytes};
 ghost use Rattle.ranges.specs.RangeTable.{rangeWidth, rangesAt};
 ghost use Rattle.store.specs.Knowledge.{mostSaid};
-ghost use Rattle.store.specs.KnowledgeWritten.{guidOf, rangeData, rangeBytes, rangesBytes, cellFront, cellBack, knowledgeBytes};
+ghost use Rattle.store.specs.KnowledgeWritten.{rangeGuid, rangeData, rangeBytes, rangesBytes, cellFront, cellBack, knowledgeBytes};
 use crate::item::CELL;
 use crate::item::SHORT_RANGE;
 use crate::knowledge::CELL_HIGH;
@@ -65,8 +65,8 @@ fn knowledge_length(table: &[u64], rows: usize) -> usize
 }
 
 // A range's GUID.
-fn guid_of(x: Range) -> Guid
-    ensures { λ r. ⌜ r ≡ guidOf x ⌝ }
+fn range_guid(x: Range) -> Guid
+    ensures { λ r. ⌜ r ≡ rangeGuid x ⌝ }
 {
     Guid {
         low: swap(x.upper),
@@ -79,7 +79,7 @@ fn lay_data(out: &mut [u8], at: usize, x: Range) -> usize
     requires { ⌜ at + length (rangeData x) ≤ length (now out) ⌝ }
     ensures { λ r. ⌜ Lays at (rangeData x) (now (out .entry)) r (now (out .exit)) ⌝ }
 {
-    let behind_guid = lay_guid(out, at, guid_of(x));
+    let behind_guid = lay_guid(out, at, range_guid(x));
     let behind_from = lay_number(out, behind_guid, x.from);
     lay_number(out, behind_from, x.to)
 }

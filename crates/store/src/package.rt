@@ -19,7 +19,10 @@ use crate::table::put_row;
 use numbers::refusal::LONGEST_INPUT;
 use numbers::refusal::Refusal;
 use numbers::refusal::over_long;
+use objects::layout::COMPOUND;
+use objects::layout::NO_ROOM;
 use objects::layout::NOTHING;
+use objects::layout::ROOM;
 use objects::reading::Reading;
 
 // So many levels are left inside an element.
@@ -41,7 +44,7 @@ pub enum Stored {
 pub fn package_start(s: &[u8], c: Reading, outer: u64) -> Reading
     ensures { λ r. ⌜ r ≡ packageStart outer (now (s .entry)) c ⌝ }
 {
-    c.start_of_length(s, outer, PACKAGE, true, true, 1)
+    c.start_of_length(s, outer, PACKAGE, COMPOUND, ROOM, 1)
         .skip(s, 1)
 }
 
@@ -81,7 +84,7 @@ fn walk(
     let mut n = 0;
     while at.next_is(s, ELEMENT) {
         if n == MOST_ELEMENTS {
-            return packaged_if_fine(n, at.start(s, PACKAGE, ELEMENT, true, false));
+            return packaged_if_fine(n, at.start(s, PACKAGE, ELEMENT, COMPOUND, NO_ROOM));
         }
         match read_element(s, at, LEVELS_INSIDE, rows, rowmarks, ids, idmarks, n) {
             ReadElement::Refused(r) => return Packaged::Refused(r),

@@ -10,6 +10,7 @@ use lib.Dec.{eqb}
 use borrow.Author.Tests.{eq-eqb}
 use Rattle.laws.specs.Once.{seen, once}
 use Rattle.laws.proofs.Cases.{impossible, eqb-turn}
+use Rattle.talk.specs.Page.{Greatest}
 use Rattle.talk.specs.Wanted.{keep, isWanted, wanted}
 use Rattle.talk.specs.Series.{done, next, Answer, isSome, joinedPages, Takes, FirstUnmarked, Converges, withKeys, Judged, Delivers}
 use Rattle.talk.proofs.Delivery.{judged-converges}
@@ -52,6 +53,10 @@ passed-over c = let e = c .initial .1 in let z : _≡_ {A = ℕ} 8 7 = cc in ome
 sent-twice : once eqb (map (λ (n : ℕ). n) (joinedPages (answer (7 ∷ []) true ∷ answer (7 ∷ []) true ∷ []))) ≡ false
 unfolding once seen
 sent-twice = refl
+
+-- a page of one of two things, though both would do: it is not the greatest
+stops-early : Greatest (λ j. true) 2 1 → ⊥
+stops-early h = impossible (h .stop (omega arith))
 
 -- three things, and pages of two and of one
 two-and-one : Delivers eqb (λ (n : ℕ). n) (7 ∷ 8 ∷ 9 ∷ []) (λ n. true) (λ n. false) (answer (7 ∷ 8 ∷ []) true ∷ answer (9 ∷ []) false ∷ [])

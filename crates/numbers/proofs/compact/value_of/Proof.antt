@@ -4,7 +4,7 @@ use mathlib.Core.Path.{_≡_}
 use borrow.Author.Needs.{needs}
 use native.Mathlib.Omega.{arith}
 use lib.ListN.{length-drop}
-use Rattle.numbers.specs.Compact.{valueOf}
+use Rattle.numbers.specs.Compact.{compactValue}
 use Rattle.laws.proofs.Parts.{tail-part}
 use Rattle.numbers.proofs.Forms.{size-long, size-short, value-long}
 use Rattle.numbers.proofs.compact.value_of.Statement.{statement}
@@ -41,7 +41,7 @@ shr-result : tie.Need-shr-result
 shr-result c = search needs
 
 returns-2 : tie.Need-returns-2
-unfolding valueOf
+unfolding compactValue
 returns-2 c = cc (size-short _ (c .before .if1 .left))
 
 pub value-of-spec : {M : Type 1} → statement M

@@ -2,7 +2,7 @@
 -- Assumes nothing.
 use mathlib.Core.Path.{refl}
 use borrow.Author.Tests.{lt-ltb, le-ltb}
-use Rattle.pages.specs.Answer.{answerOf, told, rowsAfter, rangesAfter, outputAfter}
+use Rattle.pages.specs.Answer.{answerOf, answerTold, rowsAfter, rangesAfter, outputAfter}
 use borrow.Author.Needs.{needs}
 use Rattle.pages.proofs.answer.answer.Statement.{statement}
 use Rattle.pages.proofs.answer.answer.Tie as tie
@@ -11,14 +11,14 @@ at-place-requires : tie.Need-at-place-requires
 at-place-requires c κs = search needs
 
 returns : tie.Need-returns
-unfolding answerOf told rowsAfter rangesAfter outputAfter
+unfolding answerOf answerTold rowsAfter rangesAfter outputAfter
 returns c = rw (lt-ltb _ _ (c .before .if1 .taken), c .at-place .ensures) (refl, refl, refl, refl)
 
 at-place-requires-2 : tie.Need-at-place-requires-2
 at-place-requires-2 c κs = search needs
 
 returns-2 : tie.Need-returns-2
-unfolding answerOf told rowsAfter rangesAfter outputAfter
+unfolding answerOf answerTold rowsAfter rangesAfter outputAfter
 returns-2 c = rw (le-ltb _ _ (c .before .before .if1 .left), lt-ltb _ _ (c .before .if2 .taken), c .at-place2 .ensures) (refl, refl, refl, refl)
 
 answer-store-requires : tie.Need-answer-store-requires

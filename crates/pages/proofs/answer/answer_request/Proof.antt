@@ -6,7 +6,7 @@ use native.Mathlib.Omega.{arith}
 use lib.ListN.{length-replicate}
 use Rattle.store.specs.Knowledge.{saidNumbers}
 use Rattle.pages.specs.Decision.{mostCarried}
-use Rattle.pages.specs.Answer.{onRequest, told, rowsAfter, rangesAfter, outputAfter}
+use Rattle.pages.specs.Answer.{onRequest, answerTold, rowsAfter, rangesAfter, outputAfter}
 use Rattle.pages.proofs.Stored.{request-same, request-long, request-read}
 use borrow.Author.Needs.{needs}
 use Rattle.pages.proofs.answer.answer_request.Statement.{statement}
@@ -35,7 +35,7 @@ answer-page-requires c κs =
     (st .pre .0, request-read q _ _ _ mostCarried _ _ _ _ (omega arith) (omega (arith, length-replicate {A = ℕ} saidNumbers 0)) (rw (k .id .given .1) at (rr .read-request .ensures)), st .pre .1, st .pre .2)
 
 returns : tie.Need-returns
-unfolding onRequest told rowsAfter rangesAfter outputAfter
+unfolding onRequest answerTold rowsAfter rangesAfter outputAfter
 returns c =
     let k = c .before in
     let rr = k .before .before in

@@ -5,7 +5,7 @@ use Prim.Native.Nat.{ℕ}
 use native.Mathlib.Omega.{arith}
 use lib.ListN.{length, length-replicate}
 use Rattle.laws.specs.Bytes.{AllBytes}
-use Rattle.pages.specs.Answer.{told, rowsAfter, rangesAfter, outputAfter}
+use Rattle.pages.specs.Answer.{answerTold, rowsAfter, rangesAfter, outputAfter}
 use Rattle.pages.proofs.Stored.{store-held, store-long, store-fine, store-faulty}
 use borrow.Author.Needs.{needs}
 use Rattle.pages.proofs.answer.answer_store.Statement.{statement}
@@ -41,7 +41,7 @@ answer-request-requires c κs =
     (store-held s _ _ _ _ (k .n .given .0 .0) b (omega (arith, length-replicate {A = ℕ} 1536 0)) (omega (arith, length-replicate {A = ℕ} 768 0)) (rw (k .n .given .1) at (rs .read-store .ensures)), st .pre .0, st .pre .1)
 
 returns : tie.Need-returns
-unfolding told rowsAfter rangesAfter outputAfter
+unfolding answerTold rowsAfter rangesAfter outputAfter
 returns c =
     let k = c .before in
     let rs = k .before .before in

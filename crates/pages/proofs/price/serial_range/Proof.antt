@@ -5,15 +5,15 @@ use borrow.Author.Needs.{needs}
 use Rattle.pages.proofs.price.serial_range.Statement.{statement}
 use Rattle.pages.proofs.price.serial_range.Tie as tie
 
-guid-of-requires : tie.Need-guid-of-requires
-guid-of-requires c κs = search needs
+key-guid-requires : tie.Need-guid-of-requires
+key-guid-requires c κs = search needs
 
 range-of-requires : tie.Need-range-of-requires
 range-of-requires c κs = search needs
 
 returns : tie.Need-returns
 unfolding serialRange
-returns c = rw (c .range-of .ensures, c .before .guid-of .ensures)
+returns c = rw (c .range-of .ensures, c .before .key-guid .ensures)
 
 pub serial-range-spec : {M : Type 1} → statement M
-serial-range-spec = tie.close (tie.spec guid-of-requires range-of-requires returns)
+serial-range-spec = tie.close (tie.spec key-guid-requires range-of-requires returns)

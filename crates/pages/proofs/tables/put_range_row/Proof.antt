@@ -3,7 +3,7 @@
 use Prim.Native.Nat.{_*_}
 use native.Mathlib.Omega.{arith}
 use lib.ListN.{length-set}
-use Rattle.store.specs.KnowledgeWritten.{guidOf}
+use Rattle.store.specs.KnowledgeWritten.{rangeGuid}
 use Rattle.ranges.proofs.Four.{put-four}
 use borrow.Author.Needs.{needs}
 use Rattle.pages.proofs.tables.put_range_row.Statement.{statement}
@@ -55,12 +55,12 @@ same-length : tie.Need-same-length
 same-length c = search needs
 
 returns : tie.Need-returns
-unfolding guidOf
+unfolding rangeGuid
 returns c =
     let b = c .before in
     let a = b .before .before .args in
     rw (c .swap2 .ensures, b .swap .ensures)
-    (put-four (a .to .now) (a .k * 4) (guidOf (a .x) .low) (guidOf (a .x) .high) (a .x .from) (a .x .to) (omega arith))
+    (put-four (a .to .now) (a .k * 4) (rangeGuid (a .x) .low) (rangeGuid (a .x) .high) (a .x .from) (a .x .to) (omega arith))
 
 pub put-range-row-spec : {M : Type 1} → statement M
 put-range-row-spec =

@@ -5,15 +5,15 @@ use borrow.Author.Needs.{needs}
 use Rattle.pages.proofs.wanted.knows_element.Statement.{statement}
 use Rattle.pages.proofs.wanted.knows_element.Tie as tie
 
-guid-of-requires : tie.Need-guid-of-requires
-guid-of-requires c κs = search needs
+key-guid-requires : tie.Need-guid-of-requires
+key-guid-requires c κs = search needs
 
 is-known-requires : tie.Need-is-known-requires
 is-known-requires c κs = search needs
 
 returns : tie.Need-returns
 unfolding isKnown
-returns c = rw (c .is-known .ensures, c .before .guid-of .ensures)
+returns c = rw (c .is-known .ensures, c .before .key-guid .ensures)
 
 pub knows-element-spec : {M : Type 1} → statement M
-knows-element-spec = tie.close (tie.spec guid-of-requires is-known-requires returns)
+knows-element-spec = tie.close (tie.spec key-guid-requires is-known-requires returns)

@@ -10,7 +10,7 @@ use borrow.Author.Tests.{eq-eqb, ne-eqb}
 use Rattle.laws.specs.Pick.{pick}
 use Rattle.numbers.specs.declared.extended_guid.ExtendedGuid.the-variants.{Null, Named}
 use Rattle.store.specs.Tables.{elementInRow, elementsInRows, elementsIn}
-use Rattle.store.specs.Written.{guidOf}
+use Rattle.store.specs.Written.{keyGuid}
 use Rattle.store.specs.declared.element.Element.{Element}
 use Rattle.store.proofs.Elements.{rows-up-to, elements-turn, elements-end}
 use Rattle.pages.specs.Choice.{storageIndex}
@@ -23,7 +23,7 @@ index-start : (rows ids : List ℕ) (n : ℕ) → storageIndex (elementsIn rows 
 index-start rows ids n = let e : n - 0 ≡ n = omega arith in rw e
 
 index-turn : (rows ids : List ℕ) (i n : ℕ) (x : Element) → i < n → x ≡ elementInRow rows ids i
-    → storageIndex (elementsInRows rows ids i (n - i)) ≡ pick (eqb (x .kind) 1) (Named (guidOf (x .id)) (x .id .number)) (storageIndex (elementsInRows rows ids (i + 1) (n - (i + 1))))
+    → storageIndex (elementsInRows rows ids i (n - i)) ≡ pick (eqb (x .kind) 1) (Named (keyGuid (x .id)) (x .id .number)) (storageIndex (elementsInRows rows ids (i + 1) (n - (i + 1))))
 unfolding storageIndex
 index-turn rows ids i n x h e = rw (elements-turn rows ids i n h, ← e, add-one i)
 

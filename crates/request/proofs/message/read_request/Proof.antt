@@ -32,8 +32,8 @@ knowledge-part-requires c κs = search needs
 on-knowledge-requires : tie.Need-on-knowledge-requires
 on-knowledge-requires c κs = search needs
 
-ended-requires : tie.Need-ended-requires
-ended-requires c κs = search needs
+request-end-requires : tie.Need-request-end-requires
+request-end-requires c κs = search needs
 
 value-requires : tie.Need-value-requires
 value-requires c κs = search needs
@@ -62,7 +62,7 @@ returns-2 c =
     let h = rw (f .read-filters .ensures, f .before .constrained .ensures, f .before .before .identified .ensures) at (k .knowledge-part .ensures) in
     whole-read (a .s .now) (a .table .now) (f .before .before .before .if1 .left) (k .knowledge-part .result) _ h _
     (c .answer .ensures
-    ∙ rw (c .before .rows-known .ensures, c .before .before .value3 .ensures, c .before .before .before .place .ensures, c .before .before .before .before .value2 .ensures, c .before .before .before .before .before .value .ensures, o .ended .ensures, o .before .on-knowledge .ensures, f .read-filters .ensures, f .before .constrained .ensures, f .before .before .identified .ensures))
+    ∙ rw (c .before .rows-known .ensures, c .before .before .value3 .ensures, c .before .before .before .place .ensures, c .before .before .before .before .value2 .ensures, c .before .before .before .before .before .value .ensures, o .request-end .ensures, o .before .on-knowledge .ensures, f .read-filters .ensures, f .before .constrained .ensures, f .before .before .identified .ensures))
 
 pub read-request-spec : {M : Type 1} → statement M
 read-request-spec =
@@ -76,7 +76,7 @@ read-request-spec =
     read-filters-requires
     knowledge-part-requires
     on-knowledge-requires
-    ended-requires
+    request-end-requires
     value-requires
     value-requires-2
     place-requires
