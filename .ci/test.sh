@@ -66,8 +66,8 @@ count 'rt ci' "$room/log"
 took 'rt ci' "$(seconds_since "$since")"
 cp "$room/log" target/log/gate || fail 'there is no room for the log of rt ci'
 
-# ---- the tests in C, two at a time: most of them keep one processor busy. The first makes the archive, with which the others go on,
-# and the long ones come before the short ones, so that the lanes end together.
+# ---- the tests in C, two at a time, as each keeps one processor busy. The first makes the archive, with which the others go on, and
+# the long ones come before the short ones, so that the lanes end together.
 tests='tests/archive.sh tests/header.sh peer/sanitize.sh tests/peer.sh peer/spoiled.sh tests/player.sh tests/c.sh tests/install.sh'
 left=$tests
 # In the order above, whatever order they end in, so that the output of two runs can be compared.

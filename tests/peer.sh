@@ -1,9 +1,10 @@
 #!/bin/sh
 # Tests of the library against the peer, which is document 01 written in C by itself (peer/): stored cases by the peer, generated
 # cases and whole talks by both, and the tables that the call for C has for itself. peer/spoiled.sh holds the comparison itself to
-# what it is for, and peer/sanitize.sh runs the peer under the sanitizers. tests/archive.sh makes the archive, and rt check cases the
-# program `cases`, through which the tables are compared; make test does both before. What is generated is determined by a seed,
-# which is printed; PEER_CASES, PEER_TALKS, PEER_TABLES and PEER_SEED choose other numbers. The last line is 'N passed, 0 failed'.
+# what it is for, and peer/sanitize.sh runs the peer under the sanitizers. tests/archive.sh makes the archive, and rt check cases
+# the program `cases`, through which the tables are compared; make test does both before. What is generated is determined by a
+# seed, which is printed; PEER_CASES, PEER_TALKS, PEER_TABLES and PEER_SEED choose other numbers. The last line is 'N passed, 0
+# failed'.
 set -u
 cd "$(dirname "$0")/.." || exit 1
 . peer/files.sh
