@@ -53,7 +53,7 @@ one-byte-short h = let z : _≡_ {A = ℕ} 44 45 = ap (λ (t : Told). t .needed)
 -- with a limit of 5 the same needs its constraint too: the limit left out
 limit-dropped : WritesRequest 1 5 [] [] (Refused (tooShort 45)) [] [] → ⊥
 unfolding askWrote judgedFilters judgedKnowledge filtersGiven noMore filtersFrom knowledgeGiven knowledgeOf valued finish nextIs headerAt headerOf sized startOf endOf le writtenIn askBytes askFront versionBytes userAgentBytes subRequestBytes subRequestData queryBytes argumentBytes argumentData constraintBytes askEnds startBytes longStart endBytes extendedGuidBytes compactBytes sizeOf formOf formFrom bytes
-limit-dropped h = ?
+limit-dropped h = let z : _≡_ {A = ℕ} 45 50 = ap (λ (t : Told). t .needed) (h .0) in omega arith
 
 -- ---- read_answer
 

@@ -56,7 +56,7 @@ sent-twice = refl
 
 -- a page of one of two things, though both would do: it is not the greatest
 stops-early : Greatest (λ j. true) 2 1 → ⊥
-stops-early h = impossible (h .stop (omega arith))
+stops-early h = let z : true ≡ false = h .stop (omega arith) in impossible (cc)
 
 -- three things, and pages of two and of one
 two-and-one : Delivers eqb (λ (n : ℕ). n) (7 ∷ 8 ∷ 9 ∷ []) (λ n. true) (λ n. false) (answer (7 ∷ 8 ∷ []) true ∷ answer (9 ∷ []) false ∷ [])
