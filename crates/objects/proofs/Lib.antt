@@ -3,6 +3,7 @@ pub mod HeaderForms
 pub mod Ahead
 pub mod Short
 pub mod Next
+pub mod Told
 pub mod Rules
 pub mod Local
 pub mod Deeper

@@ -15,7 +15,7 @@ use Rattle.numbers.specs.Refusals.{faultAt}
 use Rattle.numbers.specs.declared.refusal.Refusal.{Refusal}
 use Rattle.objects.specs.Header.{startOf, headerAt}
 use Rattle.objects.specs.Nesting.{dataPast, andOn, onward, objectAt, runAt}
-use Rattle.objects.specs.Next.{shortNumber, objectOn, passing, opening, nextOn, nextAt, metBy, plainOn, metAt}
+use Rattle.objects.specs.Next.{shortNumber, objectOn, passing, opening, nextOn, nextAt, openedAt, metBy, plainOn, metAt}
 use Rattle.objects.specs.declared.header.Header.{Header}
 use Rattle.objects.specs.declared.header.Header.the-variants as header
 use Rattle.objects.specs.declared.nesting.Passed.{Passed}
@@ -50,14 +50,61 @@ module _ (s : List ℕ) (at d w : ℕ) (is : shortNumber s at ≡ w) (low : w % 
   pub next-opens : (w / 4 % 2 ≡ 0 → ⊥) → (d ≡ 0 → ⊥) → nextAt s at d ≡ next.Opens (w / 8 % 64) (at + 2 + w / 8 / 64)
   next-opens b z = next-start ∙ rw (eq-eqb (w / 4 % 2) 1 (set-bit (w / 4) b), ne-eqb d 0 z)
 
-  pub next-over : (w / 4 % 2 ≡ 0 → ⊥) → d ≡ 0 → nextAt s at d ≡ next.Refused (faultAt 6 at)
-  next-over b z = next-start ∙ rw (eq-eqb (w / 4 % 2) 1 (set-bit (w / 4) b), eq-eqb d 0 z)
+-- ---- the short start of a compound object, w as a number, by the place behind its data
 
--- ---- an end of one byte
+module _ (s : List ℕ) (at d w : ℕ) (is : shortNumber s at ≡ w) where
+  pub opened-other : (w % 8 ≡ 4 → ⊥) → openedAt s at d ≡ 0
+  unfolding openedAt
+  opened-other low = rw (is, ne-eqb (w % 8) 4 low)
 
-pub next-end : (s : List ℕ) (at d w : ℕ) → shortNumber s at ≡ w → w % 4 ≡ 1 → nextAt s at d ≡ next.Ends (getD s at 0 / 4) (at + 1)
-unfolding nextAt
-next-end s at d w is e = rw (short-end s at (ap (λ (x : ℕ). x % 4) is ∙ e))
+  module _ (low : w % 8 ≡ 4) where
+    pub opened-over : d ≡ 0 → openedAt s at d ≡ 0
+    unfolding openedAt
+    opened-over z = rw (is, eq-eqb (w % 8) 4 low, eq-eqb d 0 z)
+
+    module _ (more : d ≡ 0 → ⊥) where
+      pub opened-cut : length s - at - 2 < w / 8 / 64 → openedAt s at d ≡ 0
+      unfolding openedAt
+      opened-cut cut = rw (is, eq-eqb (w % 8) 4 low, ne-eqb d 0 more, lt-ltb (length s - at - 2) (w / 8 / 64) cut)
+
+      pub opened-wide : w / 8 / 64 ≤ length s - at - 2 → 127 < w / 8 / 64 → openedAt s at d ≡ 0
+      unfolding openedAt
+      opened-wide fits wide =
+          rw (is, eq-eqb (w % 8) 4 low, ne-eqb d 0 more, le-ltb (length s - at - 2) (w / 8 / 64) fits, lt-ltb 127 (w / 8 / 64) wide)
+
+      pub opened-there : (e : ℕ) → w / 8 / 64 ≤ length s - at - 2 → w / 8 / 64 ≤ 127 → at + 2 + w / 8 / 64 ≡ e → openedAt s at d ≡ e
+      unfolding openedAt
+      opened-there e fits few end =
+          rw (is, eq-eqb (w % 8) 4 low, ne-eqb d 0 more, le-ltb (length s - at - 2) (w / 8 / 64) fits, le-ltb 127 (w / 8 / 64) few, end)
+
+-- a place that is told so, and not 0, is where the run inside starts
+abbrev Opening : List ℕ → ℕ → ℕ → ℕ → Type 0
+Opening s at d e = (e ≡ 0 → ⊥) → nextAt s at d ≡ next.Opens (shortNumber s at / 8 % 64) e
+
+opened-here : (s : List ℕ) (at d : ℕ) → Opening s at d (openedAt s at d)
+unfolding openedAt
+opened-here s at d =
+    let P = Opening s at d in
+    let w = shortNumber s at in
+    pick-all P (eqb (w % 8) 4) _ _
+    (λ a.
+    pick-all P (eqb d 0) _ _ (λ b z. absurd (z refl))
+    (λ b.
+    pick-all P (ltb (length s - at - 2) (w / 8 / 64)) _ _ (λ c z. absurd (z refl))
+    (λ c.
+    pick-all P (ltb 127 (w / 8 / 64)) _ _ (λ f z. absurd (z refl))
+    (λ f z.
+    let low = eqb-true (w % 8) 4 a in
+    next-opens s at d w refl (omega arith) (ltb-false 127 (w / 8 / 64) f) (ltb-false (length s - at - 2) (w / 8 / 64) c) (λ h. omega arith) (eqb-false d 0 b)))))
+    (λ a z. absurd (z refl))
+
+pub opened-opens : (s : List ℕ) (at d w e kind inside : ℕ) → shortNumber s at ≡ w → openedAt s at d ≡ e → (e ≡ 0 → ⊥) → kind ≡ w / 8 % 64 → inside ≡ e
+    → nextAt s at d ≡ next.Opens kind inside
+opened-opens s at d w e kind inside is o z k i = rw (k, i, sym is) (subst (Opening s at d) o (opened-here s at d) z)
+
+-- what opens a run, by names of its type and place
+pub opens-as : (s : List ℕ) (at d k e kind inside : ℕ) → nextAt s at d ≡ next.Opens k e → kind ≡ k → inside ≡ e → nextAt s at d ≡ next.Opens kind inside
+opens-as s at d k e kind inside n p q = rw (p, q) n
 
 -- ---- where the next thing stands
 

@@ -70,7 +70,7 @@ byte-behind : WritesEnd 1 (9 ∷ 9 ∷ []) (wrote.Done 1) (0x05 ∷ 0x00 ∷ [])
 unfolding placed endBytes bytes
 byte-behind h = let z = h .1 in let y : _≡_ {A = ℕ} 0 9 = cc in omega arith
 
--- ---- read_object
+-- ---- pass_object
 
 -- `0C 00 05` ends behind its end, not behind its own data
 end-left-out : objectAt (0x0C ∷ 0x00 ∷ 0x05 ∷ []) 0 16 ≡ passed.To 2 → ⊥
@@ -87,7 +87,7 @@ one-level-less : objectAt (0x0C ∷ 0x00 ∷ 0x05 ∷ []) 0 1 ≡ passed.Refused
 unfolding objectAt objectD dataPast lengthAt headerAt headerOf sized startOf endOf le iterate turns
 one-level-less h = impossible (cc)
 
--- ---- read_run
+-- ---- pass_run
 
 -- `09` ends type 2, and not the open object of type 1
 other-end : runAt (0x09 ∷ []) 0 16 1 ≡ passed.To 1 → ⊥

@@ -1,5 +1,6 @@
--- What stands at a place of a run, an object from there, and what a run meets. Only the code of `header`, `layout` and `nesting` needs
--- this: that a run is what document 01 says stands in Nesting.antt, and nothing here adds to it, so a reader of the promises can skip it.
+-- What stands at a place of a run, an object from there, what a run meets, and what is answered in one number. Only the code of `header`,
+-- `layout` and `nesting` needs this: that a run is what document 01 says stands in Nesting.antt, and nothing here adds to it, so a reader
+-- of the promises can skip it.
 -- Assumes nothing.
 use Prim.Native.Nat.{ℕ, _+_, _-_, _/_, _%_}
 use mathlib.Core.Bool.{Bool, false}
@@ -9,6 +10,7 @@ use lib.Dec.{ltb, eqb}
 use Rattle.laws.specs.Pick.{pick}
 use Rattle.laws.specs.Bytes.{le}
 use Rattle.numbers.specs.Refusals.{faultAt}
+use Rattle.numbers.specs.declared.refusal.Refusal.{Refusal}
 use Rattle.objects.specs.Header.{headerAt}
 use Rattle.objects.specs.Nesting.{dataPast, runAt}
 use Rattle.objects.specs.Steps.{sameBit}
@@ -55,6 +57,27 @@ objectOn s at d (next.Refused r) = Refused r
 objectOn s at d (next.Ends k e) = Refused (faultAt 4 at)
 objectOn s at d (next.Past e) = To e
 objectOn s at d (next.Opens k e) = runAt s e (d - 1) k
+
+-- ---- the short start of a compound object
+
+-- the place behind its n bytes of data, which are there, with a level left to open it; 0 for anything else
+abbrev pub openedOn : List ℕ → ℕ → ℕ → ℕ → ℕ
+openedOn s at d n = pick (eqb d 0) 0 (pick (ltb (length s - at - 2) n) 0 (pick (ltb 127 n) 0 (at + 2 + n)))
+
+unfoldable pub openedAt : List ℕ → ℕ → ℕ → ℕ
+openedAt s at d = pick (eqb (shortNumber s at % 8) 4) (openedOn s at d (shortNumber s at / 8 / 64)) 0
+
+-- ---- what `read_object` and `read_run` answer, in one number: a place, or, from 2^63 on, a refusal by its place or by its number
+
+abbrev pub refusedFrom : ℕ
+refusedFrom = 0x8000000000000000
+
+unfoldable pub toldRefusal : Bool → Refusal → ℕ
+toldRefusal placed r = refusedFrom + pick placed (r .place) (r .number)
+
+unfoldable pub told : Bool → Passed → ℕ
+told placed (To e) = e
+told placed (Refused r) = toldRefusal placed r
 
 -- ---- what a run of the open object of type `kind` meets: a plain object whose header has two bytes, and whose data is there; its own end;
 -- or what is for `read_object`

@@ -12,7 +12,7 @@ use crate::header::header_at;
 use crate::header::length_at;
 use crate::header::short_number;
 use crate::nesting::Passed;
-use crate::nesting::read_run;
+use crate::nesting::pass_run;
 use crate::reading::Reading;
 use numbers::refusal::Refusal;
 use numbers::refusal::at_place;
@@ -109,7 +109,7 @@ impl Reading {
     {
         match self {
             Reading::Refused(r) => Reading::Refused(r),
-            Reading::At(at, _) => match read_run(s, at, depth, kind) {
+            Reading::At(at, _) => match pass_run(s, at, depth, kind) {
                 Passed::To(e) => Reading::At(e, 0),
                 Passed::Refused(r) => Reading::Refused(r),
             },

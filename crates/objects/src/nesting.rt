@@ -1,10 +1,14 @@
 // One object and a run of objects, which call each other: `read_object` calls `read_run` for the inside of a compound object, and a turn of
 // `read_run` calls `read_object`. The depth falls with each compound object that is opened, the bytes left from turn to turn. A run is one
 // loop, so that the stack grows with the depth alone; without a call it goes by plain objects with short headers and by its own end only.
-// Most headers are short, a start of two bytes or an end of one, and these are told by their bytes, without a `Header`.
+// Most headers are short, a start of two bytes or an end of one, and these are told by their bytes, without a `Header`. What the two answer
+// is one number, since an enum would come back through memory from every compound object; `pass_object` and `pass_run` make a `Passed` of
+// it, once.
 ghost use mathlib.Core.Path.{_≡_};
+ghost use Prim.Native.Nat.{_≤_, _<_};
+ghost use lib.ListN.{length};
 ghost use Rattle.objects.specs.Nesting.{dataPast, objectAt, runAt};
-ghost use Rattle.objects.specs.Next.{nextAt, metBy, metAt};
+ghost use Rattle.objects.specs.Next.{shortNumber, nextAt, openedAt, metBy, metAt, refusedFrom, toldRefusal, told};
 ghost use Rattle.objects.specs.Header.{headerAt};
 use crate::header::Header;
 use crate::header::Length;
@@ -47,7 +51,7 @@ enum Next {
     Refused(Refusal),
 }
 
-// The same as `next_at`, by a header of any form.
+// The same told by its header, of any form, with so many compound objects still to be opened.
 fn next_by_header(s: &[u8], at: usize, depth: usize) -> Next
     ensures { λ r. ⌜ r ≡ nextAt (now (s .entry)) at depth ⌝ }
 {
@@ -73,48 +77,70 @@ fn next_by_header(s: &[u8], at: usize, depth: usize) -> Next
     }
 }
 
-// What stands at a place of a run, with so many compound objects still to be opened. A length of over 127 does not come in two bytes:
-// the compiler sees that and leaves the test out, and the proof needs no law about bytes.
-fn next_at(s: &[u8], at: usize, depth: usize) -> Next
-    ensures { λ r. ⌜ r ≡ nextAt (now (s .entry)) at depth ⌝ }
+// The place behind the data of a compound object whose start w has two bytes, if a level is left to open it and its data is there; 0 for
+// anything else. A number, and no `Next`, because most compound objects start so. A length of over 127 does not come in two bytes: the
+// compiler sees that and leaves the test out, and the proof needs no law about bytes. That a start has no data is a case of its own for the
+// reason that `met_at` gives.
+fn opened_at(s: &[u8], at: usize, w: u64, depth: usize) -> usize
+    requires { ⌜ w ≡ shortNumber (now s) at ⌝ }
+    ensures { λ r. ⌜ r ≡ openedAt (now (s .entry)) at depth ⌝ }
 {
-    let w = short_number(s, at);
-    let low = w % 4;
-    if low == 0 {
-        let n = w / 8 / SHORT_TYPES;
-        let left = (s.len() - at - 2) as u64;
-        if left < n {
-            return next_by_header(s, at, depth);
-        }
-        if 127 < n {
-            return next_by_header(s, at, depth);
-        }
-        let e = at + 2 + n as usize;
-        if w / 4 % 2 == 0 {
-            return Next::Past(e);
-        }
-        if depth == 0 {
-            return Next::Refused(at_place(6, at));
-        }
-        return Next::Opens(w / 8 % SHORT_TYPES, e);
+    if w % 8 != 4 {
+        return 0;
     }
-    if low == 1 {
-        return Next::Ends(s[at] as u64 / 4, at + 1);
+    if depth == 0 {
+        return 0;
     }
-    next_by_header(s, at, depth)
+    let n = w / 8 / SHORT_TYPES;
+    if n == 0 {
+        return at + 2;
+    }
+    let left = (s.len() - at - 2) as u64;
+    if left < n {
+        return 0;
+    }
+    if 127 < n {
+        return 0;
+    }
+    at + 2 + n as usize
 }
 
-// The object at a place of the input, with so many compound objects still to be opened: the run inside it has one level fewer. Ruled out
-// (proofs/WrongAnswers): `0C 00 05` ended at 2, behind its own data; the same taken with no level left.
-pub fn read_object(s: &[u8], at: usize, depth: usize) -> Passed
-    ensures { λ r. ⌜ r ≡ objectAt (now (s .entry)) at depth ⌝ }
+// From here on a number is a refusal, and no place: every slice has fewer bytes than 2^63. One bit tells the two apart.
+const REFUSED: usize = 0x8000000000000000;
+
+// A refusal as one number: by its place, if `placed`, or else by its own number.
+fn told_refusal(r: Refusal, placed: bool) -> usize
+    requires { ⌜ r .place < refusedFrom ⌝ }
+    ensures { λ n. ⌜ n ≡ toldRefusal placed r ⌝ }
 {
-    match next_at(s, at, depth) {
-        Next::Refused(r) => Passed::Refused(r),
-        Next::Past(e) => Passed::To(e),
-        Next::Ends(_, _) => Passed::Refused(at_place(4, at)),
-        Next::Opens(kind, e) => read_run(s, e, depth - 1, kind),
+    if placed {
+        return REFUSED + r.place;
     }
+    REFUSED + r.number as usize
+}
+
+// The object at a place of the input, with so many compound objects still to be opened: the run inside it has one level fewer. What comes
+// back is the place behind it, or a refusal as one number; that is why the place must lie within the input, as a fault's place then does
+// too. A short start and any other lead to one call of `read_run`.
+fn read_object(s: &[u8], at: usize, depth: usize, placed: bool) -> usize
+    requires { ⌜ at ≤ length (now s) ⌝ }
+    ensures { λ r. ⌜ r ≡ told placed (objectAt (now (s .entry)) at depth) ⌝ }
+{
+    let w = short_number(s, at);
+    let mut kind = w / 8 % SHORT_TYPES;
+    let mut inside = opened_at(s, at, w, depth);
+    if inside == 0 {
+        match next_by_header(s, at, depth) {
+            Next::Refused(r) => return told_refusal(r, placed),
+            Next::Past(e) => return e,
+            Next::Ends(_, _) => return told_refusal(at_place(4, at), placed),
+            Next::Opens(k, e) => {
+                kind = k;
+                inside = e;
+            }
+        }
+    }
+    read_run(s, inside, depth - 1, kind, placed)
 }
 
 // What a run meets at a place: a plain object with a short header, and the place behind it; the run's own end, and the place behind it; or
@@ -174,10 +200,10 @@ fn met_at(s: &[u8], at: usize, kind: u64) -> Met
     met_by_header(s, at, kind)
 }
 
-// Objects up to the end of the open object of type `kind`. Ruled out (proofs/WrongAnswers): `09`, an end of type 2, taken
-// for one of type 1; a run without an end.
-pub(crate) fn read_run(s: &[u8], at: usize, depth: usize, kind: u64) -> Passed
-    ensures { λ r. ⌜ r ≡ runAt (now (s .entry)) at depth kind ⌝ }
+// Objects up to the end of the open object of type `kind`; what comes back is as of `read_object`.
+fn read_run(s: &[u8], at: usize, depth: usize, kind: u64, placed: bool) -> usize
+    requires { ⌜ at ≤ length (now s) ⌝ }
+    ensures { λ r. ⌜ r ≡ told placed (runAt (now (s .entry)) at depth kind) ⌝ }
 {
     let mut i = at;
     loop {
@@ -185,13 +211,46 @@ pub(crate) fn read_run(s: &[u8], at: usize, depth: usize, kind: u64) -> Passed
             Met::Plain(e) => {
                 i = e;
             }
-            Met::Ended(e) => return Passed::To(e),
-            Met::Object => match read_object(s, i, depth) {
-                Passed::Refused(r) => return Passed::Refused(r),
-                Passed::To(e) => {
-                    i = e;
+            Met::Ended(e) => return e,
+            Met::Object => {
+                let e = read_object(s, i, depth, placed);
+                if REFUSED <= e {
+                    return e;
                 }
-            },
+                i = e;
+            }
         }
     }
+}
+
+// The object at a place of the input, as a `Passed`. What is refused is read once more, for the fault's place, and nothing else is read
+// twice. Ruled out (proofs/WrongAnswers): `0C 00 05` ended at 2, behind its own data; the same taken with no level left.
+pub fn pass_object(s: &[u8], at: usize, depth: usize) -> Passed
+    ensures { λ r. ⌜ r ≡ objectAt (now (s .entry)) at depth ⌝ }
+{
+    if s.len() < at {
+        return Passed::Refused(at_place(2, at));
+    }
+    let e = read_object(s, at, depth, false);
+    if e < REFUSED {
+        return Passed::To(e);
+    }
+    let place = read_object(s, at, depth, true) - REFUSED;
+    Passed::Refused(at_place((e - REFUSED) as u8, place))
+}
+
+// A run, as a `Passed`, like an object. Ruled out (proofs/WrongAnswers): `09`, an end of type 2, taken for one of type 1; a run without
+// an end.
+pub(crate) fn pass_run(s: &[u8], at: usize, depth: usize, kind: u64) -> Passed
+    ensures { λ r. ⌜ r ≡ runAt (now (s .entry)) at depth kind ⌝ }
+{
+    if s.len() < at {
+        return Passed::Refused(at_place(2, at));
+    }
+    let e = read_run(s, at, depth, kind, false);
+    if e < REFUSED {
+        return Passed::To(e);
+    }
+    let place = read_run(s, at, depth, kind, true) - REFUSED;
+    Passed::Refused(at_place((e - REFUSED) as u8, place))
 }

@@ -13,8 +13,8 @@ enum-known-self c = search needs
 enum-known-self-2 : tie.Need-enum-known-self-2
 enum-known-self-2 c = search needs
 
-read-run-requires : tie.Need-read-run-requires
-read-run-requires c κs = search needs
+pass-run-requires : tie.Need-pass-run-requires
+pass-run-requires c κs = search needs
 
 enum-known-e : tie.Need-enum-known-e
 enum-known-e c = search needs
@@ -28,11 +28,11 @@ returns c = search (lt-ltb, le-ltb, eq-eqb, ne-eqb, c .before .self .given .1)
 
 returns-2 : tie.Need-returns-2
 unfolding inside
-returns-2 c = search (lt-ltb, le-ltb, eq-eqb, ne-eqb, sym (c .before .before .before .read-run .ensures) ∙ c .before .e .given .1, c .before .before .before .before .before .self2 .given .1)
+returns-2 c = search (lt-ltb, le-ltb, eq-eqb, ne-eqb, sym (c .before .before .before .pass-run .ensures) ∙ c .before .e .given .1, c .before .before .before .before .before .self2 .given .1)
 
 returns-3 : tie.Need-returns-3
 unfolding inside
-returns-3 c = search (lt-ltb, le-ltb, eq-eqb, ne-eqb, sym (c .before .before .before .read-run .ensures) ∙ c .before .r .given .1, c .before .before .before .before .before .self2 .given .1)
+returns-3 c = search (lt-ltb, le-ltb, eq-eqb, ne-eqb, sym (c .before .before .before .pass-run .ensures) ∙ c .before .r .given .1, c .before .before .before .before .before .self2 .given .1)
 
 pub inside-spec : {M : Type 1} → statement M
 inside-spec =
@@ -40,7 +40,7 @@ inside-spec =
     (tie.spec
     enum-known-self
     enum-known-self-2
-    read-run-requires
+    pass-run-requires
     enum-known-e
     enum-known-r
     returns
