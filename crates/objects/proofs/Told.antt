@@ -11,7 +11,7 @@ use Rattle.numbers.specs.Refusals.{faultAt}
 use Rattle.numbers.specs.declared.refusal.Refusal.{Refusal}
 use Rattle.objects.specs.Header.{headerAt}
 use Rattle.objects.specs.Nesting.{andOn, objectAt, runAt}
-use Rattle.objects.specs.Next.{refusedFrom, toldRefusal, told}
+use Rattle.objects.specs.Next.{refusedFrom, toldRefusal, toldNumber}
 use Rattle.objects.specs.declared.header.Header.{Header}
 use Rattle.objects.specs.declared.header.Header.the-variants as header
 use Rattle.objects.specs.declared.nesting.Passed.{Passed}
@@ -21,33 +21,33 @@ use Rattle.objects.proofs.Ahead.{NestingFault, two, three, four, six, A
 
 -- ---- what is told
 
-pub told-place : (placed : Bool) (p : Passed) (e : ℕ) → p ≡ To e → e ≡ told placed p
-unfolding told
+pub told-place : (placed : Bool) (p : Passed) (e : ℕ) → p ≡ To e → e ≡ toldNumber placed p
+unfolding toldNumber
 told-place placed p e q = rw q
 
-pub told-fault : (placed : Bool) (p : Passed) (r : Refusal) (n : ℕ) → n ≡ toldRefusal placed r → p ≡ Refused r → n ≡ told placed p
-unfolding told
+pub told-fault : (placed : Bool) (p : Passed) (r : Refusal) (n : ℕ) → n ≡ toldRefusal placed r → p ≡ Refused r → n ≡ toldNumber placed p
+unfolding toldNumber
 told-fault placed p r n t q = rw q t
 
 -- ---- which of the two it is
 
-goes : (placed : Bool) (p : Passed) → told placed p < refusedFrom → p ≡ To (told placed p)
-unfolding told toldRefusal
+goes : (placed : Bool) (p : Passed) → toldNumber placed p < refusedFrom → p ≡ To (toldNumber placed p)
+unfolding toldNumber toldRefusal
 goes placed (To e) h = refl
 goes placed (Refused r) h = absurd (omega arith)
 
-pub told-goes : (placed : Bool) (p : Passed) (n : ℕ) → n ≡ told placed p → n < refusedFrom → p ≡ To n
+pub told-goes : (placed : Bool) (p : Passed) (n : ℕ) → n ≡ toldNumber placed p → n < refusedFrom → p ≡ To n
 told-goes placed p n t h = rw t (goes placed p (rw t at h))
 
 stops : (s : List ℕ) (at : ℕ) (placed : Bool) (p : Passed) (go : ℕ → Passed) → length s < refusedFrom → Ahead s at p
-    → refusedFrom ≤ told placed p → told placed p ≡ told placed (andOn p go)
-unfolding told
+    → refusedFrom ≤ toldNumber placed p → toldNumber placed p ≡ toldNumber placed (andOn p go)
+unfolding toldNumber
 stops s at placed (To e) go short a h = absurd (omega arith)
 stops s at placed (Refused r) go short a h = refl
 
 -- a run stops at a refusal of its object
 pub told-stops : (s : List ℕ) (at d : ℕ) (placed : Bool) (go : ℕ → Passed) (n : ℕ) → length s < refusedFrom
-    → n ≡ told placed (objectAt s at d) → refusedFrom ≤ n → n ≡ told placed (andOn (objectAt s at d) go)
+    → n ≡ toldNumber placed (objectAt s at d) → refusedFrom ≤ n → n ≡ toldNumber placed (andOn (objectAt s at d) go)
 told-stops s at d placed go n short t h = t ∙ stops s at placed (objectAt s at d) go short (object-ahead s at d) (rw t at h)
 
 -- ---- a refusal, by both
@@ -62,8 +62,8 @@ fault-is r (six p) = (refl, omega arith)
 abbrev pub Both : Passed → ℕ → ℕ → Type 0
 Both p n q = (n - refusedFrom ≤ 6) × (refusedFrom ≤ q) × (p ≡ Refused (faultAt (n - refusedFrom) (q - refusedFrom)))
 
-both : (s : List ℕ) (at : ℕ) (p : Passed) → length s < refusedFrom → Ahead s at p → refusedFrom ≤ told false p → Both p (told false p) (told true p)
-unfolding told toldRefusal
+both : (s : List ℕ) (at : ℕ) (p : Passed) → length s < refusedFrom → Ahead s at p → refusedFrom ≤ toldNumber false p → Both p (toldNumber false p) (toldNumber true p)
+unfolding toldNumber toldRefusal
 both s at (To e) short a h = absurd (omega arith)
 both s at (Refused r) short a h =
     let f = fault-is r (a .2) in
@@ -71,7 +71,7 @@ both s at (Refused r) short a h =
     let q : refusedFrom + r .place - refusedFrom ≡ r .place = omega arith in
     (rw k (f .1), omega arith, ap Refused (f .0 ∙ rw (k, q)))
 
-pub told-both : (s : List ℕ) (at : ℕ) (p : Passed) (n q : ℕ) → length s < refusedFrom → Ahead s at p → n ≡ told false p → q ≡ told true p
+pub told-both : (s : List ℕ) (at : ℕ) (p : Passed) (n q : ℕ) → length s < refusedFrom → Ahead s at p → n ≡ toldNumber false p → q ≡ toldNumber true p
     → refusedFrom ≤ n → Both p n q
 told-both s at p n q short a t u h = rw (t, u) (both s at p short a (rw t at h))
 

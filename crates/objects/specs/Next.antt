@@ -75,9 +75,9 @@ refusedFrom = 0x8000000000000000
 unfoldable pub toldRefusal : Bool → Refusal → ℕ
 toldRefusal placed r = refusedFrom + pick placed (r .place) (r .number)
 
-unfoldable pub told : Bool → Passed → ℕ
-told placed (To e) = e
-told placed (Refused r) = toldRefusal placed r
+unfoldable pub toldNumber : Bool → Passed → ℕ
+toldNumber placed (To e) = e
+toldNumber placed (Refused r) = toldRefusal placed r
 
 -- ---- what a run of the open object of type `kind` meets: a plain object whose header has two bytes, and whose data is there; its own end;
 -- or what is for `read_object`

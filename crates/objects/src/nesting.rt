@@ -8,7 +8,7 @@ ghost use mathlib.Core.Path.{_≡_};
 ghost use Prim.Native.Nat.{_≤_, _<_};
 ghost use lib.ListN.{length};
 ghost use Rattle.objects.specs.Nesting.{dataPast, objectAt, runAt};
-ghost use Rattle.objects.specs.Next.{shortNumber, nextAt, openedAt, metBy, metAt, refusedFrom, toldRefusal, told};
+ghost use Rattle.objects.specs.Next.{shortNumber, nextAt, openedAt, metBy, metAt, refusedFrom, toldRefusal, toldNumber};
 ghost use Rattle.objects.specs.Header.{headerAt};
 use crate::header::Header;
 use crate::header::Length;
@@ -124,7 +124,7 @@ fn told_refusal(r: Refusal, placed: bool) -> usize
 // too. A short start and any other lead to one call of `read_run`.
 fn read_object(s: &[u8], at: usize, depth: usize, placed: bool) -> usize
     requires { ⌜ at ≤ length (now s) ⌝ }
-    ensures { λ r. ⌜ r ≡ told placed (objectAt (now (s .entry)) at depth) ⌝ }
+    ensures { λ r. ⌜ r ≡ toldNumber placed (objectAt (now (s .entry)) at depth) ⌝ }
 {
     let w = short_number(s, at);
     let mut kind = w / 8 % SHORT_TYPES;
@@ -203,7 +203,7 @@ fn met_at(s: &[u8], at: usize, kind: u64) -> Met
 // Objects up to the end of the open object of type `kind`; what comes back is as of `read_object`.
 fn read_run(s: &[u8], at: usize, depth: usize, kind: u64, placed: bool) -> usize
     requires { ⌜ at ≤ length (now s) ⌝ }
-    ensures { λ r. ⌜ r ≡ told placed (runAt (now (s .entry)) at depth kind) ⌝ }
+    ensures { λ r. ⌜ r ≡ toldNumber placed (runAt (now (s .entry)) at depth kind) ⌝ }
 {
     let mut i = at;
     loop {

@@ -8,7 +8,7 @@ use lib.ListN.{length}
 use denote.Ref.{now}
 use borrow.Author.Needs.{needs}
 use Rattle.objects.specs.Nesting.{runAt}
-use Rattle.objects.specs.Next.{nextAt, told}
+use Rattle.objects.specs.Next.{nextAt, toldNumber}
 use Rattle.objects.specs.declared.nesting.Passed.the-variants.{Refused}
 use Rattle.objects.specs.declared.nesting.Next.the-variants.{Opens}
 use Rattle.objects.proofs.Ahead.{object-next}
@@ -158,7 +158,7 @@ read-object-read-run-requires t c κs =
     (omega arith, e)
 
 read-object-returns-4 : (t : ℕ) → read-object-lts.Need-returns-4 (in-object t) (read-object-at t) read-object.Post
-read-object-returns-4 t c = c .read-run .ensures ∙ ap (told _) (sym (object-next-on _ _ _ _ (opens t (c .before))))
+read-object-returns-4 t c = c .read-run .ensures ∙ ap (toldNumber _) (sym (object-next-on _ _ _ _ (opens t (c .before))))
 
 abbrev read-run-Inv-loop : read-run-lts.InvT-loop
 read-run-Inv-loop s at depth kind placed i₀ i = (runAt s at depth kind ≡ runAt s i depth kind) × (i ≤ length s)
@@ -211,7 +211,7 @@ read-run-returns-2 t c =
     let k = c .before .before .before .before in
     let l = k .before .before .before .good .0 .1 in
     let m = met-is _ _ _ _ (sym (k .met-at .ensures) ∙ c .before .before .enum-told .given .1) _ _ refl in
-    told-stops _ _ _ _ _ _ (omega arith) (c .before .read-object .ensures) (c .if1 .taken) ∙ ap (told _) (sym (k .before .loop .inv .0 ∙ m))
+    told-stops _ _ _ _ _ _ (omega arith) (c .before .read-object .ensures) (c .if1 .taken) ∙ ap (toldNumber _) (sym (k .before .loop .inv .0 ∙ m))
 
 read-run-loop-less-2 : (t : ℕ) → read-run-lts.Need-loop-less-2 (in-run t) (read-run-at t) read-run.Post read-run-Inv-loop read-run-μ-loop
 read-run-loop-less-2 t c =
