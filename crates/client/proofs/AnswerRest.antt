@@ -61,7 +61,7 @@ unfolding packagedOf
 package-refused n (At e v) r h = impossible (cc)
 package-refused n (Refused q) r h = cc
 
-pub package-holds : (m : ℕ) (c : Reading) (n e : ℕ) → packagedOf m c ≡ packaged.Holds n e → (m ≡ n) × (valued 0 c ≡ At e 0)
+pub package-holds : (m : ℕ) (c : Reading) (n e : ℕ) → packagedOf m c ≡ packaged.Holds e n → (m ≡ n) × (valued 0 c ≡ At e 0)
 unfolding packagedOf valued
 package-holds m (At q v) n e h = (cc, cc)
 package-holds m (Refused r) n e h = impossible (cc)

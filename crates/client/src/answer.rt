@@ -160,7 +160,7 @@ pub(crate) fn read_rows(
     let first = package_start(s, c, RESPONSE).place();
     match read_package(s, c, RESPONSE, rows, ids) {
         Packaged::Refused(r) => ReadAnswer::Refused(r),
-        Packaged::Holds(n, e) => read_rest(s, Reading::At(e, 0), first, n),
+        Packaged::Holds(e, n) => read_rest(s, Reading::At(e, 0), first, n),
     }
 }
 

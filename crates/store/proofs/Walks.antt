@@ -189,7 +189,7 @@ packaged-refused n r = refl
 
 -- ---- a store's answer is that of its package, and nothing after it
 
-pub finished-holds : (m n e : ℕ) (s : List ℕ) (c : Reading) → packaged.Holds n e ≡ packagedOf m c → storedOf n (finish s (At e 0)) ≡ storedOf m (finish s c)
+pub finished-holds : (m n e : ℕ) (s : List ℕ) (c : Reading) → packaged.Holds e n ≡ packagedOf m c → storedOf n (finish s (At e 0)) ≡ storedOf m (finish s c)
 unfolding packagedOf storedOf finish
 finished-holds m n e s (At p v) h =
     let a : n ≡ m = cc in

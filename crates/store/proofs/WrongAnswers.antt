@@ -1,4 +1,4 @@
--- For read_package, read_store, find_element, element_bytes, lay_part and element_in_row, wrong answers that their promises rule out, each
+-- For read_package, read_store, find_element, element_bytes, lay_part, id_in_row and element_in_row, wrong answers that their promises rule out, each
 -- tried on a named input.
 -- Assumes nothing.
 use mathlib.Core.Path.{_≡_, refl, ap}
@@ -22,9 +22,10 @@ use Rattle.objects.specs.Header.{startBytes, endBytes, startOf, endOf, sized, h
 use Rattle.objects.specs.Steps.{placeOf, startHere, lengthIs, startOfLength, skip, endHere, nextIs, finish}
 use Rattle.store.specs.Store.{packageStart, Walk, walkFrom, packageWalk, storeWalk, packagedOf, storedOf, PackageTo, WalkedTo}
 use Rattle.store.specs.Element.{sameKey}
-use Rattle.store.specs.Tables.{mostElements, keyAt, flat, elementInRow}
+use Rattle.store.specs.Tables.{mostElements, keyAt, flat, idInRow, elementInRow}
 use Rattle.store.specs.Written.{Content, AllFit, fieldBytes, writtenElement, writtenElements, packageFront, packageBytes, elementsFrom}
 use Rattle.store.specs.Accessor.{elementIn, foundIn, FindsElement, elementBytes}
+use Rattle.store.specs.declared.element.Key.{Key}
 use Rattle.store.specs.declared.element.Element.{Element}
 use Rattle.store.specs.declared.accessor.Found.the-variants as found
 use Rattle.store.specs.declared.package.Packaged.the-variants as packaged
@@ -63,12 +64,12 @@ abbrev inResponse : Walk
 inResponse = packageWalk 0x62 (0x07 ∷ 0xAC ∷ 0x02 ∷ 0x00 ∷ 0x55 ∷ 0x08 ∷ []) (reading.At 1 0)
 
 -- it holds no element, and not one
-one-packaged : PackageTo inResponse (packaged.Holds 1 5) (7 ∷ []) (7 ∷ []) (8 ∷ []) (8 ∷ []) → ⊥
+one-packaged : PackageTo inResponse (packaged.Holds 5 1) (7 ∷ []) (7 ∷ []) (8 ∷ []) (8 ∷ []) → ⊥
 unfolding packagedOf packageStart startOfLength lengthIs placeOf startHere skip walkFrom nextIs endHere headerAt headerOf sized startOf endOf lengthAt le
 one-packaged h = impossible (cc)
 
 -- the place behind its end, and not that of its end
-place-of-end : PackageTo inResponse (packaged.Holds 0 4) (7 ∷ []) (7 ∷ []) (8 ∷ []) (8 ∷ []) → ⊥
+place-of-end : PackageTo inResponse (packaged.Holds 4 0) (7 ∷ []) (7 ∷ []) (8 ∷ []) (8 ∷ []) → ⊥
 unfolding packagedOf packageStart startOfLength lengthIs placeOf startHere skip walkFrom nextIs endHere headerAt headerOf sized startOf endOf lengthAt le
 place-of-end h = let z : _≡_ {A = ℕ} 4 5 = cc in omega arith
 
@@ -151,6 +152,19 @@ byte-behind h = impossible (cc (h .1))
 front-answered : Lays 1 (5 ∷ []) (7 ∷ 8 ∷ 9 ∷ []) 1 (7 ∷ 5 ∷ 9 ∷ []) → ⊥
 front-answered h = let z = h .0 in omega arith
 
+-- ---- id_in_row, of the ids 7 to 9 and 10 to 12: the other one; its halves turned
+
+abbrev key : ℕ → ℕ → ℕ → Key
+key low high number = record { low = low; high = high; number = number }
+
+other-id : key 10 11 12 ≡ idInRow (7 ∷ 8 ∷ 9 ∷ 10 ∷ 11 ∷ 12 ∷ []) 0 → ⊥
+unfolding keyAt
+other-id h = let z : _≡_ {A = ℕ} 12 9 = ap (λ (k : Key). k .number) h in omega arith
+
+halves-turned : key 8 7 9 ≡ idInRow (7 ∷ 8 ∷ 9 ∷ 10 ∷ 11 ∷ 12 ∷ []) 0 → ⊥
+unfolding keyAt
+halves-turned h = let z : _≡_ {A = ℕ} 8 7 = ap (λ (k : Key). k .low) h in omega arith
+
 -- ---- element_in_row, of one row 1 to 6 and the ids 7 to 9 and 10 to 12: its length for its place; the id of the other row
 
 abbrev element-of : ℕ → ℕ → ℕ → Element
@@ -159,7 +173,7 @@ element-of place low number =
       place = place;
       length = 2;
       kind = 3;
-      id = record { low = low; high = low + 1; number = number };
+      id = key low (low + 1) number;
       serial = record { low = 4; high = 5; number = 6 };
     }
 

@@ -74,9 +74,9 @@ Stands (Refused r) = ⊥
 
 -- ---- what reading a package and a store answers, and what the tables then hold
 
--- how many elements, and the place behind the package's end
+-- the place behind the package, and how many elements it holds
 unfoldable pub packagedOf : ℕ → Reading → Packaged
-packagedOf n (At e v) = packaged.Holds n e
+packagedOf n (At e v) = packaged.Holds e n
 packagedOf n (Refused r) = packaged.Refused r
 
 unfoldable pub storedOf : ℕ → Reading → Stored
@@ -103,9 +103,9 @@ PackageTo w r rows rowsExit ids idsExit = (r ≡ packageAnswer w) × (rowsExit �
 abbrev pub WalkedTo : Walk → Stored → List ℕ → List ℕ → List ℕ → List ℕ → Type 0
 WalkedTo w r rows rowsExit ids idsExit = (r ≡ storeAnswer w) × (rowsExit ≡ laidRows w rows) × (idsExit ≡ laidIds w ids)
 
--- how many elements a package holds, and the place behind it
+-- the place behind a package, and how many elements it holds
 abbrev pub tellPackaged : Packaged → Told
-tellPackaged (packaged.Holds n e) = gives (n ∷ e ∷ [])
+tellPackaged (packaged.Holds e n) = gives (e ∷ n ∷ [])
 tellPackaged (packaged.Refused r) = refuses r
 
 -- how many elements a store holds

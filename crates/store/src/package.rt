@@ -28,7 +28,7 @@ use objects::reading::Reading;
 // So many levels are left inside an element.
 pub const LEVELS_INSIDE: usize = 14;
 
-// How many elements a package holds, and the place behind its end.
+// The place behind a package, and how many elements it holds.
 pub enum Packaged {
     Holds(usize, usize),
     Refused(Refusal),
@@ -53,7 +53,7 @@ fn packaged_if_fine(n: usize, c: Reading) -> Packaged
     ensures { λ r. ⌜ r ≡ packagedOf n c ⌝ }
 {
     match c {
-        Reading::At(e, _) => Packaged::Holds(n, e),
+        Reading::At(e, _) => Packaged::Holds(e, n),
         Reading::Refused(r) => Packaged::Refused(r),
     }
 }
@@ -138,6 +138,6 @@ pub fn read_store(s: &[u8], rows: &mut [u64; ROW_NUMBERS], ids: &mut [u64; ID_NU
     }
     match read_package(s, Reading::At(0, 0), NOTHING, rows, ids) {
         Packaged::Refused(r) => Stored::Refused(r),
-        Packaged::Holds(n, e) => count_if_fine(n, Reading::At(e, 0).finish(s)),
+        Packaged::Holds(e, n) => count_if_fine(n, Reading::At(e, 0).finish(s)),
     }
 }

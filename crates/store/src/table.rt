@@ -25,7 +25,7 @@ pub const ID_NUMBERS: usize = 768;
 pub const KEY_MARKS: u64 = 4096;
 
 // The key of three numbers at a place of a table.
-pub fn key_at(t: &[u64], at: usize) -> Key
+pub(crate) fn key_at(t: &[u64], at: usize) -> Key
     requires { ⌜ at + 3 ≤ length (now t) ⌝ }
     ensures { λ r. ⌜ r ≡ keyAt (now (t .entry)) at ⌝ }
 {
@@ -125,7 +125,7 @@ pub(crate) fn put_id(t: &mut [u64], n: usize, k: Key)
     t[at + 2] = k.number;
 }
 
-// The id of row i.
+// The id of row i. Ruled out (proofs/WrongAnswers): that of another row; its halves turned.
 pub fn id_in_row(ids: &[u64], i: usize) -> Key
     requires { ⌜ i * idWidth + idWidth ≤ length (now ids) ⌝ }
     ensures { λ r. ⌜ r ≡ idInRow (now (ids .entry)) i ⌝ }

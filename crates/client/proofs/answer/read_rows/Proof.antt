@@ -34,8 +34,8 @@ read-package-requires c κs = rw (c .before .before .before .before .response-st
 enum-known-r : tie.Need-enum-known-r
 enum-known-r c = search needs
 
-enum-known-n : tie.Need-enum-known-n
-enum-known-n c = search needs
+enum-known-e : tie.Need-enum-known-e
+enum-known-e c = search needs
 
 read-rest-requires : tie.Need-read-rest-requires
 read-rest-requires c κs = search needs
@@ -55,7 +55,7 @@ returns-3 c =
     let k = c .before .before .before .before in
     let s = k .before .before .before .before .before .before .before .before .args .s .now in
     let h = rw (k .before .before .before .before .before .response-start .ensures) at (k .read-package .ensures) in
-    let q = package-holds _ _ _ _ (sym (h .0) ∙ c .before .before .n .given .1) in
+    let q = package-holds _ _ _ _ (sym (h .0) ∙ c .before .before .e .given .1) in
     rw (le-ltb _ _ (k .before .before .before .before .before .before .if1 .left))
     (rw (c .read-rest .ensures, k .before .before .before .place .ensures, k .before .before .before .before .package-start .ensures, k .before .before .before .before .before .response-start .ensures, q .0, q .1), h .1, h .2)
 
@@ -70,7 +70,7 @@ read-rows-spec =
     place-requires
     read-package-requires
     enum-known-r
-    enum-known-n
+    enum-known-e
     read-rest-requires
     returns-2
     returns-3)

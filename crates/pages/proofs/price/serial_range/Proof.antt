@@ -5,7 +5,7 @@ use borrow.Author.Needs.{needs}
 use Rattle.pages.proofs.price.serial_range.Statement.{statement}
 use Rattle.pages.proofs.price.serial_range.Tie as tie
 
-key-guid-requires : tie.Need-guid-of-requires
+key-guid-requires : tie.Need-key-guid-requires
 key-guid-requires c κs = search needs
 
 range-of-requires : tie.Need-range-of-requires

@@ -5,7 +5,7 @@ use borrow.Author.Needs.{needs}
 use Rattle.pages.proofs.wanted.knows_element.Statement.{statement}
 use Rattle.pages.proofs.wanted.knows_element.Tie as tie
 
-key-guid-requires : tie.Need-guid-of-requires
+key-guid-requires : tie.Need-key-guid-requires
 key-guid-requires c κs = search needs
 
 is-known-requires : tie.Need-is-known-requires

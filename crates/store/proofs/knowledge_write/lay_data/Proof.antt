@@ -15,7 +15,7 @@ use borrow.Author.Needs.{needs}
 use Rattle.store.proofs.knowledge_write.lay_data.Statement.{statement}
 use Rattle.store.proofs.knowledge_write.lay_data.Tie as tie
 
-range-guid-requires : tie.Need-guid-of-requires
+range-guid-requires : tie.Need-range-guid-requires
 range-guid-requires c κs = search needs
 
 lay-guid-requires : tie.Need-lay-guid-requires

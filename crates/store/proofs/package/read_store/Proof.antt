@@ -22,8 +22,8 @@ read-package-requires c κs = search needs
 enum-known-r : tie.Need-enum-known-r
 enum-known-r c = search needs
 
-enum-known-n : tie.Need-enum-known-n
-enum-known-n c = search needs
+enum-known-e : tie.Need-enum-known-e
+enum-known-e c = search needs
 
 finish-requires : tie.Need-finish-requires
 finish-requires c κs = search needs
@@ -46,7 +46,7 @@ returns-3 c =
     let p = k .before .before in
     let w = p .read-package .ensures in
     rw (le-ltb _ _ (p .before .before .before .if1 .left)) (
-      c .count-if-fine .ensures ∙ ap (storedOf _) (c .before .finish .ensures) ∙ finished-holds _ _ _ _ _ (sym (k .n .given .1) ∙ w .0),
+      c .count-if-fine .ensures ∙ ap (storedOf _) (c .before .finish .ensures) ∙ finished-holds _ _ _ _ _ (sym (k .e .given .1) ∙ w .0),
       w .1,
       w .2,
     )
@@ -59,7 +59,7 @@ read-store-spec =
     returns
     read-package-requires
     enum-known-r
-    enum-known-n
+    enum-known-e
     finish-requires
     count-if-fine-requires
     returns-2
