@@ -7,8 +7,8 @@ use case_words::say;
 use case_words::words;
 use numbers::refusal::Refusal;
 use pages::answer::Answered;
+use pages::answer::MOST_CARRIED;
 use pages::answer::answer;
-use store::knowledge::MOST_SAID;
 use store::table::MOST_ELEMENTS;
 
 // How many numbers a table has that parts are lent of: more than the call needs.
@@ -66,7 +66,7 @@ fn sent(whole: usize, n: usize, count: usize, out: &[u8], rows: &[u64], ranges: 
     if MOST_ELEMENTS < n {
         return say::touched();
     }
-    if MOST_SAID < count {
+    if MOST_CARRIED < count {
         return say::touched();
     }
     if !kept(out, whole, rows, n * 6, ranges, count * 4) {

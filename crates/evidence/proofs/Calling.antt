@@ -16,6 +16,7 @@ use Rattle.numbers.specs.Refusals.{Told}
 use Rattle.numbers.specs.declared.refusal.Refusal.{Refusal}
 use Rattle.numbers.proofs.OneAnswers.{values-of}
 use Rattle.talk.specs.declared.range.Range.{Range}
+use Rattle.store.specs.Tables.{rowNumbers}
 use Rattle.store.specs.declared.element.Element.{Element}
 use Rattle.pages.specs.Answer.{Outcome, refused, answered, numberIn, tellAnswered, answerTold, answerOf, outcome, outputAfter, Answers, knowledgeNumbers}
 use Rattle.pages.specs.declared.answer.Answered.the-variants as answer
@@ -108,7 +109,7 @@ module _ (s q : List ℕ) where
   exported-outcome : AllBytes s → AllBytes q → (out out′ report report′ : List ℕ) → HubAnswers s q 0 out out′ report report′ → 24 ≤ length report
       → (all : List Element) × (l : List Range) × (outcome s q (length out) ≡ answered (take (reportNumber 2 report′) out′) all l)
   exported-outcome b d out out′ report report′ h long =
-      let (w, all, l, is) = zero-is (hubOutcome s q (length out)) (λ r e. why-fault s q 1536 knowledgeNumbers (length out) r (refused-why s q 1536 knowledgeNumbers (length out) r e) .least) (h .0) in
+      let (w, all, l, is) = zero-is (hubOutcome s q (length out)) (λ r e. why-fault s q rowNumbers knowledgeNumbers (length out) r (refused-why s q rowNumbers knowledgeNumbers (length out) r e) .least) (h .0) in
       (all, l, rw (exported-sent b d out out′ report report′ w all l is h long) (sym (tables-enough s q (length out)) ∙ is))
 
   pub gave-outcome : AllBytes s → AllBytes q → (room : ℕ) (w : List ℕ) → GivesAnswer s q room w → (all : List Element) × (l : List Range) × (outcome s q room ≡ answered w all l)

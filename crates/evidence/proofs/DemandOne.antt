@@ -22,6 +22,7 @@ use Rattle.laws.specs.Placed.{placed}
 use Rattle.laws.proofs.Cases.{impossible}
 use Rattle.numbers.specs.Refusals.{longestInput, tellWrote}
 use Rattle.numbers.specs.declared.refusal.Refusal.{Refusal}
+use Rattle.store.specs.Tables.{rowNumbers}
 use Rattle.store.specs.Element.{sameKey}
 use Rattle.store.specs.Store.{storeWalk, Stands}
 use Rattle.store.specs.Written.{Content, packageFront, packageBytes, elementsFrom, AllFit}
@@ -75,7 +76,7 @@ pub record ExportKeeps (inputs : List (List ℕ)) (Gives : Type 0) (Reason : Ref
 -- so the four calls keep this: an answer to the request q on the store s, by the call's own tables
 abbrev pub HubAnswerKeeps : List ℕ → List ℕ → ℕ → List ℕ → List ℕ → List ℕ → List ℕ → Type 0
 HubAnswerKeeps s q number out out′ report report′ =
-    ExportKeeps (s ∷ q ∷ []) (AnswerGiven s q out out′ report report′) (Why s q 1536 knowledgeNumbers (length out)) number out out′ report report′
+    ExportKeeps (s ∷ q ∷ []) (AnswerGiven s q out out′ report report′) (Why s q rowNumbers knowledgeNumbers (length out)) number out out′ report report′
 
 -- a request of the filters f and the knowledge k
 abbrev pub HubAskKeeps : ℕ → ℕ → List ℕ → List ℕ → ℕ → List ℕ → List ℕ → List ℕ → List ℕ → Type 0
@@ -96,7 +97,7 @@ HubElementKeeps kind s i number report report′ =
 -- of a call that is lent tables of so many numbers and an output of so many bytes, and tells this number (0 where nothing is refused)
 pub record NumbersExactly (s q : List ℕ) (rows ranges room number : ℕ) : Type 0 where
   -- 13: "store table under 1,536 numbers or knowledge table under 2,048"
-  pub thirteen : IfAndOnlyIf (number ≡ 13) ((rows < 1536) ⊎ (ranges < knowledgeNumbers))
+  pub thirteen : IfAndOnlyIf (number ≡ 13) ((rows < rowNumbers) ⊎ (ranges < knowledgeNumbers))
   -- 1: "an input is over 16,777,216 bytes"
   pub one : IfAndOnlyIf (number ≡ 1) (Tables rows ranges × OverLong s q)
   -- 9 for a page, where both inputs are read and a is asked: "a page of 1 needs over 512 ranges"
@@ -161,9 +162,9 @@ demand-one-numbers s q r rows rows′ ranges ranges′ out out′ h =
     record { thirteen = k .0; one = k .1; nine = k .2; fourteen = k .3 }
 
 pub demand-one-hub-numbers : (s q : List ℕ) (number : ℕ) (out out′ report report′ : List ℕ) → HubAnswers s q number out out′ report report′
-    → NumbersExactly s q 1536 knowledgeNumbers (length out) number
+    → NumbersExactly s q rowNumbers knowledgeNumbers (length out) number
 demand-one-hub-numbers s q number out out′ report report′ h =
-    let k = numbers-exactly s q 1536 knowledgeNumbers (length out) number (h .0) in
+    let k = numbers-exactly s q rowNumbers knowledgeNumbers (length out) number (h .0) in
     record { thirteen = k .0; one = k .1; nine = k .2; fourteen = k .3 }
 
 -- ---- of stores and requests that are good

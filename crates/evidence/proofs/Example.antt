@@ -322,14 +322,14 @@ abbrev pub report : List ℕ
 report = replicate 24 0
 
 -- what hub_ask, hub_answer and hub_read promise to leave in them: the request and its report, ..
-abbrev askOutput : List ℕ → ℕ → List ℕ → List ℕ
-askOutput f limit k = askOutput (askWrote 1 limit f k (length output)) (askingWith f limit k) output
+abbrev askedOutput : List ℕ → ℕ → List ℕ → List ℕ
+askedOutput f limit k = askOutput (askWrote 1 limit f k (length output)) (askingWith f limit k) output
 
 abbrev askReport : List ℕ → ℕ → List ℕ → List ℕ
 askReport f limit k = placed (wroteReport (askWrote 1 limit f k (length output))) report
 
 abbrev requestUnder : List ℕ → ℕ → List ℕ → List ℕ
-requestUnder f limit k = take (reportNumber 2 (askReport f limit k)) (askOutput f limit k)
+requestUnder f limit k = take (reportNumber 2 (askReport f limit k)) (askedOutput f limit k)
 
 -- .. the answer and its report, ..
 abbrev hubOutcomeUnder : List ℕ → ℕ → List ℕ → Outcome
@@ -391,7 +391,7 @@ turn-with f limit k w k′ h e = (
           report = omega arith;
           read-report = omega arith;
         };
-    ask-out = askOutput f limit k;
+    ask-out = askedOutput f limit k;
     ask-report = askReport f limit k;
     asks = (sym (ap (λ (t : Returned). t .asked) e), refl, refl);
     out = answerOutput f limit k;

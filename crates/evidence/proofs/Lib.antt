@@ -22,3 +22,4 @@ pub mod Example
 pub mod FilteredExample
 pub mod NotAboutNothing
 pub mod WrongHubs
+pub mod Limits

@@ -16,6 +16,7 @@ use Rattle.numbers.specs.declared.refusal.Wrote.the-variants as wrote
 use Rattle.objects.specs.declared.reading.Reading.{Reading}
 use Rattle.objects.specs.declared.reading.Reading.the-variants as reading
 use Rattle.objects.proofs.InputFaults.{InputTold, input-told}
+use Rattle.store.specs.Tables.{rowNumbers}
 use Rattle.store.specs.Store.{storeWalk, Stands}
 use Rattle.store.specs.Accessor.{elementIn, foundOn, foundIn}
 use Rattle.store.specs.declared.accessor.Found.the-variants as found
@@ -44,10 +45,10 @@ use Rattle.evidence.specs.BenchRefusing.{WhyAsk, WhyRead, WhyElement}
 -- ---- the tables come first
 
 pub by-tables : (s q : List ℕ) (rows ranges room : ℕ)
-    → (((rows < 1536) ⊎ (ranges < knowledgeNumbers)) × (answerOf s q rows ranges room ≡ refused (faultAt 13 0)))
+    → (((rows < rowNumbers) ⊎ (ranges < knowledgeNumbers)) × (answerOf s q rows ranges room ≡ refused (faultAt 13 0)))
     ⊎ (Tables rows ranges × (answerOf s q rows ranges room ≡ outcome s q room))
 by-tables s q rows ranges room =
-    by-lt rows 1536 (λ l. inl (inl l, thirteen-if s q rows ranges room (inl l)))
+    by-lt rows rowNumbers (λ l. inl (inl l, thirteen-if s q rows ranges room (inl l)))
     (λ l. by-lt ranges knowledgeNumbers (λ m. inl (inr m, thirteen-if s q rows ranges room (inr m))) (λ m. inr ((l, m), tables-fine s q rows ranges room l m)))
 
 -- ---- the answering call: refused exactly when

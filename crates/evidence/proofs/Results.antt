@@ -13,6 +13,7 @@ use Rattle.numbers.specs.declared.refusal.Refusal.{Refusal}
 use Rattle.numbers.specs.declared.refusal.Wrote.{Wrote}
 use Rattle.numbers.specs.declared.refusal.Wrote.the-variants as wrote
 use Rattle.talk.specs.declared.range.Range.{Range}
+use Rattle.store.specs.Tables.{rowNumbers}
 use Rattle.store.specs.Accessor.{tellFound}
 use Rattle.store.specs.declared.accessor.Found.{Found}
 use Rattle.store.specs.declared.accessor.Found.the-variants as found
@@ -24,7 +25,7 @@ use Rattle.pages.specs.declared.answer.Answered.the-variants.{Sent, Refused}
 use Rattle.pages.proofs.OneAnswers.{answer-telling}
 use Rattle.pages.proofs.Refusing.{answered-asks, call-sends}
 use Rattle.client.specs.AskWritten.{askBytes}
-use Rattle.client.specs.Ask.{askWrote, outputAfter as requestAfter}
+use Rattle.client.specs.Ask.{askWrote, askOutput as requestAfter}
 use Rattle.client.specs.Read.{answerIn, tellReadAnswer}
 use Rattle.client.specs.declared.answer.ReadAnswer.{ReadAnswer}
 use Rattle.client.specs.declared.answer.ReadAnswer.the-variants as answer
@@ -108,16 +109,16 @@ module _ (s q : List ℕ) (r : Answered) (rows rows′ ranges ranges′ out out�
 module _ (s q : List ℕ) (number : ℕ) (out out′ report report′ : List ℕ) where
   abbrev HubAnswerComes : Type 0
   HubAnswerComes =
-      ExportComes (s ∷ q ∷ []) (AnswerGiven s q out out′ report report′) (Why s q 1536 knowledgeNumbers (length out)) number out out′ report report′
+      ExportComes (s ∷ q ∷ []) (AnswerGiven s q out out′ report report′) (Why s q rowNumbers knowledgeNumbers (length out)) number out out′ report report′
 
   hub-answer-by : (o : Outcome) → hubOutcome s q (length out) ≡ o → HubGives o number out out′ report report′ → HubAnswerComes
   unfolding numberIn answerAfter reportBytes
   hub-answer-by (refused x) e h =
-      let y = refused-why s q 1536 knowledgeNumbers (length out) x e in
-      refuses x (h .0, why-fault s q 1536 knowledgeNumbers (length out) x y, h .1, h .2) y (λ z w. let j = why-refused s q 1536 knowledgeNumbers (length out) z w in cc)
+      let y = refused-why s q rowNumbers knowledgeNumbers (length out) x e in
+      refuses x (h .0, why-fault s q rowNumbers knowledgeNumbers (length out) x y, h .1, h .2) y (λ z w. let j = why-refused s q rowNumbers knowledgeNumbers (length out) z w in cc)
   hub-answer-by (answered w all l) e h =
-      gives (h .0, (length w, length all, length l, result-of s q 1536 knowledgeNumbers out out′ w all l e (h .1) .0, h .2))
-      (λ z y. let j = why-refused s q 1536 knowledgeNumbers (length out) z y in impossible (cc))
+      gives (h .0, (length w, length all, length l, result-of s q rowNumbers knowledgeNumbers out out′ w all l e (h .1) .0, h .2))
+      (λ z y. let j = why-refused s q rowNumbers knowledgeNumbers (length out) z y in impossible (cc))
 
   pub hub-answer-comes : HubAnswers s q number out out′ report report′ → HubAnswerComes
   hub-answer-comes h = hub-answer-by (hubOutcome s q (length out)) refl h

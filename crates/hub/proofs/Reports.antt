@@ -9,6 +9,7 @@ use Rattle.laws.proofs.Cases.{impossible}
 use Rattle.numbers.specs.Refusals.{Told, refuses}
 use Rattle.numbers.specs.declared.refusal.Refusal.{Refusal}
 use Rattle.numbers.proofs.OneAnswers.{values-of}
+use Rattle.store.specs.Tables.{rowNumbers}
 use Rattle.pages.specs.Answer.{Outcome, refused, answered, numberIn, tellAnswered, answerTold, outputAfter, Answers, knowledgeNumbers}
 use Rattle.pages.specs.declared.answer.Answered.{Answered}
 use Rattle.pages.specs.declared.answer.Answered.the-variants as answer
@@ -39,12 +40,12 @@ refused-told (answered w all l) r e = let v = values-of _ _ e in impossible (cc)
 -- ---- the exported call's promise from the answering call's, which is lent tables of zeros
 
 abbrev AnswersIn : List ℕ → List ℕ → Answered → List ℕ → List ℕ → List ℕ → List ℕ → Type 0
-AnswersIn s q r rows ranges out out′ = Answers s q r (replicate 1536 0) rows (replicate knowledgeNumbers 0) ranges out out′
+AnswersIn s q r rows ranges out out′ = Answers s q r (replicate rowNumbers 0) rows (replicate knowledgeNumbers 0) ranges out out′
 
 enough : (s q : List ℕ) (r : Answered) (rows ranges out out′ : List ℕ) → AnswersIn s q r rows ranges out out′
     → (tellAnswered r ≡ tellAnswered (answerTold (hubOutcome s q (length out)))) × (out′ ≡ outputAfter (hubOutcome s q (length out)) out)
 enough s q r rows ranges out out′ e =
-    let f = rw (length-replicate {A = ℕ} 1536 0, length-replicate {A = ℕ} knowledgeNumbers 0) at e in
+    let f = rw (length-replicate {A = ℕ} rowNumbers 0, length-replicate {A = ℕ} knowledgeNumbers 0) at e in
     (f .0, f .3)
 
 module _ (s q rows ranges out out′ report report′ : List ℕ) where

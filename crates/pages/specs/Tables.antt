@@ -111,7 +111,7 @@ pub record ToDecide (rows ids : List ℕ) (n : ℕ) (flags t : List ℕ) (count 
   pub few : n ≤ mostElements
   pub short : (i : ℕ) → i < n → elementInRow rows ids i .length ≤ 2 ^ 24
   pub flagged : n ≤ length flags
-  pub carried : count ≤ mostSaid
+  pub said : count ≤ mostSaid
   pub most-carried : most ≤ mostSaid
   pub room : most * rangeWidth ≤ length t
   pub ranges-stand : RangesStand t count
@@ -134,7 +134,7 @@ pub record ToSend (store rows ids : List ℕ) (n : ℕ) (flags : List ℕ) (page
   pub stand : RowsStand rows ids n
   pub flagged : n ≤ length flags
   pub few : page .ranges ≤ mostSaid
-  pub ranges-stand : page .ranges * rangeWidth ≤ length table
+  pub ranges-room : page .ranges * rangeWidth ≤ length table
   pub fits : length (sentBytes store rows ids n flags page table) ≤ room
 
 -- ---- an answer as it is laid: up to the first element, from behind the last to the knowledge, and the ends

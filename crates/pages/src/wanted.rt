@@ -1,6 +1,6 @@
 // Elements of the working tables: those that the ranges know are no longer wanted; and the storage index.
 ghost use mathlib.Core.Path.{_≡_};
-ghost use Prim.Native.Nat.{ℕ, _+_, _*_, _^_, _≤_, _<_};
+ghost use Prim.Native.Nat.{ℕ, _^_, _≤_, _<_};
 ghost use lib.ListN.{length};
 ghost use Rattle.numbers.specs.declared.extended_guid.ExtendedGuid.the-variants.{Named};
 ghost use Rattle.ranges.specs.RangeTable.{rangesAt, RangesStand};

@@ -1,7 +1,7 @@
 // The answer written for a page that was decided: each function lays a part at a place, and answers the place behind it. The
 // whole length was judged before.
 ghost use mathlib.Core.Path.{_≡_};
-ghost use Prim.Native.Nat.{_+_, _*_, _≤_};
+ghost use Prim.Native.Nat.{_+_, _≤_};
 ghost use lib.ListN.{length, take};
 ghost use Rattle.laws.specs.Placed.{Lays};
 ghost use Rattle.store.specs.Tables.{RowsStand};

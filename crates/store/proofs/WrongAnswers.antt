@@ -1,5 +1,5 @@
--- For read_package, read_store, find_element, element_bytes, lay_part, id_in_row and element_in_row, wrong answers that their promises rule out, each
--- tried on a named input.
+-- For read_package, read_store, find_element, element_bytes, lay_part, id_in_row and element_in_row, wrong answers that their
+-- promises rule out, each tried on a named input.
 -- Assumes nothing.
 use mathlib.Core.Path.{_≡_, refl, ap}
 use mathlib.Core.Bool.{true}
@@ -22,7 +22,7 @@ use Rattle.objects.specs.Header.{startBytes, endBytes, startOf, endOf, sized, h
 use Rattle.objects.specs.Steps.{placeOf, startHere, lengthIs, startOfLength, skip, endHere, nextIs, finish}
 use Rattle.store.specs.Store.{packageStart, Walk, walkFrom, packageWalk, storeWalk, packagedOf, storedOf, PackageTo, WalkedTo}
 use Rattle.store.specs.Element.{sameKey}
-use Rattle.store.specs.Tables.{mostElements, keyAt, flat, idInRow, elementInRow}
+use Rattle.store.specs.Tables.{keyAt, flat, idInRow, elementInRow}
 use Rattle.store.specs.Written.{Content, AllFit, fieldBytes, writtenElement, writtenElements, packageFront, packageBytes, elementsFrom}
 use Rattle.store.specs.Accessor.{elementIn, foundIn, FindsElement, elementBytes}
 use Rattle.store.specs.declared.element.Key.{Key}
@@ -188,9 +188,9 @@ other-row : element-of 1 10 12 ≡ in-row → ⊥
 unfolding elementInRow keyAt
 other-row h = let z : _≡_ {A = ℕ} 12 9 = ap (λ (x : Element). x .id .number) h in omega arith
 
--- ---- a store of as many elements as may be is not refused
+-- ---- a store of 256 elements, whatever they are, is not refused
 
-full-refused : (cs : List Content) → length cs ≡ mostElements → AllFit 14 cs → once sameKey (map (λ (c : Content). c .id) cs) ≡ true
+full-refused : (cs : List Content) → length cs ≡ 256 → AllFit 14 cs → once sameKey (map (λ (c : Content). c .id) cs) ≡ true
     → once sameKey (map (λ (c : Content). c .serial) cs) ≡ true
     → length (packageBytes cs) ≤ longestInput
     → (r : Refusal) (rows ids : List ℕ) → WalkedTo (storeWalk (packageBytes cs)) (stored.Refused r) rows rows ids ids

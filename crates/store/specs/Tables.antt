@@ -21,6 +21,10 @@ rowWidth = 6
 abbrev pub idWidth : ℕ
 idWidth = 3
 
+-- where in a row the serial number stands
+abbrev pub serialColumn : ℕ
+serialColumn = 3
+
 -- 9, "over 256 elements"
 abbrev pub mostElements : ℕ
 mostElements = 256
@@ -49,7 +53,7 @@ abbrev pub idKeys : List ℕ → ℕ → List Key
 idKeys t n = keysAt t 0 idWidth n
 
 abbrev pub serialKeys : List ℕ → ℕ → List Key
-serialKeys t n = keysAt t 3 rowWidth n
+serialKeys t n = keysAt t serialColumn rowWidth n
 
 -- ---- marks, so that most keys need no search: a key whose mark is not set was not seen
 
@@ -106,7 +110,7 @@ elementInRow rows ids i =
       length = getD rows (i * rowWidth + 1) 0;
       kind = getD rows (i * rowWidth + 2) 0;
       id = idInRow ids i;
-      serial = keyAt rows (i * rowWidth + 3);
+      serial = keyAt rows (i * rowWidth + serialColumn);
     }
 
 -- n of them, from row i on

@@ -4,7 +4,10 @@ ghost use Prim.Native.Nat.{_*_, _≤_};
 ghost use lib.ListN.{length};
 ghost use Rattle.store.specs.Element.{keyOf, namedKey, numberedKey, freshKey, keyHere, onKey, idField, serialField, fieldsOf, elementOn, elementAt};
 ghost use Rattle.objects.specs.Steps.{Behind};
-ghost use Rattle.store.specs.Tables.{idKeys, serialKeys, keyMarks, Marked, Lent};
+ghost use Rattle.store.specs.Tables.{rowWidth, idWidth, idKeys, serialKeys, keyMarks, Marked, Lent};
+use crate::table::ID_WIDTH;
+use crate::table::ROW_WIDTH;
+use crate::table::SERIAL_COLUMN;
 use crate::table::seen_key;
 use numbers::extended_guid::ExtendedGuid;
 use numbers::guid::Guid;
@@ -135,22 +138,22 @@ impl ReadingKey {
 
 // The id at the front of an element's data, with n ids seen before.
 fn id_field(d: &[u8], ids: &[u64], marks: &[u8], n: usize) -> ReadingKey
-    requires { ⌜ (n * 3 ≤ length (now ids)) × (keyMarks ≤ length (now marks)) × Marked (now marks) (idKeys (now ids) n) ⌝ }
+    requires { ⌜ (n * idWidth ≤ length (now ids)) × (keyMarks ≤ length (now marks)) × Marked (now marks) (idKeys (now ids) n) ⌝ }
     ensures { λ r. ⌜ r ≡ idField (idKeys (now (ids .entry)) n) (now (d .entry)) ⌝ }
 {
     let c = named_key(Reading::At(0, 0).extended_guid(d), 0);
-    let was = seen_key(ids, marks, 0, 3, n, c.key());
+    let was = seen_key(ids, marks, 0, ID_WIDTH, n, c.key());
     c.fresh(0, was)
 }
 
 // The serial number behind it, with n rows before.
 fn serial_field(d: &[u8], c: Reading, rows: &[u64], marks: &[u8], n: usize) -> ReadingKey
-    requires { ⌜ (n * 6 ≤ length (now rows)) × (keyMarks ≤ length (now marks)) × Marked (now marks) (serialKeys (now rows) n) ⌝ }
+    requires { ⌜ (n * rowWidth ≤ length (now rows)) × (keyMarks ≤ length (now marks)) × Marked (now marks) (serialKeys (now rows) n) ⌝ }
     ensures { λ r. ⌜ r ≡ serialField (serialKeys (now (rows .entry)) n) (now (d .entry)) c ⌝ }
 {
     let p = c.place();
     let k = numbered_key(c.serial(d), p);
-    let was = seen_key(rows, marks, 3, 6, n, k.key());
+    let was = seen_key(rows, marks, SERIAL_COLUMN, ROW_WIDTH, n, k.key());
     k.fresh(p, was)
 }
 

@@ -17,6 +17,9 @@ pub const ROW_WIDTH: usize = 6;
 
 pub const ID_WIDTH: usize = 3;
 
+// Where in a row the serial number stands.
+pub(crate) const SERIAL_COLUMN: usize = 3;
+
 pub const ROW_NUMBERS: usize = 1536;
 
 pub const ID_NUMBERS: usize = 768;
@@ -144,6 +147,6 @@ pub fn element_in_row(rows: &[u64], ids: &[u64], i: usize) -> Element
         length: rows[at + 1] as usize,
         kind: rows[at + 2],
         id: id_in_row(ids, i),
-        serial: key_at(rows, at + 3),
+        serial: key_at(rows, at + SERIAL_COLUMN),
     }
 }

@@ -66,7 +66,7 @@ decide-page-requires c κs =
       few = held .most;
       short = short-row held;
       flagged = held .most;
-      carried = given .most;
+      said = given .most;
       most-carried = given .carried;
       room = omega (arith, given .carried, given .room);
       ranges-stand = (omega (arith, given .most, given .room), rw (given .held) (given .normal));
@@ -109,7 +109,7 @@ send-page-requires c κs =
     let few : k .1 .1 .0 ≤ mostSaid = sent-few (a .store .now) (a .request .now) (a .a) (a .elements .now) (a .ids .now) (a .known .now) (a .n) held given (a .out .now) (a .rows .now) (a .ranges .now) _ (k .0) (k .1 .0) (k .1 .1 .0) (k .1 .1 .1 .0) e (d .0) _ w _ (d .1) in
     let bytes = sent-bytes (a .store .now) (a .request .now) (a .a) (a .elements .now) (a .ids .now) (a .known .now) (a .n) held given (a .out .now) (a .rows .now) (a .ranges .now) _ (k .0) (k .1 .0) (k .1 .1 .0) (k .1 .1 .1 .0) e (d .0) _ w _ (d .1) in
     let fits = sent-fits (a .store .now) (a .request .now) (a .a) (a .elements .now) (a .ids .now) (a .known .now) (a .n) held given (a .out .now) (a .rows .now) (a .ranges .now) _ (k .0) (k .1 .0) (k .1 .1 .0) (k .1 .1 .1 .0) e (d .0) _ w _ (d .1) in (
-      record { stand = held .stand; flagged = omega arith; few = few; ranges-stand = omega arith; fits = rw (index-is decided, bytes) fits },
+      record { stand = held .stand; flagged = omega arith; few = few; ranges-room = omega arith; fits = rw (index-is decided, bytes) fits },
       omega arith,
       omega arith,
     )

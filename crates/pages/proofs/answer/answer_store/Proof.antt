@@ -1,10 +1,11 @@
 -- `answer::answer_store` meets its contract.
 -- Assumes nothing.
 use mathlib.Core.Path.{refl, sym, _∙_}
-use Prim.Native.Nat.{ℕ}
+use Prim.Native.Nat.{ℕ, _*_}
 use native.Mathlib.Omega.{arith}
 use lib.ListN.{length, length-replicate}
 use Rattle.laws.specs.Bytes.{AllBytes}
+use Rattle.store.specs.Tables.{rowNumbers, mostElements, idWidth}
 use Rattle.pages.specs.Answer.{answerTold, rowsAfter, rangesAfter, outputAfter}
 use Rattle.pages.proofs.Stored.{store-held, store-long, store-fine, store-faulty}
 use borrow.Author.Needs.{needs}
@@ -23,12 +24,12 @@ enum-known-n c = search needs
 slice-aggregate-answer-request : tie.Need-slice-aggregate-answer-request
 slice-aggregate-answer-request c =
     let rs = c .before .before .before .before in
-    store-long _ _ _ _ _ _ (length-replicate {A = ℕ} 1536 0) (length-replicate {A = ℕ} 768 0) (rs .read-store .ensures) .0
+    store-long _ _ _ _ _ _ (length-replicate {A = ℕ} rowNumbers 0) (length-replicate {A = ℕ} (mostElements * idWidth) 0) (rs .read-store .ensures) .0
 
 slice-aggregate-answer-request-2 : tie.Need-slice-aggregate-answer-request-2
 slice-aggregate-answer-request-2 c =
     let rs = c .before .before .before .before .before in
-    store-long _ _ _ _ _ _ (length-replicate {A = ℕ} 1536 0) (length-replicate {A = ℕ} 768 0) (rs .read-store .ensures) .1
+    store-long _ _ _ _ _ _ (length-replicate {A = ℕ} rowNumbers 0) (length-replicate {A = ℕ} (mostElements * idWidth) 0) (rs .read-store .ensures) .1
 
 answer-request-requires : tie.Need-answer-request-requires
 answer-request-requires c κs =
@@ -38,7 +39,7 @@ answer-request-requires c κs =
     let s = st .args .store .now in
     let q = st .args .request .now in
     let b : AllBytes s = λ i. rs .before .before .before .before .before .before .before .shared-slice-known .given i .fits in
-    (store-held s _ _ _ _ (k .n .given .0 .0) b (omega (arith, length-replicate {A = ℕ} 1536 0)) (omega (arith, length-replicate {A = ℕ} 768 0)) (rw (k .n .given .1) at (rs .read-store .ensures)), st .pre .0, st .pre .1)
+    (store-held s _ _ _ _ (k .n .given .0 .0) b (omega (arith, length-replicate {A = ℕ} rowNumbers 0)) (omega (arith, length-replicate {A = ℕ} (mostElements * idWidth) 0)) (rw (k .n .given .1) at (rs .read-store .ensures)), st .pre .0, st .pre .1)
 
 returns : tie.Need-returns
 unfolding answerTold rowsAfter rangesAfter outputAfter

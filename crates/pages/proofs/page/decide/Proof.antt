@@ -40,7 +40,7 @@ loop-holds c =
     let s = c .before .before .before .before .before .before .before in
     let a = s .args in
     let z : a .count - 0 ≡ a .count = omega arith in
-    rw (c .new .ensures, c .before .ranges-length .ensures .0, z, ← chosen-start (a .rows .now) (a .ids .now) (a .n) (a .flags .now)) (omega arith, under-start (chosenIn (a .rows .now) (a .ids .now) (a .n) (a .flags .now)) (rangesAt (a .t .now) 0 (a .count)) (a .t .now) (a .b) (a .count) (s .pre .0 .carried) (s .pre .0 .ranges-stand .0) refl)
+    rw (c .new .ensures, c .before .ranges-length .ensures .0, z, ← chosen-start (a .rows .now) (a .ids .now) (a .n) (a .flags .now)) (omega arith, under-start (chosenIn (a .rows .now) (a .ids .now) (a .n) (a .flags .now)) (rangesAt (a .t .now) 0 (a .count)) (a .t .now) (a .b) (a .count) (s .pre .0 .said) (s .pre .0 .ranges-stand .0) refl)
 
 shared-slice-read-if2 : tie.Need-shared-slice-read-if2 Inv-loop μ-loop
 shared-slice-read-if2 c = search needs

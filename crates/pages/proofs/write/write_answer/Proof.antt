@@ -35,7 +35,7 @@ lay-knowledge-requires : tie.Need-lay-knowledge-requires
 lay-knowledge-requires c κs =
     let s = c .before .before .before .before .before .before .before .before .before .before .before .before .before .before .before .before .before .before .before in
     let h = answer-room _ _ _ _ _ _ _ (s .pre .fits) in
-    (s .pre .ranges-stand, omega (arith, length-front))
+    (s .pre .ranges-room, omega (arith, length-front))
 
 lay-back-requires : tie.Need-lay-back-requires
 lay-back-requires c κs =
