@@ -192,7 +192,7 @@ pub export-kept : (inputs : List (List ℕ)) (Given : Type 0) (Reason : Refusal 
     × ((number ≡ 0 → ⊥) → out′ ≡ out)
 export-kept inputs Given Reason number out out′ report report′ (gives (e, g) none) = (inl (e, g), λ x w. absurd (none x w), λ z. absurd (z e))
 export-kept inputs Given Reason number out out′ report report′ (refuses x (e, f, u, t) w one) = (
-  inr (record { refusal = x; number-is = e; fault = f; reason = w; answerTold = t }),
+  inr (record { refusal = x; number-is = e; fault = f; reason = w; told = t }),
   λ y v. rw (← one y v) (e, t),
   λ z. u,
 )
