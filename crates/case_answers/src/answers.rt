@@ -1,6 +1,8 @@
 // The mode for the answering call: what it answers to a store and a request, and that it left alone what is not the answer's.
 ghost use Prim.Native.Nat.{_+_, _*_, _≤_};
 ghost use lib.ListN.{length};
+ghost use Rattle.store.specs.Tables.{rowNumbers};
+ghost use Rattle.pages.specs.Answer.{knowledgeNumbers};
 use case_stores::stores;
 use case_stores::stores::UNTOUCHED;
 use case_words::say;
@@ -9,7 +11,9 @@ use numbers::refusal::Refusal;
 use pages::answer::Answered;
 use pages::answer::MOST_CARRIED;
 use pages::answer::answer;
+use ranges::RANGE_WIDTH;
 use store::table::MOST_ELEMENTS;
+use store::table::ROW_WIDTH;
 
 // How many numbers a table has that parts are lent of: more than the call needs.
 const TABLE_NUMBERS: usize = 5120;
@@ -58,7 +62,7 @@ fn kept(out: &[u8], at: usize, rows: &[u64], row: usize, ranges: &[u64], range: 
 // The answer's bytes and the rows of both tables; or that something behind them was changed. Lengths that no answer has count as
 // that.
 fn sent(whole: usize, n: usize, count: usize, out: &[u8], rows: &[u64], ranges: &[u64])
-    requires { ⌜ (1536 ≤ length (now rows)) × (2048 ≤ length (now ranges)) ⌝ }
+    requires { ⌜ (rowNumbers ≤ length (now rows)) × (knowledgeNumbers ≤ length (now ranges)) ⌝ }
 {
     if out.len() < whole {
         return say::touched();
@@ -69,14 +73,14 @@ fn sent(whole: usize, n: usize, count: usize, out: &[u8], rows: &[u64], ranges: 
     if MOST_CARRIED < count {
         return say::touched();
     }
-    if !kept(out, whole, rows, n * 6, ranges, count * 4) {
+    if !kept(out, whole, rows, n * ROW_WIDTH, ranges, count * RANGE_WIDTH) {
         return say::touched();
     }
     say::ok();
     say::bytes(&out[0..whole]);
-    say::table(rows, n * 6, 6, 0);
+    say::table(rows, n * ROW_WIDTH, ROW_WIDTH, 0);
     // its GUIDs are little-endian numbers, which are told as they stand
-    say::table(ranges, count * 4, 4, 0)
+    say::table(ranges, count * RANGE_WIDTH, RANGE_WIDTH, 0)
 }
 
 // A refusal; or that something was changed.
@@ -97,7 +101,7 @@ fn asked(
     rows: &mut [u64],
     ranges: &mut [u64],
 )
-    requires { ⌜ (l .out ≤ length (now out)) × (l .rows ≤ length (now rows)) × (l .ranges ≤ length (now ranges)) × (1536 ≤ length (now rows)) × (2048 ≤ length (now ranges)) ⌝ }
+    requires { ⌜ (l .out ≤ length (now out)) × (l .rows ≤ length (now rows)) × (l .ranges ≤ length (now ranges)) × (rowNumbers ≤ length (now rows)) × (knowledgeNumbers ≤ length (now ranges)) ⌝ }
 {
     let room = l.out;
     let m = l.rows;

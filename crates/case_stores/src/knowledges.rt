@@ -3,7 +3,7 @@ ghost use Prim.Native.Nat.{_*_, _≤_};
 ghost use lib.ListN.{length};
 ghost use Rattle.talk.specs.Ranges.{Normal};
 ghost use Rattle.objects.specs.declared.reading.Reading.the-variants.{At};
-ghost use Rattle.ranges.specs.RangeTable.{rangesAt};
+ghost use Rattle.ranges.specs.RangeTable.{rangeWidth, rangesAt};
 ghost use Rattle.store.specs.Knowledge.{mostSaid, knowledgeAt, ReadsKnowledge};
 use crate::stores::UNTOUCHED;
 use crate::stores::untouched;
@@ -12,6 +12,7 @@ use case_words::words;
 use numbers::guid::Guid;
 use numbers::refusal::Refusal;
 use objects::reading::Reading;
+use ranges::RANGE_WIDTH;
 use ranges::is_known;
 use store::knowledge::MOST_SAID;
 use store::knowledge::ReadKnowledge;
@@ -28,9 +29,9 @@ const LEVELS: usize = 12;
 // The first n rows of the table. The working table has a GUID as two numbers with the first byte highest; document 01's
 // knowledge table has little-endian numbers, and these are told.
 pub fn every_row(t: &[u64], n: usize)
-    requires { ⌜ n * 4 ≤ length (now t) ⌝ }
+    requires { ⌜ n * rangeWidth ≤ length (now t) ⌝ }
 {
-    say::table(t, n * 4, 4, 2)
+    say::table(t, n * RANGE_WIDTH, RANGE_WIDTH, 2)
 }
 
 // A range takes at least so many bytes: its header two, its GUID sixteen, and one for each end. An entry that adds one takes more.
@@ -38,7 +39,7 @@ const LEAST_RANGE: usize = 20;
 
 // At most so many ranges come from s.
 fn ranges_in(s: &[u8]) -> usize
-    ensures { λ r. ⌜ r ≤ 512 ⌝ }
+    ensures { λ r. ⌜ r ≤ mostSaid ⌝ }
 {
     let n = s.len() / LEAST_RANGE;
     if MOST_SAID < n {
@@ -50,7 +51,7 @@ fn ranges_in(s: &[u8]) -> usize
 // Whether no number was changed behind the rows of as many ranges as the bytes of s have room for. Before that a row may be left
 // from before it was joined with another.
 pub fn kept(s: &[u8], t: &[u64; SAID_NUMBERS]) -> bool {
-    let end = ranges_in(s) * 4;
+    let end = ranges_in(s) * RANGE_WIDTH;
     let all = &t[..];
     untouched(&all[end..])
 }

@@ -12,8 +12,10 @@ use store::accessor::find_element;
 use store::package::Stored;
 use store::package::read_store;
 use store::table::ID_NUMBERS;
+use store::table::ID_WIDTH;
 use store::table::MOST_ELEMENTS;
 use store::table::ROW_NUMBERS;
+use store::table::ROW_WIDTH;
 
 // What every number of a table holds before a case lends it.
 pub const UNTOUCHED: u64 = 0xA5A5A5A5A5A5A5A5;
@@ -52,8 +54,8 @@ fn held(n: usize, rows: &[u64; ROW_NUMBERS], ids: &[u64; ID_NUMBERS]) {
     if MOST_ELEMENTS < n {
         return say::touched();
     }
-    let rows_end = n * 6;
-    let ids_end = n * 3;
+    let rows_end = n * ROW_WIDTH;
+    let ids_end = n * ID_WIDTH;
     let all_rows = &rows[..];
     if !untouched(&all_rows[rows_end..]) {
         return say::touched();
@@ -71,8 +73,8 @@ fn held(n: usize, rows: &[u64; ROW_NUMBERS], ids: &[u64; ID_NUMBERS]) {
 // that the tables may hold those of the elements before the fault.
 fn refused(s: &[u8], r: Refusal, rows: &[u64; ROW_NUMBERS], ids: &[u64; ID_NUMBERS]) {
     let n = elements_in(s);
-    let rows_end = n * 6;
-    let ids_end = n * 3;
+    let rows_end = n * ROW_WIDTH;
+    let ids_end = n * ID_WIDTH;
     let all_rows = &rows[..];
     if !untouched(&all_rows[rows_end..]) {
         return say::touched();

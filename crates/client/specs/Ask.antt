@@ -3,7 +3,6 @@
 -- Assumes nothing.
 use mathlib.Core.Path.{_≡_}
 use Prim.Native.Nat.{ℕ}
-use mathlib.Core.Bool.{true}
 use mathlib.Core.List.{List, [], _++_}
 use lib.ListN.{length, drop}
 use lib.Dec.{ltb, eqb}
@@ -11,6 +10,7 @@ use Rattle.laws.specs.Pick.{pick}
 use Rattle.numbers.specs.Refusals.{faultAt, longestInput, overLong, tooShort, tellWrote}
 use Rattle.numbers.specs.declared.refusal.Wrote.{Wrote}
 use Rattle.numbers.specs.declared.refusal.Wrote.the-variants as wrote
+use Rattle.objects.specs.Types.{subRequestType, filterType, compoundBit, withRoom}
 use Rattle.objects.specs.Steps.{_▹_, then, valued, startHere, finish}
 use Rattle.objects.specs.declared.reading.Reading.{Reading}
 use Rattle.objects.specs.declared.reading.Reading.the-variants.{At, Refused}
@@ -23,7 +23,7 @@ use Rattle.client.specs.AskWritten.{askBytes}
 
 -- bytes left behind the last filter are at fault, as a filter's start would be (D-65)
 unfoldable pub noMore : List ℕ → Reading → Reading
-noMore s c = then c (λ at. pick (ltb at (length s)) (startHere s 0x42 0x47 true true c) c)
+noMore s c = then c (λ at. pick (ltb at (length s)) (startHere s subRequestType filterType compoundBit withRoom c) c)
 
 -- the number is how many
 unfoldable pub filtersGiven : List ℕ → Reading
@@ -32,7 +32,7 @@ filtersGiven f = pick (ltb longestInput (length f)) (Refused overLong) (At 0 0 �
 -- ---- the knowledge, which is all of the second input: one object, or no byte
 
 unfoldable pub knowledgeOf : List ℕ → Knowing
-knowledgeOf k = pick (eqb (length k) 0) (knowing [] [] mostSaid (At 0 0)) (knowledgeAt mostSaid 12 0x42 k [] (At 0 0))
+knowledgeOf k = pick (eqb (length k) 0) (knowing [] [] mostSaid (At 0 0)) (knowledgeAt mostSaid 12 subRequestType k [] (At 0 0))
 
 -- "After the last end any byte is 5"
 unfoldable pub knowledgeGiven : List ℕ → Reading

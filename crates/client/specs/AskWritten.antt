@@ -2,7 +2,6 @@
 -- package and, without a limit, the constraint. Filters and knowledge are the bytes handed in (D-71).
 -- Assumes nothing.
 use Prim.Native.Nat.{ℕ}
-use mathlib.Core.Bool.{true, false}
 use mathlib.Core.List.{List, [], _∷_, _++_}
 use lib.ListN.{length}
 use lib.Dec.{eqb}
@@ -10,36 +9,37 @@ use Rattle.laws.specs.Pick.{pick}
 use Rattle.numbers.specs.Compact.{compactBytes}
 use Rattle.numbers.specs.ExtendedGuid.{extendedGuidBytes}
 use Rattle.numbers.specs.declared.extended_guid.ExtendedGuid.the-variants.{Null}
+use Rattle.objects.specs.Types.{requestType, userAgentType, compoundBit, subRequestType, queryChangesType, plainBit, argumentsType, constraintType}
 use Rattle.objects.specs.Header.{startBytes, endBytes}
 use Rattle.request.specs.Message.{requestSignature}
 use Rattle.pages.specs.Written.{versionBytes}
 
 -- "request start; user agent": the user agent is empty
 unfoldable pub userAgentBytes : List ℕ
-userAgentBytes = startBytes 0x40 true 0 ++ (startBytes 0x5D true 0 ++ endBytes 0x5D)
+userAgentBytes = startBytes requestType compoundBit 0 ++ (startBytes userAgentType compoundBit 0 ++ endBytes userAgentType)
 
 -- "sub-request (id, type 2, priority)": the priority is 0
 unfoldable pub subRequestData : ℕ → List ℕ
 subRequestData id = compactBytes id ++ (compactBytes 2 ++ compactBytes 0)
 
 unfoldable pub subRequestBytes : ℕ → List ℕ
-subRequestBytes id = startBytes 0x42 true (length (subRequestData id)) ++ subRequestData id
+subRequestBytes id = startBytes subRequestType compoundBit (length (subRequestData id)) ++ subRequestData id
 
 -- "0x51 with one byte, ignored": a zero byte
 unfoldable pub queryBytes : List ℕ
-queryBytes = startBytes 0x51 false 1 ++ (0 ∷ [])
+queryBytes = startBytes queryChangesType plainBit 1 ++ (0 ∷ [])
 
 -- "arguments, whose two low flag bits must be set .. and whose cell ID must be two nulls"
 unfoldable pub argumentData : List ℕ
 argumentData = 3 ∷ (extendedGuidBytes Null ++ extendedGuidBytes Null)
 
 unfoldable pub argumentBytes : List ℕ
-argumentBytes = startBytes 0x5B false (length argumentData) ++ argumentData
+argumentBytes = startBytes argumentsType plainBit (length argumentData) ++ argumentData
 
 -- "at most one constraint (absent: 2^64-1 bytes)"
 unfoldable pub constraintBytes : ℕ → List ℕ
 constraintBytes limit =
-    pick (eqb limit 0xFFFFFFFFFFFFFFFF) [] (startBytes 0x59 false (length (compactBytes limit)) ++ compactBytes limit)
+    pick (eqb limit 0xFFFFFFFFFFFFFFFF) [] (startBytes constraintType plainBit (length (compactBytes limit)) ++ compactBytes limit)
 
 -- up to the constraint
 unfoldable pub askFront : ℕ → List ℕ
@@ -47,7 +47,7 @@ askFront id = versionBytes requestSignature ++ (userAgentBytes ++ (subRequestByt
 
 -- "ends": of the sub-request, and of the request
 unfoldable pub askEnds : List ℕ
-askEnds = endBytes 0x42 ++ endBytes 0x40
+askEnds = endBytes subRequestType ++ endBytes requestType
 
 -- the whole, in the order of document 01
 unfoldable pub askBytes : ℕ → ℕ → List ℕ → List ℕ → List ℕ

@@ -3,7 +3,7 @@
 -- Assumes nothing.
 use mathlib.Core.Path.{_≡_}
 use Prim.Native.Nat.{ℕ, _-_, _%_}
-use mathlib.Core.Bool.{Bool, true, false}
+use mathlib.Core.Bool.{Bool}
 use mathlib.Core.List.{List, [], _∷_}
 use lib.ListN.{length}
 use lib.Dec.{ltb, eqb}
@@ -11,6 +11,7 @@ use Rattle.laws.specs.Pick.{pick}
 use Rattle.numbers.specs.Refusals.{Told, gives, refuses, faultAt}
 use Rattle.numbers.specs.declared.extended_guid.ExtendedGuid.{ExtendedGuid}
 use Rattle.numbers.specs.declared.extended_guid.ExtendedGuid.the-variants as id
+use Rattle.objects.specs.Types.{responseType, compoundBit, withRoom, subResponseType, changesType, plainBit}
 use Rattle.objects.specs.Steps.{_▹_, nothingOpen, placeOf, valueOf, valued, need, fixedIn, number, numberIs, idHere, onId, startHere, runHere, inRun, endHere, finish}
 use Rattle.objects.specs.declared.reading.Reading.{Reading}
 use Rattle.objects.specs.declared.reading.Reading.the-variants.{At, Refused}
@@ -41,15 +42,15 @@ responseFields d = At 0 0 ▹ statusByte d
 
 -- "version .. minimum .. the signature of 000, 2.2.3; response start"
 unfoldable pub responseStart : List ℕ → Reading
-responseStart s = versions answerSignature s ▹ startHere s nothingOpen 0x62 true true ▹ inRun s responseFields
+responseStart s = versions answerSignature s ▹ startHere s nothingOpen responseType compoundBit withRoom ▹ inRun s responseFields
 
 -- "package of the k elements", inside the response; fourteen levels are left inside an element
 abbrev pub packageIn : List ℕ → Walk
-packageIn s = packageWalk 0x62 s (responseStart s)
+packageIn s = packageWalk responseType s (responseStart s)
 
 -- where the elements begin
 abbrev pub elementsStart : List ℕ → Reading
-elementsStart s = packageStart 0x62 s (responseStart s)
+elementsStart s = packageStart responseType s (responseStart s)
 
 -- ---- from behind the package
 
@@ -58,7 +59,7 @@ unfoldable pub subResponseFields : List ℕ → Reading
 subResponseFields d = At 0 0 ▹ number d ▹ λ id. id ▹ numberIs d 2 8 ▹ statusByte d ▹ valued (valueOf id)
 
 unfoldable pub subResponse : List ℕ → Reading → Reading
-subResponse s c = c ▹ startHere s 0x62 0x41 true true ▹ inRun s subResponseFields
+subResponse s c = c ▹ startHere s responseType subResponseType compoundBit withRoom ▹ inRun s subResponseFields
 
 -- "0x5F with the extended GUID .. and the partial byte": the byte is carried on
 abbrev pub indexField : List ℕ → ReadingId
@@ -68,7 +69,7 @@ unfoldable pub changesFields : List ℕ → Reading
 changesFields d = onId (indexField d) ▹ fixedIn d 1 0 255 5
 
 abbrev pub changesStart : List ℕ → Reading → Reading
-changesStart s c = startHere s 0x41 0x5F false true c
+changesStart s c = startHere s subResponseType changesType plainBit withRoom c
 
 unfoldable pub changes : List ℕ → Reading → Reading
 changes s c = changesStart s c ▹ inRun s changesFields
@@ -80,11 +81,11 @@ idIn (id′.Refused r) = id.Null
 
 -- "knowledge": thirteen levels are left inside a specialized knowledge of another kind
 unfoldable pub knowledgeIn : List ℕ → Reading → Knowing
-knowledgeIn s c = knowledgeAt mostSaid 13 0x41 s [] c
+knowledgeIn s c = knowledgeAt mostSaid 13 subResponseType s [] c
 
 -- "ends": "After the last end any byte is 5"
 unfoldable pub endsOf : List ℕ → Reading → Reading
-endsOf s c = c ▹ endHere s 0x41 ▹ endHere s 0x62 ▹ finish s
+endsOf s c = c ▹ endHere s subResponseType ▹ endHere s responseType ▹ finish s
 
 -- ---- what the parts are, in an answer from behind its package at c
 

@@ -13,6 +13,7 @@ use numbers::refusal::at_place;
 use numbers::refusal::over_long;
 use numbers::refusal::too_short;
 use objects::layout::COMPOUND;
+use objects::layout::PLAIN;
 use objects::layout::ROOM;
 use objects::reading::Reading;
 use pages::write::lay_versions;
@@ -96,8 +97,8 @@ fn lay_user_agent(out: &mut [u8], at: usize) -> usize
     requires { ⌜ at + length userAgentBytes ≤ length (now out) ⌝ }
     ensures { λ r. ⌜ Lays at userAgentBytes (now (out .entry)) r (now (out .exit)) ⌝ }
 {
-    let behind_request = lay_start(out, at, REQUEST, true, 0);
-    let behind_start = lay_start(out, behind_request, USER_AGENT, true, 0);
+    let behind_request = lay_start(out, at, REQUEST, COMPOUND, 0);
+    let behind_start = lay_start(out, behind_request, USER_AGENT, COMPOUND, 0);
     lay_end(out, behind_start, USER_AGENT)
 }
 
@@ -107,7 +108,7 @@ fn lay_sub_request(out: &mut [u8], at: usize, id: u64) -> usize
     ensures { λ r. ⌜ Lays at (subRequestBytes id) (now (out .entry)) r (now (out .exit)) ⌝ }
 {
     let n = compact_length(id) + 2;
-    let behind_start = lay_start(out, at, SUB_REQUEST, true, n as u64);
+    let behind_start = lay_start(out, at, SUB_REQUEST, COMPOUND, n as u64);
     let behind_id = lay_number(out, behind_start, id);
     let behind_type = lay_number(out, behind_id, 2);
     lay_number(out, behind_type, 0)
@@ -117,7 +118,7 @@ fn lay_query(out: &mut [u8], at: usize) -> usize
     requires { ⌜ at + length queryBytes ≤ length (now out) ⌝ }
     ensures { λ r. ⌜ Lays at queryBytes (now (out .entry)) r (now (out .exit)) ⌝ }
 {
-    let behind_start = lay_start(out, at, QUERY_CHANGES, false, 1);
+    let behind_start = lay_start(out, at, QUERY_CHANGES, PLAIN, 1);
     lay_byte(out, behind_start, 0)
 }
 
@@ -126,7 +127,7 @@ fn lay_arguments(out: &mut [u8], at: usize) -> usize
     requires { ⌜ at + length argumentBytes ≤ length (now out) ⌝ }
     ensures { λ r. ⌜ Lays at argumentBytes (now (out .entry)) r (now (out .exit)) ⌝ }
 {
-    let behind_start = lay_start(out, at, ARGUMENTS, false, 3);
+    let behind_start = lay_start(out, at, ARGUMENTS, PLAIN, 3);
     let behind_flags = lay_byte(out, behind_start, 3);
     let behind_first = lay_byte(out, behind_flags, 0);
     lay_byte(out, behind_first, 0)
@@ -162,7 +163,7 @@ fn lay_constraint(out: &mut [u8], at: usize, limit: u64) -> usize
         return at;
     }
     let n = compact_length(limit);
-    let behind_start = lay_start(out, at, CONSTRAINT, false, n as u64);
+    let behind_start = lay_start(out, at, CONSTRAINT, PLAIN, n as u64);
     lay_number(out, behind_start, limit)
 }
 

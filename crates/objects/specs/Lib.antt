@@ -1,4 +1,5 @@
 pub mod Header
+pub mod Types
 pub mod Nesting
 pub mod Steps
 pub mod Next

@@ -11,6 +11,7 @@ use Rattle.laws.specs.Pick.{pick}
 use Rattle.numbers.specs.Compact.{compactBytes}
 use Rattle.numbers.specs.ExtendedGuid.{extendedGuidBytes}
 use Rattle.numbers.specs.declared.extended_guid.ExtendedGuid.{ExtendedGuid}
+use Rattle.objects.specs.Types.{packageType}
 use Rattle.objects.specs.Header.{endBytes}
 use Rattle.talk.specs.Each.{Each}
 use Rattle.talk.specs.Ranges.{insert}
@@ -143,4 +144,4 @@ unfoldable pub answerFront : List ℕ
 answerFront = versionBytes answerSignature ++ (responseBytes ++ packageFront)
 
 unfoldable pub answerMiddle : ℕ → ExtendedGuid → Bool → List ℕ
-answerMiddle id index partial = endBytes 0x15 ++ (subResponseBytes id ++ changesBytes index partial)
+answerMiddle id index partial = endBytes packageType ++ (subResponseBytes id ++ changesBytes index partial)

@@ -3,7 +3,7 @@
 -- in the store (null if none) and the partial byte (1 or 0); knowledge; ends."
 -- Assumes nothing.
 use Prim.Native.Nat.{ℕ}
-use mathlib.Core.Bool.{Bool, true, false}
+use mathlib.Core.Bool.{Bool}
 use mathlib.Core.List.{List, [], _∷_, _++_}
 use lib.ListN.{length, take, drop}
 use Rattle.laws.specs.Pick.{pick}
@@ -11,6 +11,7 @@ use Rattle.laws.specs.Bytes.{bytes}
 use Rattle.numbers.specs.Compact.{compactBytes}
 use Rattle.numbers.specs.ExtendedGuid.{extendedGuidBytes}
 use Rattle.numbers.specs.declared.extended_guid.ExtendedGuid.{ExtendedGuid}
+use Rattle.objects.specs.Types.{responseType, compoundBit, packageType, subResponseType, changesType, plainBit}
 use Rattle.objects.specs.Header.{startBytes, endBytes}
 use Rattle.talk.specs.declared.range.Range.{Range}
 use Rattle.store.specs.Written.{packageFront}
@@ -27,7 +28,7 @@ answerSignature = 0x9B069439F329CF9D
 
 -- "response start (length 1) and a zero byte"
 unfoldable pub responseBytes : List ℕ
-responseBytes = startBytes 0x62 true 1 ++ (0 ∷ [])
+responseBytes = startBytes responseType compoundBit 1 ++ (0 ∷ [])
 
 -- an element "as stored": its own bytes in the store
 unfoldable pub storedBytes : List ℕ → Element → List ℕ
@@ -39,14 +40,14 @@ elementsBytes s (x ∷ xs) = storedBytes s x ++ elementsBytes s xs
 
 -- "package of the k elements": its start and its zero byte, the elements, its end
 unfoldable pub packageOf : List ℕ → List Element → List ℕ
-packageOf s page = packageFront ++ (elementsBytes s page ++ endBytes 0x15)
+packageOf s page = packageFront ++ (elementsBytes s page ++ endBytes packageType)
 
 -- "sub-response (id as asked, type 2, zero byte)"
 unfoldable pub subResponseData : ℕ → List ℕ
 subResponseData id = compactBytes id ++ (compactBytes 2 ++ (0 ∷ []))
 
 unfoldable pub subResponseBytes : ℕ → List ℕ
-subResponseBytes id = startBytes 0x41 true (length (subResponseData id)) ++ subResponseData id
+subResponseBytes id = startBytes subResponseType compoundBit (length (subResponseData id)) ++ subResponseData id
 
 -- "0x5F with the extended GUID .. and the partial byte (1 or 0)"
 unfoldable pub partialByte : Bool → ℕ
@@ -56,11 +57,11 @@ unfoldable pub changesData : ExtendedGuid → Bool → List ℕ
 changesData index partial = extendedGuidBytes index ++ (partialByte partial ∷ [])
 
 unfoldable pub changesBytes : ExtendedGuid → Bool → List ℕ
-changesBytes index partial = startBytes 0x5F false (length (changesData index partial)) ++ changesData index partial
+changesBytes index partial = startBytes changesType plainBit (length (changesData index partial)) ++ changesData index partial
 
 -- "ends": of the sub-response, and of the response
 unfoldable pub endsBytes : List ℕ
-endsBytes = endBytes 0x41 ++ endBytes 0x62
+endsBytes = endBytes subResponseType ++ endBytes responseType
 
 -- the whole, in the order of the sentence
 unfoldable pub answerBytes : List ℕ → ℕ → ExtendedGuid → List Element → Bool → List Range → List ℕ

@@ -10,6 +10,8 @@ ghost use Rattle.pages.specs.Tables.{chosenIn, ToSend, sentBytes, answer
 use numbers::compact::compact_length;
 use numbers::extended_guid::ExtendedGuid;
 use numbers::extended_guid::extended_guid_length;
+use objects::layout::COMPOUND;
+use objects::layout::PLAIN;
 use objects::layout::part;
 use store::element::PACKAGE;
 use store::knowledge_write::lay_knowledge;
@@ -55,9 +57,9 @@ fn lay_front(out: &mut [u8], at: usize) -> usize
     ensures { λ r. ⌜ Lays at answerFront (now (out .entry)) r (now (out .exit)) ⌝ }
 {
     let behind_versions = lay_versions(out, at, SIGNATURE);
-    let behind_start = lay_start(out, behind_versions, RESPONSE, true, 1);
+    let behind_start = lay_start(out, behind_versions, RESPONSE, COMPOUND, 1);
     let behind_response = lay_byte(out, behind_start, 0);
-    let behind_package = lay_start(out, behind_response, PACKAGE, true, 1);
+    let behind_package = lay_start(out, behind_response, PACKAGE, COMPOUND, 1);
     lay_byte(out, behind_package, 0)
 }
 
@@ -100,7 +102,7 @@ fn lay_sub_response(out: &mut [u8], at: usize, id: u64) -> usize
     ensures { λ r. ⌜ Lays at (subResponseBytes id) (now (out .entry)) r (now (out .exit)) ⌝ }
 {
     let n = compact_length(id) + 2;
-    let behind_start = lay_start(out, at, SUB_RESPONSE, true, n as u64);
+    let behind_start = lay_start(out, at, SUB_RESPONSE, COMPOUND, n as u64);
     let behind_id = lay_number(out, behind_start, id);
     let behind_type = lay_number(out, behind_id, 2);
     lay_byte(out, behind_type, 0)
@@ -122,7 +124,7 @@ fn lay_changes(out: &mut [u8], at: usize, index: ExtendedGuid, partial: bool) ->
     ensures { λ r. ⌜ Lays at (changesBytes index partial) (now (out .entry)) r (now (out .exit)) ⌝ }
 {
     let n = extended_guid_length(index) + 1;
-    let behind_start = lay_start(out, at, CHANGES, false, n as u64);
+    let behind_start = lay_start(out, at, CHANGES, PLAIN, n as u64);
     let behind_index = lay_extended_guid(out, behind_start, index);
     lay_byte(out, behind_index, partial_byte(partial))
 }

@@ -8,6 +8,7 @@ use lib.ListN.{drop}
 use lib.Dec.{eqb}
 use Rattle.laws.specs.Pick.{pick}
 use Rattle.laws.specs.Once.{seen}
+use Rattle.objects.specs.Types.{filterType, filterOfIdsType, plainBit, withRoom}
 use Rattle.objects.specs.Steps.{valueOf, startHere, runHere}
 use Rattle.objects.specs.declared.reading.Reading.{Reading}
 use Rattle.store.specs.Element.{sameKey}
@@ -55,7 +56,7 @@ unfoldable pub kindMatches : List ℕ → ℕ → Reading → Element → Bool
 kindMatches s kind c x =
     pick (eqb kind 1) true
     (pick (eqb kind 2) (eqb (x .kind) (valueOf (typePart s c)))
-    (pick (eqb kind 6) (withIds (keysIn (runHere s (startHere s 0x47 0x54 false true c))) x) false))
+    (pick (eqb kind 6) (withIds (keysIn (runHere s (startHere s filterType filterOfIdsType plainBit withRoom c))) x) false))
 
 -- ---- what choosing promises: the flags of n elements, and behind them what was there
 abbrev pub Chooses : List ℕ → Reading → ℕ → List ℕ → List ℕ → ℕ → List ℕ → List ℕ → Type 0

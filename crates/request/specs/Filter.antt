@@ -7,6 +7,7 @@ use mathlib.Core.Bool.{Bool, true, false}
 use mathlib.Core.List.{List}
 use lib.Dec.{eqb}
 use Rattle.laws.specs.Pick.{pick}
+use Rattle.objects.specs.Types.{filterType, filterOfTypeType, plainBit, withRoom, filterOfIdsType, subRequestType, compoundBit, noRoom}
 use Rattle.objects.specs.Steps.{_▹_, placeOf, valueOf, need, fixedIn, idHere, onId, startHere, runHere, closed, inRun, endHere, nextIs, valued}
 use Rattle.objects.specs.Steps as steps
 use Rattle.objects.specs.declared.reading.Reading.{Reading}
@@ -42,7 +43,7 @@ oneNumber d = At 0 0 ▹ steps.number d
 
 -- Data Element Type: one number, the type
 unfoldable pub typePart : List ℕ → Reading → Reading
-typePart s c = c ▹ startHere s 0x47 0x57 false true ▹ inRun s oneNumber
+typePart s c = c ▹ startHere s filterType filterOfTypeType plainBit withRoom ▹ inRun s oneNumber
 
 -- Data Element IDs: their count, and so many extended GUIDs (000, 2.2.1.8). "9 .. 64 ids in a filter" falls on the 65th id, after
 -- its own 2 and 3 (D-17)
@@ -57,7 +58,7 @@ unfoldable pub idsField : List ℕ → Reading
 idsField d = idsFrom 64 d (valueOf (oneNumber d)) (oneNumber d)
 
 unfoldable pub idsPart : List ℕ → Reading → Reading
-idsPart s c = c ▹ startHere s 0x47 0x54 false true ▹ inRun s idsField
+idsPart s c = c ▹ startHere s filterType filterOfIdsType plainBit withRoom ▹ inRun s idsField
 
 unfoldable pub kindPart : List ℕ → ℕ → Reading → Reading
 kindPart s kind c = pick (eqb kind 2) (typePart s c) (pick (eqb kind 6) (idsPart s c) c)
@@ -65,7 +66,7 @@ kindPart s kind c = pick (eqb kind 2) (typePart s c) (pick (eqb kind 6) (idsPart
 -- ---- the filter at c, in a sub-request
 
 abbrev pub filterStart : List ℕ → Reading → Reading
-filterStart s c = startHere s 0x42 0x47 true true c
+filterStart s c = startHere s subRequestType filterType compoundBit withRoom c
 
 -- behind its two bytes
 unfoldable pub filterOpened : List ℕ → Reading → Reading
@@ -75,9 +76,9 @@ abbrev pub filterKind : List ℕ → Reading → ℕ
 filterKind s c = filterFields (runHere s (filterStart s c)) .kind
 
 unfoldable pub filterAt : List ℕ → Reading → Reading
-filterAt s c = endHere s 0x47 (kindPart s (filterKind s c) (filterOpened s c))
+filterAt s c = endHere s filterType (kindPart s (filterKind s c) (filterOpened s c))
 
 -- so many more filters are allowed, of 16: 9 at the first header too many. Their number is carried on
 unfoldable pub filtersFrom : ℕ → List ℕ → Reading → Reading
-filtersFrom zero s c = pick (nextIs s 0x47 c) (startHere s 0x42 0x47 true false c) (valued 16 c)
-filtersFrom (suc left) s c = pick (nextIs s 0x47 c) (filtersFrom left s (filterAt s c)) (valued (16 - suc left) c)
+filtersFrom zero s c = pick (nextIs s filterType c) (startHere s subRequestType filterType compoundBit noRoom c) (valued 16 c)
+filtersFrom (suc left) s c = pick (nextIs s filterType c) (filtersFrom left s (filterAt s c)) (valued (16 - suc left) c)

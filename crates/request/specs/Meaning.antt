@@ -8,6 +8,7 @@ use lib.Dec.{eqb}
 use Rattle.laws.specs.Pick.{pick}
 use Rattle.laws.specs.Once.{seen}
 use Rattle.numbers.specs.declared.extended_guid.ExtendedGuid.the-variants as id
+use Rattle.objects.specs.Types.{filterType, filterOfIdsType, plainBit, withRoom}
 use Rattle.objects.specs.Steps.{valueOf, idHere, startHere, runHere}
 use Rattle.objects.specs.declared.reading.Reading.{Reading}
 use Rattle.objects.specs.declared.reading.ReadingId.{ReadingId}
@@ -46,7 +47,7 @@ filterRead s c =
       kind = filterFields (runHere s (filterStart s c)) .kind;
       operation = filterFields (runHere s (filterStart s c)) .operation;
       type = valueOf (typePart s (filterOpened s c));
-      ids = keysIn (runHere s (startHere s 0x47 0x54 false true (filterOpened s c)));
+      ids = keysIn (runHere s (startHere s filterType filterOfIdsType plainBit withRoom (filterOpened s c)));
     }
 
 -- n filters from c on

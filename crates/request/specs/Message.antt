@@ -3,13 +3,13 @@
 -- Assumes nothing.
 use mathlib.Core.Path.{_≡_}
 use Prim.Native.Nat.{ℕ, _%_}
-use mathlib.Core.Bool.{true, false}
 use mathlib.Core.List.{List, [], _∷_}
 use lib.ListN.{length}
 use lib.Dec.{ltb, eqb}
 use Rattle.laws.specs.Pick.{pick}
 use Rattle.numbers.specs.Refusals.{Told, gives, refuses, longestInput, overLong}
 use Rattle.numbers.specs.declared.refusal.Refusal.{Refusal}
+use Rattle.objects.specs.Types.{requestType, userAgentType, compoundBit, withRoom, subRequestType, queryChangesType, plainBit, argumentsType, constraintType, knowledgeType, packageType}
 use Rattle.objects.specs.Steps.{_▹_, nothingOpen, placeOf, valueOf, valued, need, fixedIn, number, numberIs, nullId, skip, startHere, startOfLength, inRun, inside, endHere, nextIs, finish}
 use Rattle.objects.specs.declared.reading.Reading.{Reading}
 use Rattle.objects.specs.declared.reading.Reading.the-variants.{At, Refused}
@@ -33,18 +33,18 @@ requestSignature = 0x9B069439F329CF9C
 -- "request start; user agent, contents only nested": fourteen levels are left inside these two
 unfoldable pub userAgent : List ℕ → Reading → Reading
 userAgent s c =
-    c ▹ startOfLength s nothingOpen 0x40 true true 0 ▹ startOfLength s 0x40 0x5D true true 0 ▹ inside s 14 0x5D
+    c ▹ startOfLength s nothingOpen requestType compoundBit withRoom 0 ▹ startOfLength s requestType userAgentType compoundBit withRoom 0 ▹ inside s 14 userAgentType
 
 -- "sub-request (id, type 2, priority)": the id is carried on
 unfoldable pub subRequestFields : List ℕ → Reading
 subRequestFields d = At 0 0 ▹ number d ▹ λ id. id ▹ numberIs d 2 8 ▹ number d ▹ valued (valueOf id)
 
 unfoldable pub subRequest : List ℕ → Reading → Reading
-subRequest s c = c ▹ startHere s 0x40 0x42 true true ▹ inRun s subRequestFields
+subRequest s c = c ▹ startHere s requestType subRequestType compoundBit withRoom ▹ inRun s subRequestFields
 
 -- "0x51 with one byte, ignored"
 unfoldable pub queryChanges : List ℕ → Reading → Reading
-queryChanges s c = c ▹ startOfLength s 0x42 0x51 false true 1 ▹ skip s 1
+queryChanges s c = c ▹ startOfLength s subRequestType queryChangesType plainBit withRoom 1 ▹ skip s 1
 
 -- "arguments, whose two low flag bits must be set (the others are ignored) and whose cell ID must be two nulls"
 unfoldable pub argumentFields : List ℕ → Reading
@@ -52,20 +52,20 @@ argumentFields d =
     At 0 0 ▹ fixedIn d 1 0 255 8 ▹ λ flags. flags ▹ need (eqb (valueOf flags % 4) 3) 8 0 ▹ nullId d 8 ▹ nullId d 8
 
 unfoldable pub arguments : List ℕ → Reading → Reading
-arguments s c = c ▹ startHere s 0x42 0x5B false true ▹ inRun s argumentFields
+arguments s c = c ▹ startHere s subRequestType argumentsType plainBit withRoom ▹ inRun s argumentFields
 
 -- "at most one constraint (absent: 2^64-1 bytes)": the limit is carried on
 unfoldable pub constraint : List ℕ → Reading → Reading
 constraint s c =
-    pick (nextIs s 0x59 c) (c ▹ startHere s 0x42 0x59 false true ▹ inRun s oneNumber) (c ▹ valued 0xFFFFFFFFFFFFFFFF)
+    pick (nextIs s constraintType c) (c ▹ startHere s subRequestType constraintType plainBit withRoom ▹ inRun s oneNumber) (c ▹ valued 0xFFFFFFFFFFFFFFFF)
 
 -- "knowledge": into the working table; twelve levels are left inside a specialized knowledge of another kind
 unfoldable pub knowledgePart : List ℕ → List ℕ → Reading → Knowing
-knowledgePart s t c = pick (nextIs s 0x10 c) (knowledgeAt mostSaid 12 0x42 s t c) (knowing [] t mostSaid c)
+knowledgePart s t c = pick (nextIs s knowledgeType c) (knowledgeAt mostSaid 12 subRequestType s t c) (knowing [] t mostSaid c)
 
 -- "package, passed over": fourteen levels are left inside it
 unfoldable pub packagePart : List ℕ → Reading → Reading
-packagePart s c = pick (nextIs s 0x15 c) (c ▹ startOfLength s 0x40 0x15 true true 1 ▹ skip s 1 ▹ inside s 14 0x15) c
+packagePart s c = pick (nextIs s packageType c) (c ▹ startOfLength s requestType packageType compoundBit withRoom 1 ▹ skip s 1 ▹ inside s 14 packageType) c
 
 -- ---- the whole
 
@@ -90,7 +90,7 @@ filtersOf s = filtersRead (valueOf (filtered s)) s (constrained s)
 
 -- "knowledge; ends; package, passed over": "After the last end any byte is 5"
 unfoldable pub requestEnd : List ℕ → Reading → Reading
-requestEnd s c = c ▹ endHere s 0x42 ▹ packagePart s ▹ endHere s 0x40 ▹ finish s
+requestEnd s c = c ▹ endHere s subRequestType ▹ packagePart s ▹ endHere s requestType ▹ finish s
 
 -- "An over-long input gives 1 before its other faults": then nothing is known; else what the knowledge tells
 unfoldable pub requestKnowing : List ℕ → List ℕ → Knowing

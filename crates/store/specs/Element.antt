@@ -3,7 +3,7 @@
 -- (2, 3, 10, 11), the type, bytes left over, the inside.
 -- Assumes nothing.
 use Prim.Native.Nat.{ℕ, _-_}
-use mathlib.Core.Bool.{Bool, true, false}
+use mathlib.Core.Bool.{Bool, false}
 use mathlib.Core.List.{List, [], _∷_, map}
 use lib.ListN.{length}
 use lib.Dec.{eqb}
@@ -13,6 +13,7 @@ use Rattle.numbers.specs.Refusals.{Told, gives, refuses, faultAt}
 use Rattle.numbers.specs.declared.guid.Guid.{Guid}
 use Rattle.numbers.specs.declared.extended_guid.ExtendedGuid.the-variants as id
 use Rattle.numbers.specs.declared.serial.Serial.the-variants as number
+use Rattle.objects.specs.Types.{packageType, elementType, compoundBit, withRoom}
 use Rattle.objects.specs.Steps.{placeOf, valueOf, idHere, serialHere, startHere, runHere, closed, inside}
 use Rattle.objects.specs.Steps as steps
 use Rattle.objects.specs.declared.reading.Reading.{Reading}
@@ -96,7 +97,7 @@ fieldsOf ids serials d =
 -- ---- the element at c, in a package, with so many levels left for what is inside it
 
 abbrev pub opened : List ℕ → Reading → Reading
-opened s c = startHere s 0x15 0x01 true true c
+opened s c = startHere s packageType elementType compoundBit withRoom c
 
 -- behind its data, with its type as the number
 unfoldable pub dataOf : List Key → List Key → List ℕ → Reading → Reading
@@ -110,7 +111,7 @@ elementOn at f kind (reading.Refused r) = element.Refused r
 unfoldable pub elementAt : ℕ → List Key → List Key → List ℕ → Reading → ReadElement
 elementAt depth ids serials s c =
     elementOn (placeOf c) (fieldsOf ids serials (runHere s (opened s c))) (valueOf (dataOf ids serials s c))
-    (inside s depth 0x01 (dataOf ids serials s c))
+    (inside s depth elementType (dataOf ids serials s c))
 
 -- ---- what the answers tell: the values in the order of the enum, or the refusal
 

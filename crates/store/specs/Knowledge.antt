@@ -14,6 +14,7 @@ use Rattle.laws.specs.Loop.Turn.{more, done}
 use Rattle.numbers.specs.Refusals.{Told, gives, refuses, faultAt}
 use Rattle.numbers.specs.declared.guid.Guid.{Guid}
 use Rattle.numbers.specs.declared.serial.Serial.the-variants as number
+use Rattle.objects.specs.Types.{cellType, rangeType, plainBit, withRoom, entryType, noRoom, knowledgeType, specializedType, compoundBit}
 use Rattle.objects.specs.Steps.{placeOf, valueOf, need, guidHere, onGuid, serialHere, onSerial, startHere, startOfLength, runHere, closed, endHere, nextIs, inside}
 use Rattle.objects.specs.Steps as steps
 use Rattle.objects.specs.declared.reading.Reading.{Reading}
@@ -64,7 +65,7 @@ itemOf x (At e v) = item.Adds e x
 itemOf x (Refused r) = item.Refused r
 
 abbrev pub rangeStart : List ℕ → Reading → Reading
-rangeStart s c = startHere s 0x14 0x0F false true c
+rangeStart s c = startHere s cellType rangeType plainBit withRoom c
 
 unfoldable pub rangeItem : List ℕ → Reading → Item
 rangeItem s c =
@@ -79,7 +80,7 @@ entryOf (serial′.At q (number.Numbered g x)) (At e v) = item.Adds e (rangeOf g
 entryOf (serial′.Refused r) (At e v) = item.Refused r  -- never: a serial number at fault leaves its run at fault
 
 abbrev pub entryStart : List ℕ → Reading → Reading
-entryStart s c = startHere s 0x14 0x17 false true c
+entryStart s c = startHere s cellType entryType plainBit withRoom c
 
 abbrev pub entrySerial : List ℕ → ReadingSerial
 entrySerial d = serialHere d (At 0 0)
@@ -91,13 +92,13 @@ entryItem s c =
 
 -- whether a range or an entry stands here, and which
 unfoldable pub itemNext : List ℕ → Reading → Bool
-itemNext s c = pick (nextIs s 0x0F c) true (nextIs s 0x17 c)
+itemNext s c = pick (nextIs s rangeType c) true (nextIs s entryType c)
 
 unfoldable pub itemKind : List ℕ → Reading → ℕ
-itemKind s c = pick (nextIs s 0x0F c) 0x0F 0x17
+itemKind s c = pick (nextIs s rangeType c) rangeType entryType
 
 unfoldable pub itemAt : List ℕ → Reading → Item
-itemAt s c = pick (nextIs s 0x0F c) (rangeItem s c) (entryItem s c)
+itemAt s c = pick (nextIs s rangeType c) (rangeItem s c) (entryItem s c)
 
 -- on from behind it
 unfoldable pub onItem : Item → Reading
@@ -137,12 +138,12 @@ standing c k = knowing (k .ranges) (k .table) (k .left) c
 
 unfoldable pub itemsFrom : ℕ → List ℕ → List Range → List ℕ → Reading → Knowing
 itemsFrom zero s l t c =
-    pick (itemNext s c) (knowing l t 0 (startHere s 0x14 (itemKind s c) false false c))
-    (knowing l t 0 (endHere s 0x14 c))
+    pick (itemNext s c) (knowing l t 0 (startHere s cellType (itemKind s c) plainBit noRoom c))
+    (knowing l t 0 (endHere s cellType c))
 itemsFrom (suc left) s l t c =
     pick (itemNext s c)
     (itemsFrom left s (united (itemAt s c) l) (laidRanges (united (itemAt s c) l) t) (onItem (itemAt s c)))
-    (knowing l t (suc left) (endHere s 0x14 c))
+    (knowing l t (suc left) (endHere s cellType c))
 
 -- ---- one specialized knowledge
 
@@ -156,27 +157,27 @@ isCell (guid′.Refused r) = false
 
 -- "specialized knowledge 16"
 unfoldable pub specializedGuid : List ℕ → Reading → ReadingGuid
-specializedGuid s c = guidHere s (startOfLength s 0x10 0x44 true true 16 c)
+specializedGuid s c = guidHere s (startOfLength s knowledgeType specializedType compoundBit withRoom 16 c)
 
 -- its end
 abbrev pub cellEnd : List ℕ → Knowing → Knowing
-cellEnd s k = standing (endHere s 0x44 (k .last)) k
+cellEnd s k = standing (endHere s specializedType (k .last)) k
 
 -- "one 0x14 inside"
 unfoldable pub cellFrom : List ℕ → Knowing → Reading → Knowing
-cellFrom s k c = cellEnd s (itemsFrom (k .left) s (k .ranges) (k .table) (startOfLength s 0x44 0x14 true true 0 c))
+cellFrom s k c = cellEnd s (itemsFrom (k .left) s (k .ranges) (k .table) (startOfLength s specializedType cellType compoundBit withRoom 0 c))
 
 -- other kinds are "checked for nesting and passed over", with so many levels left inside
 unfoldable pub specializedFrom : ℕ → List ℕ → Knowing → Knowing
 specializedFrom depth s k =
     pick (isCell (specializedGuid s (k .last))) (cellFrom s k (onGuid (specializedGuid s (k .last))))
-    (standing (inside s depth 0x44 (onGuid (specializedGuid s (k .last)))) k)
+    (standing (inside s depth specializedType (onGuid (specializedGuid s (k .last)))) k)
 
 -- ---- the whole
 
 unfoldable pub knowledgeTurn : ℕ → List ℕ → Knowing → Turn Knowing Knowing
 knowledgeTurn depth s k =
-    pick (nextIs s 0x44 (k .last)) (more (specializedFrom depth s k)) (done (standing (endHere s 0x10 (k .last)) k))
+    pick (nextIs s specializedType (k .last)) (more (specializedFrom depth s k)) (done (standing (endHere s knowledgeType (k .last)) k))
 
 -- the bytes that are left: they fall with each turn
 unfoldable pub toGo : List ℕ → Reading → ℕ
@@ -192,7 +193,7 @@ knowledgeFrom depth s k = iterate (λ m. knowledgeTurn depth s m) (λ m. toGo s 
 
 -- with so many ranges and entries allowed in all; the knowledge has no fields, and stands inside an open object of type `outer`
 unfoldable pub knowledgeAt : ℕ → ℕ → ℕ → List ℕ → List ℕ → Reading → Knowing
-knowledgeAt allowed depth outer s t c = knowledgeFrom depth s (knowing [] t allowed (startOfLength s outer 0x10 true true 0 c))
+knowledgeAt allowed depth outer s t c = knowledgeFrom depth s (knowing [] t allowed (startOfLength s outer knowledgeType compoundBit withRoom 0 c))
 
 -- ---- what reading answers, and what the working table then holds
 

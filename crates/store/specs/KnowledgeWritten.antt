@@ -2,12 +2,12 @@
 -- GUID's sixteen bytes, then by from". The order is that of the list. "writing uses the shortest".
 -- Assumes nothing.
 use Prim.Native.Nat.{ℕ}
-use mathlib.Core.Bool.{true, false}
 use mathlib.Core.List.{List, [], _∷_, _++_}
 use lib.ListN.{length}
 use Rattle.numbers.specs.Compact.{compactBytes}
 use Rattle.numbers.specs.Guid.{guidBytes, swapped}
 use Rattle.numbers.specs.declared.guid.Guid.{Guid}
+use Rattle.objects.specs.Types.{rangeType, plainBit, knowledgeType, specializedType, cellType, compoundBit}
 use Rattle.objects.specs.Header.{startBytes, endBytes}
 use Rattle.talk.specs.declared.range.Range.{Range}
 use Rattle.store.specs.Knowledge.{cellGuid}
@@ -21,7 +21,7 @@ unfoldable pub rangeData : Range → List ℕ
 rangeData x = guidBytes (rangeGuid x) ++ (compactBytes (x .from) ++ compactBytes (x .to))
 
 unfoldable pub rangeBytes : Range → List ℕ
-rangeBytes x = startBytes 0x0F false (length (rangeData x)) ++ rangeData x
+rangeBytes x = startBytes rangeType plainBit (length (rangeData x)) ++ rangeData x
 
 unfoldable pub rangesBytes : List Range → List ℕ
 rangesBytes [] = []
@@ -29,11 +29,11 @@ rangesBytes (x ∷ xs) = rangeBytes x ++ rangesBytes xs
 
 -- a knowledge with one cell knowledge, up to its first range, and from behind its last
 unfoldable pub cellFront : List ℕ
-cellFront = startBytes 0x10 true 0 ++ (startBytes 0x44 true 16 ++ (guidBytes cellGuid ++ startBytes 0x14 true 0))
+cellFront = startBytes knowledgeType compoundBit 0 ++ (startBytes specializedType compoundBit 16 ++ (guidBytes cellGuid ++ startBytes cellType compoundBit 0))
 
 unfoldable pub cellBack : List ℕ
-cellBack = endBytes 0x14 ++ (endBytes 0x44 ++ endBytes 0x10)
+cellBack = endBytes cellType ++ (endBytes specializedType ++ endBytes knowledgeType)
 
 unfoldable pub knowledgeBytes : List Range → List ℕ
-knowledgeBytes [] = startBytes 0x10 true 0 ++ endBytes 0x10
+knowledgeBytes [] = startBytes knowledgeType compoundBit 0 ++ endBytes knowledgeType
 knowledgeBytes (x ∷ xs) = cellFront ++ (rangesBytes (x ∷ xs) ++ cellBack)

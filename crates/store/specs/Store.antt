@@ -4,12 +4,12 @@
 -- Assumes nothing.
 use mathlib.Core.Path.{_≡_}
 use Prim.Native.Nat.{ℕ, zero, suc, _+_, _*_}
-use mathlib.Core.Bool.{true, false}
 use mathlib.Core.List.{List, [], _∷_, _++_}
 use lib.ListN.{length, drop}
 use lib.Dec.{ltb}
 use Rattle.laws.specs.Pick.{pick}
 use Rattle.numbers.specs.Refusals.{Told, gives, refuses, longestInput, overLong}
+use Rattle.objects.specs.Types.{packageType, compoundBit, withRoom, elementType, noRoom}
 use Rattle.objects.specs.Steps.{_▹_, nothingOpen, startOfLength, startHere, skip, endHere, nextIs, finish}
 use Rattle.objects.specs.declared.reading.Reading.{Reading}
 use Rattle.objects.specs.declared.reading.Reading.the-variants.{At, Refused}
@@ -25,7 +25,7 @@ use Rattle.store.specs.declared.package.Stored.the-variants as stored
 
 -- "package 1": one data byte, "reserved: ignored when read"; it stands inside an open object of type `outer`
 unfoldable pub packageStart : ℕ → List ℕ → Reading → Reading
-packageStart outer s c = c ▹ startOfLength s outer 0x15 true true 1 ▹ skip s 1
+packageStart outer s c = c ▹ startOfLength s outer packageType compoundBit withRoom 1 ▹ skip s 1
 
 -- the elements that were read, and where the walk ended
 pub record Walk : Type 0 where
@@ -37,7 +37,7 @@ walked done c = record { elements = done; last = c }
 
 -- the package's end
 abbrev pub closing : List ℕ → List Element → Reading → Walk
-closing s done c = walked done (c ▹ endHere s 0x15)
+closing s done c = walked done (c ▹ endHere s packageType)
 
 -- an element more, and on from behind it
 abbrev pub onElement : (List Element → Reading → Walk) → List Element → ReadElement → Walk
@@ -47,9 +47,9 @@ onElement go done (element.Refused r) = walked done (Refused r)
 -- so many more elements are allowed: 9 at the first header too many
 unfoldable pub walkFrom : ℕ → List ℕ → List Element → Reading → Walk
 walkFrom zero s done c =
-    pick (nextIs s 0x01 c) (walked done (startHere s 0x15 0x01 true false c)) (closing s done c)
+    pick (nextIs s elementType c) (walked done (startHere s packageType elementType compoundBit noRoom c)) (closing s done c)
 walkFrom (suc left) s done c =
-    pick (nextIs s 0x01 c)
+    pick (nextIs s elementType c)
     (onElement (λ more e. walkFrom left s more e) done
     (elementAt 14 (idsIn done) (serialsIn done) s c))
     (closing s done c)

@@ -3,7 +3,6 @@
 -- Assumes nothing.
 use mathlib.Core.Path.{_≡_}
 use Prim.Native.Nat.{ℕ, _+_, _^_, _<_}
-use mathlib.Core.Bool.{true}
 use mathlib.Core.List.{List, [], _∷_, _++_}
 use lib.ListN.{length}
 use Rattle.numbers.specs.Compact.{compactBytes}
@@ -12,6 +11,7 @@ use Rattle.numbers.specs.Serial.{serialBytes}
 use Rattle.numbers.specs.declared.guid.Guid.{Guid}
 use Rattle.numbers.specs.declared.extended_guid.ExtendedGuid.the-variants.{Named}
 use Rattle.numbers.specs.declared.serial.Serial.the-variants.{Numbered}
+use Rattle.objects.specs.Types.{elementType, compoundBit, packageType}
 use Rattle.objects.specs.Header.{startBytes, endBytes}
 use Rattle.objects.specs.Nesting.{runAt}
 use Rattle.objects.specs.declared.nesting.Passed.the-variants.{To}
@@ -35,7 +35,7 @@ fieldBytes c =
     ++ (serialBytes (Numbered (keyGuid (c .serial)) (c .serial .number)) ++ compactBytes (c .kind))
 
 unfoldable pub writtenElement : Content → List ℕ
-writtenElement c = startBytes 0x01 true (length (fieldBytes c)) ++ (fieldBytes c ++ c .inner)
+writtenElement c = startBytes elementType compoundBit (length (fieldBytes c)) ++ (fieldBytes c ++ c .inner)
 
 unfoldable pub writtenElements : List Content → List ℕ
 writtenElements [] = []
@@ -43,10 +43,10 @@ writtenElements (c ∷ cs) = writtenElement c ++ writtenElements cs
 
 -- the package's start and its one data byte
 unfoldable pub packageFront : List ℕ
-packageFront = startBytes 0x15 true 1 ++ (0 ∷ [])
+packageFront = startBytes packageType compoundBit 1 ++ (0 ∷ [])
 
 unfoldable pub packageBytes : List Content → List ℕ
-packageBytes cs = packageFront ++ (writtenElements cs ++ endBytes 0x15)
+packageBytes cs = packageFront ++ (writtenElements cs ++ endBytes packageType)
 
 -- what can be written, with so many levels left for what is inside
 pub record ContentFits (depth : ℕ) (c : Content) : Type 0 where
@@ -57,7 +57,7 @@ pub record ContentFits (depth : ℕ) (c : Content) : Type 0 where
   pub serial-high : c .serial .high < 2 ^ 64
   pub serial-number : c .serial .number < 2 ^ 64
   pub kind : c .kind < 2 ^ 64
-  pub nested : runAt (c .inner) 0 depth 0x01 ≡ To (length (c .inner))
+  pub nested : runAt (c .inner) 0 depth elementType ≡ To (length (c .inner))
 
 abbrev pub AllFit : ℕ → List Content → Type 0
 AllFit depth [] = Unit {0}

@@ -27,6 +27,7 @@ use numbers::guid::Guid;
 use numbers::guid::swap;
 use numbers::refusal::Wrote;
 use numbers::refusal::too_short;
+use objects::layout::COMPOUND;
 use ranges::range_at;
 use talk::range::Range;
 
@@ -122,14 +123,14 @@ fn lay_front(out: &mut [u8], at: usize) -> usize
     requires { ⌜ at + length cellFront ≤ length (now out) ⌝ }
     ensures { λ r. ⌜ Lays at cellFront (now (out .entry)) r (now (out .exit)) ⌝ }
 {
-    let behind_knowledge = lay_start(out, at, KNOWLEDGE, true, 0);
-    let behind_specialized = lay_start(out, behind_knowledge, SPECIALIZED, true, 16);
+    let behind_knowledge = lay_start(out, at, KNOWLEDGE, COMPOUND, 0);
+    let behind_specialized = lay_start(out, behind_knowledge, SPECIALIZED, COMPOUND, 16);
     let kind = Guid {
         low: CELL_LOW,
         high: CELL_HIGH,
     };
     let behind_kind = lay_guid(out, behind_specialized, kind);
-    lay_start(out, behind_kind, CELL, true, 0)
+    lay_start(out, behind_kind, CELL, COMPOUND, 0)
 }
 
 // From behind its last range.
@@ -148,7 +149,7 @@ pub fn lay_knowledge(out: &mut [u8], at: usize, table: &[u64], rows: usize) -> u
     ensures { λ r. ⌜ Lays at (knowledgeBytes (rangesAt (now (table .entry)) 0 rows)) (now (out .entry)) r (now (out .exit)) ⌝ }
 {
     if rows == 0 {
-        let behind_start = lay_start(out, at, KNOWLEDGE, true, 0);
+        let behind_start = lay_start(out, at, KNOWLEDGE, COMPOUND, 0);
         return lay_end(out, behind_start, KNOWLEDGE);
     }
     let behind_front = lay_front(out, at);
