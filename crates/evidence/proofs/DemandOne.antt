@@ -22,7 +22,7 @@ use Rattle.laws.specs.Placed.{placed}
 use Rattle.laws.proofs.Cases.{impossible}
 use Rattle.numbers.specs.Refusals.{longestInput, tellWrote}
 use Rattle.numbers.specs.declared.refusal.Refusal.{Refusal}
-use Rattle.store.specs.Tables.{rowNumbers}
+use Rattle.store.specs.Tables.{mostElements, rowNumbers}
 use Rattle.store.specs.Element.{sameKey}
 use Rattle.store.specs.Store.{storeWalk, Stands}
 use Rattle.store.specs.Written.{Content, packageFront, packageBytes, elementsFrom, AllFit}
@@ -110,7 +110,7 @@ pub record NumbersExactly (s q : List ℕ) (rows ranges room number : ℕ) : Typ
 
 -- a store can be written of these: at most 256 elements that fit, no id and no serial number twice, and not over-long
 pub record Writable (cs : List Content) : Type 0 where
-  pub count : length cs ≤ 256
+  pub count : length cs ≤ mostElements
   pub fit : AllFit 14 cs
   pub ids-once : once sameKey (map (λ (c : Content). c .id) cs) ≡ true
   pub serials-once : once sameKey (map (λ (c : Content). c .serial) cs) ≡ true

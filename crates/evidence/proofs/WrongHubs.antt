@@ -18,10 +18,12 @@ use Rattle.laws.proofs.Cases.{impossible}
 use Rattle.numbers.specs.Refusals.{tooShort}
 use Rattle.numbers.specs.declared.refusal.Refusal.{Refusal}
 use Rattle.talk.specs.Series.{Answer, isSome, joinedPages}
+use Rattle.ranges.specs.RangeTable.{rangeWidth}
 use Rattle.store.specs.Element.{sameKey}
 use Rattle.store.specs.declared.element.Element.{Element}
 use Rattle.store.specs.declared.element.Key.{Key}
-use Rattle.store.specs.Tables.{flat, rowsOf}
+use Rattle.store.proofs.Found.{rows-length}
+use Rattle.store.specs.Tables.{rowWidth, rowsOf}
 use Rattle.request.specs.Meaning.{Filter}
 use Rattle.request.specs.Message.{filtersOf, requestIn}
 use Rattle.request.specs.declared.message.Request.{Request}
@@ -111,23 +113,18 @@ hub-writes-nothing s q out report report′ h z =
 
 -- ---- one that clears what it does not fill: "Later rows, and output past the answer, keep their contents"
 
-length-rows : (es : List Element) → length (rowsOf es) ≡ length es * 6
-unfolding flat
-length-rows [] = refl
-length-rows (x ∷ es) = let e = length-rows es in omega arith
-
 -- so many rows of each table, and so many bytes of the output, were filled
 abbrev pub LaterKept : ℕ → ℕ → ℕ → List ℕ → List ℕ → List ℕ → List ℕ → List ℕ → List ℕ → Type 0
 LaterKept n rowCount rangeCount rows rows′ ranges ranges′ out out′ =
-    (drop (rowCount * 6) rows′ ≡ drop (rowCount * 6) rows)
-    × (drop (rangeCount * 4) ranges′ ≡ drop (rangeCount * 4) ranges)
+    (drop (rowCount * rowWidth) rows′ ≡ drop (rowCount * rowWidth) rows)
+    × (drop (rangeCount * rangeWidth) ranges′ ≡ drop (rangeCount * rangeWidth) ranges)
     × (drop n out′ ≡ drop n out)
 
 later-kept : (s q rows rows′ ranges ranges′ out out′ : List ℕ) (n rowCount rangeCount : ℕ) (x : Result s q out out′ n rowCount rangeCount)
     → TablesHold (x .asked .elements) (x .ranges) rows rows′ ranges ranges′ → LaterKept n rowCount rangeCount rows rows′ ranges ranges′ out out′
 later-kept s q rows rows′ ranges ranges′ out out′ n rowCount rangeCount x t =
     rw (x .rows-are, x .ranges-are, x .length-is, t .0, t .1, x .stands) (
-      drop-at (rowsOf (x .asked .elements)) _ _ (length-rows (x .asked .elements)),
+      drop-at (rowsOf (x .asked .elements)) _ _ (rows-length (x .asked .elements)),
       drop-at (rangeRows (x .ranges)) _ _ (length-range-rows (x .ranges)),
       drop-at (x .bytes) _ _ refl,
     )

@@ -4,7 +4,7 @@ use mathlib.Core.Path.{_≡_, refl, sym, ap, subst, _∙_}
 use mathlib.Core.List.{List, []}
 use Prim.Native.Nat.{ℕ, zero, suc, _+_, _*_, _^_, _≤_, _<_}
 use native.Mathlib.Omega.{arith}
-use lib.ListN.{length, drop, length-append, length-drop}
+use lib.ListN.{length, drop, length-append}
 use lib.Seq.{take-at}
 use Rattle.laws.specs.Bytes.{AllBytes}
 use Rattle.laws.proofs.Cases.{by-lt, impossible}
@@ -15,12 +15,11 @@ use Rattle.objects.specs.declared.reading.Reading.the-variants as reading
 use Rattle.talk.specs.Each.{Each}
 use Rattle.store.specs.Knowledge.{mostSaid, saidNumbers}
 use Rattle.store.specs.Store.{storeWalk, storedOf, storeAnswer, WalkedTo, Stands}
-use Rattle.store.specs.Tables.{rowWidth, idWidth, mostElements, rowNumbers, rowOf, idOf, rowsOf, idsOf, elementInRow, elementsInRows, elementsIn}
+use Rattle.store.specs.Tables.{rowWidth, idWidth, mostElements, rowNumbers, rowsOf, idsOf, elementInRow, elementsInRows, elementsIn}
 use Rattle.store.specs.declared.element.Element.{Element}
 use Rattle.store.specs.declared.package.Stored.{Stored}
 use Rattle.store.specs.declared.package.Stored.the-variants as stored
-use Rattle.store.proofs.Rows.{length-flat}
-use Rattle.store.proofs.Found.{store-most, store-holds}
+use Rattle.store.proofs.Found.{store-most, rows-length, ids-length, laid-long, store-holds}
 use Rattle.store.proofs.Chains.{over-long, store-read}
 use Rattle.store.proofs.ElementFits.{ElementFits, elements-fit}
 use Rattle.request.specs.Message.{requestIn, ReadsRequest}
@@ -46,12 +45,6 @@ unfolding storedOf
 holds-stands m n (reading.At e v) q = tt
 holds-stands m n (reading.Refused r) q = impossible (cc)
 
-length-rows : (es : List Element) → length (rowsOf es) ≡ length es * rowWidth
-length-rows es = length-flat rowOf rowWidth (λ x. refl) es
-
-length-ids : (es : List Element) → length (idsOf es) ≡ length es * idWidth
-length-ids es = length-flat (λ x. idOf (x .id)) 3 (λ x. refl) es
-
 pub store-held : (s rows ids rows′ ids′ : List ℕ) (n : ℕ) → AllBytes s → rowNumbers ≤ length rows → mostElements * idWidth ≤ length ids
     → WalkedTo (storeWalk s) (stored.Holds n) rows rows′ ids ids′ → StoreHeld s rows′ ids′ n
 store-held s rows ids rows′ ids′ n b h g w =
@@ -63,11 +56,11 @@ store-held s rows ids rows′ ids′ n b h g w =
     record {
       count = sym c;
       held = l;
-      rows-are = rw (w .1, ← c) (take-at (rowsOf els) (drop (length els * rowWidth) rows) (length els * rowWidth) (length-rows els));
+      rows-are = rw (w .1, ← c) (take-at (rowsOf els) (drop (length els * rowWidth) rows) (length els * rowWidth) (rows-length els));
       most = omega arith;
       stand = record {
-        row-room = rw (w .1) (omega (arith, length-append (rowsOf els) (drop (length els * rowWidth) rows), length-rows els));
-        id-room = rw (w .2) (omega (arith, length-append (idsOf els) (drop (length els * idWidth) ids), length-ids els));
+        row-room = rw (w .1) (omega (arith, length-append (rowsOf els) (drop (length els * rowWidth) rows), rows-length els));
+        id-room = rw (w .2) (omega (arith, length-append (idsOf els) (drop (length els * idWidth) ids), ids-length els));
       };
       short = by-lt longestInput (length s) (λ k. absurd (over-long s k t)) (λ k. k);
       fits = elements-fit s b (store-read s t);
@@ -76,12 +69,7 @@ store-held s rows ids rows′ ids′ n b h g w =
 -- both tables are as long as they were
 pub store-long : (s rows ids rows′ ids′ : List ℕ) (r : Stored) → length rows ≡ rowNumbers → length ids ≡ mostElements * idWidth
     → WalkedTo (storeWalk s) r rows rows′ ids ids′ → (rowNumbers ≡ length rows′) × (mostElements * idWidth ≡ length ids′)
-store-long s rows ids rows′ ids′ r l g w =
-    let els = storeWalk s .elements in
-    let m : length els ≤ mostElements = store-most s in (
-      rw (w .1) (omega (arith, length-append (rowsOf els) (drop (length els * rowWidth) rows), length-rows els, length-drop (length els * rowWidth) rows)),
-      rw (w .2) (omega (arith, length-append (idsOf els) (drop (length els * idWidth) ids), length-ids els, length-drop (length els * idWidth) ids)),
-    )
+store-long s rows ids rows′ ids′ r l g w = laid-long (storeWalk s) rows ids rows′ ids′ (store-most s) l g (w .1) (w .2)
 
 -- row by row: where an element stands, and the number of its id
 module _ {s rows ids : List ℕ} {n : ℕ} (h : StoreHeld s rows ids n) where

@@ -17,7 +17,7 @@ use Rattle.objects.specs.declared.reading.ReadingId.{ReadingId}
 use Rattle.objects.specs.declared.reading.ReadingId.the-variants as id′
 use Rattle.objects.specs.declared.reading.ReadingSerial.{ReadingSerial}
 use Rattle.objects.specs.declared.reading.ReadingSerial.the-variants as serial′
-use Rattle.objects.proofs.Keep.{Onward, onto, fault-within, good-front, good-place, behind-place, onward-id, onward-serial, onward-number, onward-start, past-start, onward-closed, onward-inside}
+use Rattle.objects.proofs.Keep.{Onward, onto, fault-within, good-front, good-place, behind-place, onward-id, onward-serial, onward-number, onward-start, onward-closed, onward-inside}
 use Rattle.store.specs.Element.{sameKey, namedKey, numberedKey, freshKey, keyHere, onKey, idField, serialField, fieldsOf, opened, dataOf, elementOn, elementAt}
 use Rattle.store.specs.declared.element.Key.{Key}
 use Rattle.store.specs.declared.element.Element.{Element}
@@ -81,14 +81,6 @@ pub data-behind : (depth : ℕ) (ids serials : List Key) (s : List ℕ) (c : Rea
     → Behind (placeOf c) (inside s depth 0x01 (closed s (opened s c) (fieldsOf ids serials (runHere s (opened s c)) .last)))
 unfolding dataOf
 data-behind depth ids serials s c = onward-element depth ids serials s c .behind (placeOf c) (behind-place c)
-
--- by a byte at least
-pub element-past : (depth : ℕ) (ids serials : List Key) (s : List ℕ) (c : Reading) → Behind (placeOf c + 1) (inside s depth 0x01 (dataOf ids serials s c))
-unfolding dataOf
-element-past depth ids serials s c =
-    let o = opened s c in
-    let d = onward-closed s o (fieldsOf ids serials (runHere s o) .last) (good-fields ids serials (runHere s o)) in
-    onto d (onward-inside s depth 0x01 (dataOf ids serials s c)) .behind (placeOf c + 1) (past-start s 0x15 0x01 true true (placeOf c) c (behind-place c))
 
 -- what an element that was read is made of
 pub record Parts (depth : ℕ) (ids serials : List Key) (s : List ℕ) (c : Reading) (x : Element) : Type 0 where

@@ -73,11 +73,11 @@ store-most s =
 
 -- ---- the tables are as long as they were
 
-pub length-rows : (es : List Element) → length (rowsOf es) ≡ length es * rowWidth
-length-rows es = length-flat rowOf rowWidth (λ x. refl) es
+pub rows-length : (es : List Element) → length (rowsOf es) ≡ length es * rowWidth
+rows-length es = length-flat rowOf rowWidth (λ x. refl) es
 
-pub length-ids : (es : List Element) → length (idsOf es) ≡ length es * idWidth
-length-ids es = length-flat (λ x. idOf (x .id)) idWidth (λ x. refl) es
+pub ids-length : (es : List Element) → length (idsOf es) ≡ length es * idWidth
+ids-length es = length-flat (λ x. idOf (x .id)) idWidth (λ x. refl) es
 
 pub laid-long : (w : Walk) (rows ids rows′ ids′ : List ℕ) → length (w .elements) ≤ mostElements → length rows ≡ rowNumbers
     → length ids ≡ mostElements * idWidth
@@ -86,8 +86,8 @@ pub laid-long : (w : Walk) (rows ids rows′ ids′ : List ℕ) → length (w .e
     → (rowNumbers ≡ length rows′) × (mostElements * idWidth ≡ length ids′)
 laid-long w rows ids rows′ ids′ m l g x y =
     let els = w .elements in (
-      rw x (omega (arith, length-append (rowsOf els) (drop (length els * rowWidth) rows), length-rows els, length-drop (length els * rowWidth) rows)),
-      rw y (omega (arith, length-append (idsOf els) (drop (length els * idWidth) ids), length-ids els, length-drop (length els * idWidth) ids)),
+      rw x (omega (arith, length-append (rowsOf els) (drop (length els * rowWidth) rows), rows-length els, length-drop (length els * rowWidth) rows)),
+      rw y (omega (arith, length-append (idsOf els) (drop (length els * idWidth) ids), ids-length els, length-drop (length els * idWidth) ids)),
     )
 
 -- and have room for each of the elements
