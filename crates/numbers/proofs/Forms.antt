@@ -40,7 +40,7 @@ value-long (b ∷ s) h = digits-div (le (take 8 s)) (h 0)
 
 -- ---- the form's least value, as the code computes it
 
-pow-seven : (k : ℕ) → 2 ^ (7 * k) ≡ 128 ^ k
+pub pow-seven : (k : ℕ) → 2 ^ (7 * k) ≡ 128 ^ k
 pow-seven zero = refl
 pow-seven (suc k) = rw (mul-suc, pow-add, pow-suc 128 k, pow-seven k)
 
@@ -84,6 +84,10 @@ form-most (suc f) v h =
     let h′ : suc (formFrom f (v / 128)) < suc f = simp (le-ltb v 128 l) at h in
     let r : v / 128 < 128 ^ suc (formFrom f (v / 128)) = form-most f (v / 128) (omega arith) in
     simp (le-ltb v 128 l) (rw (pow-suc 128 (suc (formFrom f (v / 128)))) (omega arith)))
+
+pub form-of-most : (v : ℕ) → formOf v < 7 → v < 128 ^ suc (formOf v)
+unfolding formOf
+form-of-most v h = form-most 7 v h
 
 -- no lower form does
 form-least : (f v : ℕ) → 0 < v → 128 ^ formFrom f v ≤ v

@@ -5,6 +5,7 @@ pub mod Guids
 pub mod ExtendedGuids
 pub mod Serials
 pub mod RoundTrip
+pub mod CompactTable
 pub mod Within
 pub mod OneAnswers
 pub mod OwnBytes

@@ -66,7 +66,7 @@ read-written v h t = rw (form-written v h t)
 -- ---- what is read is what is written for the value
 
 -- the number of a short form is below the next form's least value
-value-lt : (k : ℕ) (s : List ℕ) → AllBytes s → (k ≡ 7 → ⊥) → compactValue k s < 128 ^ suc k
+pub value-lt : (k : ℕ) (s : List ℕ) → AllBytes s → (k ≡ 7 → ⊥) → compactValue k s < 128 ^ suc k
 unfolding compactValue
 value-lt k s b n =
     let p : le (take (k + 1) s) < 256 ^ (k + 1) = le-lt (k + 1) (take (k + 1) s) (simp length-take (omega arith)) (take-bytes (k + 1) s b) in
@@ -74,7 +74,7 @@ value-lt k s b n =
     rw (size-short k n) (div-lt-iff-lt-mul (pow-pos (k + 1)) .1 (omega arith))
 
 -- what any form holds fits 64 bits
-value-fits : (k : ℕ) (s : List ℕ) → AllBytes s → k < 8 → compactValue k s < 2 ^ 64
+pub value-fits : (k : ℕ) (s : List ℕ) → AllBytes s → k < 8 → compactValue k s < 2 ^ 64
 value-fits k s b h =
     by-eq k 7
     (λ e. rw (e, value-long s b) (le-lt 8 (take 8 (drop 1 s)) (simp length-take (omega arith)) (take-bytes 8 (drop 1 s) (drop-bytes 1 s b))))

@@ -1,0 +1,87 @@
+-- Document 01's table of compact forms, row by row as it prints it, and what a row says by itself: which bytes stand for a
+-- value, and what bytes that begin with its low bits are read as. That the rule of `Compact` says the same is proved once for
+-- all rows (`proofs/CompactTable`), so who has compared the nine rows with the document knows what the rule does.
+-- Assumes nothing.
+use mathlib.Core.Path.{_≡_}
+use Prim.Native.Nat.{ℕ, _+_, _-_, _*_, _/_, _%_, _^_, _≤_, _<_}
+use mathlib.Core.List.{List, [], _∷_, _++_}
+use lib.ListN.{length, getD, take}
+use lib.Dec.{ltb}
+use Rattle.laws.specs.Pick.{pick}
+use Rattle.laws.specs.Bytes.{AllBytes, le, bytes}
+use Rattle.numbers.specs.Refusals.{fault}
+use Rattle.numbers.specs.Compact.{readCompact, compactBytes}
+use Rattle.numbers.specs.declared.compact.Compact.{Compact}
+use Rattle.numbers.specs.declared.compact.Compact.the-variants.{Value, Refused}
+
+pub record FormRow : Type 0 where
+  pub form : ℕ  -- its name, which is how many bits the value has; 'zero' is 0
+  pub lowBits : ℕ  -- how many low bits; a byte is 8
+  pub low : ℕ  -- and what they are
+  pub size : ℕ  -- the column 'bytes'
+  pub first : ℕ  -- the column 'range'
+  pub last : ℕ
+
+infix 70 _∣_bits=_∣_∣_to_
+-- a row, as the document prints it
+abbrev _∣_bits=_∣_∣_to_ : ℕ → ℕ → ℕ → ℕ → ℕ → ℕ → FormRow
+_∣_bits=_∣_∣_to_ form lowBits low size first last = record { form = form; lowBits = lowBits; low = low; size = size; first = first; last = last }
+
+unfoldable pub formTable : List FormRow
+formTable =
+    0 ∣ 8 bits= 0 ∣ 1 ∣ 0 to 0
+    ∷ 7 ∣ 1 bits= 1 ∣ 1 ∣ 1 to 0x7F
+    ∷ 14 ∣ 2 bits= 2 ∣ 2 ∣ 0x80 to 0x3FFF
+    ∷ 21 ∣ 3 bits= 4 ∣ 3 ∣ 0x4000 to 0x1FFFFF
+    ∷ 28 ∣ 4 bits= 8 ∣ 4 ∣ 0x200000 to 0xFFFFFFF
+    ∷ 35 ∣ 5 bits= 16 ∣ 5 ∣ 0x10000000 to 0x7FFFFFFFF
+    ∷ 42 ∣ 6 bits= 32 ∣ 6 ∣ 0x800000000 to 0x3FFFFFFFFFF
+    ∷ 49 ∣ 7 bits= 64 ∣ 7 ∣ 0x40000000000 to 0x1FFFFFFFFFFFF
+    ∷ 64 ∣ 8 bits= 128 ∣ 9 ∣ 0x2000000000000 to (2 ^ 64 - 1)
+    ∷ []
+
+-- ---- what a row says
+
+-- v is in the row's range
+abbrev pub InRange : FormRow → ℕ → Type 0
+InRange r v = (r .first ≤ v) × (v ≤ r .last)
+
+-- the bytes that stand for v: a little-endian number of the row's size, whose low bits are the row's and whose other bits are v
+unfoldable pub rowBytes : FormRow → ℕ → List ℕ
+rowBytes r v = bytes (r .size) (v * 2 ^ r .lowBits + r .low)
+
+-- the first byte has the row's low bits
+abbrev pub HasLowBits : FormRow → ℕ → Type 0
+HasLowBits r b = b % 2 ^ r .lowBits ≡ r .low
+
+-- the value of an item of the row at the front of s: the number without its low bits
+unfoldable pub rowValue : FormRow → List ℕ → ℕ
+rowValue r s = le (take (r .size) s) / 2 ^ r .lowBits
+
+-- such an item: 2 where it runs past the end, 3 where the value is outside the row's range, else the value and its size
+unfoldable pub rowReads : FormRow → List ℕ → Compact
+rowReads r s =
+    pick (ltb (length s) (r .size)) (Refused (fault 2))
+    (pick (ltb (rowValue r s) (r .first)) (Refused (fault 3))
+    (pick (ltb (r .last) (rowValue r s)) (Refused (fault 3))
+    (Value (rowValue r s) (r .size))))
+
+-- ---- the rule says the same
+
+pub record AsPrinted (r : FormRow) : Type 0 where
+  -- the value's bits and the low bits make up the bytes
+  pub filled : r .form + r .lowBits ≡ 8 * r .size
+  -- a value in the range is written as the row lays it down,
+  pub written : (v : ℕ) → InRange r v → compactBytes v ≡ rowBytes r v
+  -- and read from there, with anything behind it
+  pub readBack : (v : ℕ) → InRange r v → (t : List ℕ) → readCompact (rowBytes r v ++ t) ≡ Value v (r .size)
+  -- whatever begins with the low bits is read as the row says, refusals included
+  pub read : (s : List ℕ) → AllBytes s → 0 < length s → HasLowBits r (getD s 0 0) → readCompact s ≡ rowReads r s
+
+-- the row at a place of the table
+abbrev pub rowAt : ℕ → FormRow
+rowAt i = getD formTable i (0 ∣ 0 bits= 0 ∣ 0 ∣ 0 to 0)
+
+-- there is a row like this, and no other
+abbrev pub ExactlyOneRow : (FormRow → Type 0) → Type 0
+ExactlyOneRow Such = (i : ℕ) × (i < length formTable) × Such (rowAt i) × ((j : ℕ) → j < length formTable → Such (rowAt j) → j ≡ i)
