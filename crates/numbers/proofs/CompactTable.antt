@@ -13,16 +13,17 @@ use lib.Arith.{digits-mod}
 use lib.Count.{trailingZeros, trailing-of-zero}
 use lib.Dec.{lit<, ltb}
 use lib.Pow.{pow-lt, split, le-ones, lt-of-le-ones}
-use borrow.Author.Tests.{eq-eqb, ne-eqb, lt-ltb, le-ltb}
+use borrow.Author.Tests.{ne-eqb, lt-ltb, le-ltb}
 use Rattle.laws.specs.Bytes.{AllBytes, le, bytes}
 use Rattle.laws.proofs.Cases.{by-lt, by-eq}
-use Rattle.laws.proofs.Numbers.{length-bytes, low-byte}
+use Rattle.laws.proofs.Numbers.{length-bytes}
+use Rattle.numbers.specs.Refusals.{fault}
 use Rattle.numbers.specs.Compact.{sizeOf, compactValue, readForm, formAt, readCompact, formOf, marked, compactBytes}
-use Rattle.numbers.specs.CompactTable.{FormRow, formTable, InRange, rowBytes, HasLowBits, rowValue, rowReads, AsPrinted, rowAt, ExactlyOneRow}
+use Rattle.numbers.specs.CompactTable.{FormRow, formTable, InRange, rowBytes, HasLowBits, rowValue, rowReads, AsPrinted, rowAt, ExactlyOneRow, RuleIsTable}
 use Rattle.numbers.specs.declared.compact.Compact.the-variants.{Value, Refused}
 use Rattle.numbers.proofs.LowestBit.{zeros-lt, zeros-marked, zeros-low}
-use Rattle.numbers.proofs.Forms.{size-long, size-short, size-pos, pow-seven, form-is, form-of-le, form-of-least, form-of-most, compact-is}
-use Rattle.numbers.proofs.RoundTrip.{read-written, value-lt, value-fits}
+use Rattle.numbers.proofs.Forms.{size-long, size-short, size-pos, pow-seven, form-is, form-of-le, form-of-least, form-of-most, compact-is, value-lt, value-fits}
+use Rattle.numbers.proofs.RoundTrip.{read-written}
 
 -- ---- the rule's own rows
 
@@ -115,31 +116,31 @@ byte-not-zero k b h l e =
 -- ---- each row says what the rule does
 
 -- what is written as a row says is read back with the row's size
-back : (r : FormRow) (v : ℕ) (t : List ℕ) → v < 2 ^ 64 → compactBytes v ≡ rowBytes r v → readCompact (rowBytes r v ++ t) ≡ Value v (r .size)
+row-back : (r : FormRow) (v : ℕ) (t : List ℕ) → v < 2 ^ 64 → compactBytes v ≡ rowBytes r v → readCompact (rowBytes r v ++ t) ≡ Value v (r .size)
 unfolding rowBytes
-back r v t f e =
+row-back r v t f e =
     ap (λ (w : List ℕ). readCompact (w ++ t)) (sym e) ∙ read-written v f t
     ∙ ap (Value v) (ap length e ∙ length-bytes (r .size) (v * 2 ^ r .lowBits + r .low))
 
-zero-written : (v : ℕ) → InRange zeroRow v → compactBytes v ≡ rowBytes zeroRow v
+zero-row-written : (v : ℕ) → InRange zeroRow v → compactBytes v ≡ rowBytes zeroRow v
 unfolding compactBytes rowBytes bytes
-zero-written v r = let e : v ≡ 0 = omega (arith, r .1) in rw e
+zero-row-written v r = let e : v ≡ 0 = omega (arith, r .1) in rw e
 
-zero-read : (s : List ℕ) → AllBytes s → 0 < length s → HasLowBits zeroRow (getD s 0 0) → readCompact s ≡ rowReads zeroRow s
+zero-row-read : (s : List ℕ) → AllBytes s → 0 < length s → HasLowBits zeroRow (getD s 0 0) → readCompact s ≡ rowReads zeroRow s
 unfolding readCompact formAt rowReads rowValue le
-zero-read [] b p l = absurd (omega arith)
-zero-read (x ∷ s) b p l =
+zero-row-read [] b p l = absurd (omega arith)
+zero-row-read (x ∷ s) b p l =
     let e : x ≡ 0 = omega (arith, b 0, l) in
     simp (e, ne-eqb (suc (length s)) 0 (omega arith), le-ltb (suc (length s)) 1 (omega arith))
 
-form-written : (k v : ℕ) → k ≤ 7 → InRange (formRow k) v → compactBytes v ≡ rowBytes (formRow k) v
+form-row-written : (k v : ℕ) → k ≤ 7 → InRange (formRow k) v → compactBytes v ≡ rowBytes (formRow k) v
 unfolding rowBytes marked
-form-written k v h r = compact-is v (not-zero k v r) ∙ ap (λ (f : ℕ). bytes (sizeOf f) (marked f v)) (form-in-range k v h r)
+form-row-written k v h r = compact-is v (not-zero k v r) ∙ ap (λ (f : ℕ). bytes (sizeOf f) (marked f v)) (form-in-range k v h r)
 
-form-read : (k : ℕ) (s : List ℕ) → k ≤ 7 → AllBytes s → 0 < length s → HasLowBits (formRow k) (getD s 0 0)
+form-row-read : (k : ℕ) (s : List ℕ) → k ≤ 7 → AllBytes s → 0 < length s → HasLowBits (formRow k) (getD s 0 0)
     → readCompact s ≡ rowReads (formRow k) s
 unfolding readCompact formAt readForm compactValue rowReads rowValue
-form-read k s h b p l =
+form-row-read k s h b p l =
     let z : trailingZeros 8 (getD s 0 0) ≡ k = zeros-of k (getD s 0 0) h l in
     let n : length s ≢ 0 = λ e. omega arith in
     let m : ltb (2 ^ valueBits k - 1) (le (take (sizeOf k) s) / 2 ^ (k + 1)) ≡ false = le-ltb _ _ (value-last k s b h) in
@@ -154,21 +155,20 @@ form-filled k h = omega (arith, size-pos k)
 as-ruled : (i : ℕ) → i < 9 → AsPrinted (ruleRow i)
 as-ruled zero h = record {
   filled = refl;
-  written = zero-written;
-  readBack = λ v r t. back zeroRow v t (omega (arith, r .1)) (zero-written v r);
-  read = zero-read;
+  written = zero-row-written;
+  readBack = λ v r t. row-back zeroRow v t (omega (arith, r .1)) (zero-row-written v r);
+  read = zero-row-read;
 }
 as-ruled (suc k) h =
     let le-seven : k ≤ 7 = omega arith in
     record {
       filled = form-filled k le-seven;
-      written = λ v r. form-written k v le-seven r;
-      readBack = λ v r t. back (formRow k) v t (fits-range k v le-seven r) (form-written k v le-seven r);
-      read = λ s. form-read k s le-seven;
+      written = λ v r. form-row-written k v le-seven r;
+      readBack = λ v r t. row-back (formRow k) v t (fits-range k v le-seven r) (form-row-written k v le-seven r);
+      read = λ s. form-row-read k s le-seven;
     }
 
--- the law over the row: the rule is as document 01 prints it
-pub as-printed : (i : ℕ) → i < length formTable → AsPrinted (rowAt i)
+as-printed : (i : ℕ) → i < length formTable → AsPrinted (rowAt i)
 unfolding formTable
 as-printed i h = subst AsPrinted (sym (row-at i h)) (as-ruled i h)
 
@@ -196,7 +196,7 @@ range-of : (v : ℕ) → v ≢ 0 → (j : ℕ) → j < 9 → InRange (ruleRow j)
 range-of v n zero h r = absurd (n (omega (arith, r .1)))
 range-of v n (suc k) h r = ap suc (sym (form-in-range k v (omega arith) r))
 
-pub value-one-row : (v : ℕ) → v < 2 ^ 64 → ExactlyOneRow (λ r. InRange r v)
+value-one-row : (v : ℕ) → v < 2 ^ 64 → ExactlyOneRow (λ r. InRange r v)
 value-one-row v f =
     by-eq v 0
     (λ e. only (λ r. InRange r v) 0 (lit< tt) (omega arith, omega arith) (range-of-zero v e))
@@ -212,10 +212,19 @@ low-bits-of : (b : ℕ) → b < 256 → b ≢ 0 → (j : ℕ) → j < 9 → HasL
 low-bits-of b f n zero h l = absurd (n (omega (arith, l)))
 low-bits-of b f n (suc k) h l = ap suc (sym (zeros-of k b (omega arith) l))
 
-pub byte-one-row : (b : ℕ) → b < 256 → ExactlyOneRow (λ r. HasLowBits r b)
+byte-one-row : (b : ℕ) → b < 256 → ExactlyOneRow (λ r. HasLowBits r b)
 byte-one-row b f =
     by-eq b 0
     (λ e. only (λ r. HasLowBits r b) 0 (lit< tt) (rw e) (low-bits-of-zero b e))
     (λ n.
     let h : trailingZeros 8 b < 8 = zeros-lt 8 b f n in
     only (λ r. HasLowBits r b) (suc (trailingZeros 8 b)) (omega arith) (has-low-bits b h) (low-bits-of b f n))
+
+-- ---- the law
+
+nothing-read : readCompact [] ≡ Refused (fault 2)
+unfolding readCompact formAt
+nothing-read = refl
+
+pub rule-is-table : RuleIsTable
+rule-is-table = record { rows = as-printed; values = value-one-row; firstBytes = byte-one-row; nothing = nothing-read }

@@ -1,19 +1,19 @@
 -- The compact forms, each law over the form k: how long it is, which values it has, and what the code writes for it.
 -- Assumes nothing.
-use mathlib.Core.Path.{_≡_, refl, ap, _∙_}
+use mathlib.Core.Path.{_≡_, refl, sym, ap, _∙_}
 use mathlib.Core.List.{List, [], _∷_, _++_}
-use Prim.Native.Nat.{ℕ, zero, suc, _+_, _*_, _/_, _%_, _^_, _≤_, _<_, suc-le-suc}
-use native.Mathlib.Nat.{pow-suc, pow-le-pow-right, one-le-pow, zero-lt-suc, mul-suc, mul-mul-mul-comm}
+use Prim.Native.Nat.{ℕ, zero, suc, _+_, _-_, _*_, _/_, _%_, _^_, _≤_, _<_, suc-le-suc}
+use native.Mathlib.Nat.{pow-suc, pow-le-pow-right, one-le-pow, zero-lt-suc, add-comm, mul-suc, mul-assoc, mul-mul-mul-comm, mul-add-div-right, mod-eq-of-lt, div-lt-iff-lt-mul}
 use native.Mathlib.Numerals.{add-one}
 use native.Mathlib.Omega.{arith}
-use lib.ListN.{length, take, drop, set}
+use lib.ListN.{length, getD, take, drop, set, length-take}
 use lib.Arith.{digits-div, digits-mod, digits-lt}
 use lib.Dec.{lit<}
-use lib.Pow.{pow-lt, pow-add}
+use lib.Pow.{pow-lt, pow-add, pow-pos}
 use borrow.Author.Tests.{eq-eqb, ne-eqb, lt-ltb, le-ltb}
 use Rattle.laws.specs.Bytes.{AllBytes, le, bytes}
 use Rattle.laws.proofs.Cases.{by-lt, by-eq}
-use Rattle.laws.proofs.Numbers.{shl-one, length-bytes}
+use Rattle.laws.proofs.Numbers.{shl-one, length-bytes, le-lt, take-bytes, drop-bytes}
 use Rattle.numbers.specs.Compact.{sizeOf, compactValue, formFrom, formOf, marked, compactBytes}
 
 -- ---- how long a form is
@@ -32,11 +32,60 @@ size-le k h = by-eq k 7 (λ e. rw (size-long k e) (omega arith)) (λ n. rw (size
 pub size-pos : (k : ℕ) → 0 < sizeOf k
 size-pos k = by-eq k 7 (λ e. rw (size-long k e) (lit< tt)) (λ n. rw (size-short k n) (omega arith))
 
+-- ---- the value in a form
+
 -- the long form's first byte holds no bit of the value
-pub value-long : (s : List ℕ) → AllBytes s → compactValue 7 s ≡ le (take 8 (drop 1 s))
+value-long : (s : List ℕ) → AllBytes s → compactValue 7 s ≡ le (take 8 (drop 1 s))
 unfolding compactValue sizeOf le
 value-long [] h = refl
 value-long (b ∷ s) h = digits-div (le (take 8 s)) (h 0)
+
+-- 256 is 128 twice, to any power
+pow-bytes : (k : ℕ) → 256 ^ k ≡ 128 ^ k * 2 ^ k
+pow-bytes zero = refl
+pow-bytes (suc k) = rw (pow-suc 256 k, pow-suc 128 k, pow-suc 2 k, pow-bytes k) (mul-mul-mul-comm (128 ^ k) (2 ^ k) 128 2)
+
+-- the number of a short form is below the next form's least value
+pub value-lt : (k : ℕ) (s : List ℕ) → AllBytes s → (k ≡ 7 → ⊥) → compactValue k s < 128 ^ suc k
+unfolding compactValue
+value-lt k s b n =
+    let p : le (take (k + 1) s) < 256 ^ (k + 1) = le-lt (k + 1) (take (k + 1) s) (simp length-take (omega arith)) (take-bytes (k + 1) s b) in
+    let q : 256 ^ (k + 1) ≡ 128 ^ suc k * 2 ^ (k + 1) = rw (pow-bytes (k + 1), add-one) in
+    rw (size-short k n) (div-lt-iff-lt-mul (pow-pos (k + 1)) .1 (omega arith))
+
+-- what any form holds fits 64 bits
+pub value-fits : (k : ℕ) (s : List ℕ) → AllBytes s → k < 8 → compactValue k s < 2 ^ 64
+value-fits k s b h =
+    by-eq k 7
+    (λ e. rw (e, value-long s b) (le-lt 8 (take 8 (drop 1 s)) (simp length-take (omega arith)) (take-bytes 8 (drop 1 s) (drop-bytes 1 s b))))
+    (λ n.
+    let p : 128 ^ suc k ≤ 128 ^ 7 = pow-le-pow-right {n = 128} (lit< tt) {i = suc k} {j = 7} (omega arith) in
+    omega (arith, value-lt k s b n))
+
+le-first : (n b : ℕ) (s : List ℕ) → 0 < n → le (take n (b ∷ s)) ≡ le (take (n - 1) s) * 256 + b
+unfolding le
+le-first zero b s h = absurd (omega arith)
+le-first (suc n) b s h = let e : suc n - 1 ≡ n = omega arith in rw e
+
+-- of the first byte the bits over its low ones, and over these the other bytes
+value-split : (k : ℕ) (s : List ℕ) → k ≤ 7 → 0 < length s
+    → compactValue k s ≡ getD s 0 0 / 2 ^ (k + 1) + le (take (sizeOf k - 1) (drop 1 s)) * 2 ^ (7 - k)
+unfolding compactValue
+value-split k [] h l = absurd (omega arith)
+value-split k (b ∷ s) h l =
+    let x = le (take (sizeOf k - 1) s) in
+    let n : (7 - k) + (k + 1) ≡ 8 = omega arith in
+    let e : 2 ^ (7 - k) * 2 ^ (k + 1) ≡ 256 = sym (pow-add 2 (7 - k) (k + 1)) ∙ ap (λ (i : ℕ). 2 ^ i) n in
+    let w : x * 256 ≡ x * 2 ^ (7 - k) * 2 ^ (k + 1) = rw (mul-assoc, e) in
+    rw (le-first (sizeOf k) b s (size-pos k), w, mul-add-div-right {m = 2 ^ (k + 1)} (pow-pos (k + 1))) (add-comm (x * 2 ^ (7 - k)) (b / 2 ^ (k + 1)))
+
+-- as the code computes it
+pub value-parts : (k n : ℕ) (s : List ℕ) → AllBytes s → k ≤ 7 → n ≡ sizeOf k → 0 < length s
+    → getD s 0 0 / 2 ^ (k + 1) + (le (take (n - 1) (drop 1 s)) * 2 ^ (7 - k)) % 2 ^ 64 ≡ compactValue k s
+value-parts k n s b h e l =
+    let p = value-split k s h l in
+    let f : compactValue k s < 2 ^ 64 = value-fits k s b (omega arith) in
+    rw (e, mod-eq-of-lt {n = le (take (sizeOf k - 1) (drop 1 s)) * 2 ^ (7 - k)} {m = 2 ^ 64} (omega arith)) (sym p)
 
 -- ---- the form's least value, as the code computes it
 
@@ -103,6 +152,18 @@ pub form-of-least : (v : ℕ) → (v ≡ 0 → ⊥) → 128 ^ formOf v ≤ v
 unfolding formOf
 form-of-least v n = form-least 7 v (omega arith)
 
+-- as the code counts it: a form more where 128 or more is left, and there is a form more
+pub form-more : (k rest : ℕ) → k < 7 → 128 ≤ rest → k + formFrom (7 - k) rest ≡ (k + 1) + formFrom (7 - (k + 1)) (rest / 128)
+unfolding formFrom
+form-more k rest h l =
+    let e : 7 - k ≡ suc (7 - (k + 1)) = omega arith in
+    rw (e, le-ltb rest 128 l) (omega arith)
+
+pub form-no-more : (f rest : ℕ) → rest < 128 → formFrom f rest ≡ 0
+unfolding formFrom
+form-no-more zero rest h = refl
+form-no-more (suc f) rest h = rw (lt-ltb rest 128 h)
+
 -- ---- the number that stands for a value
 
 -- as the code computes it
@@ -123,11 +184,6 @@ pub long-put : (d : List ℕ) (v : ℕ) → 9 ≤ length d
 unfolding bytes marked
 long-put [] v h = absurd (omega arith)
 long-put (y ∷ d) v h = rw (digits-mod v {m = 256} {r = 128} (lit< tt), digits-div v {m = 256} {r = 128} (lit< tt))
-
--- 256 is 128 twice, to any power
-pub pow-bytes : (k : ℕ) → 256 ^ k ≡ 128 ^ k * 2 ^ k
-pow-bytes zero = refl
-pow-bytes (suc k) = rw (pow-suc 256 k, pow-suc 128 k, pow-suc 2 k, pow-bytes k) (mul-mul-mul-comm (128 ^ k) (2 ^ k) 128 2)
 
 -- the number of a value fits its form's bytes
 pub marked-lt : (v : ℕ) → v < 2 ^ 64 → marked (formOf v) v < 256 ^ sizeOf (formOf v)

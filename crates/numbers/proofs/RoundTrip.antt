@@ -5,19 +5,17 @@ use mathlib.Core.Path.{_≡_, refl, sym, ap, _∙_}
 use mathlib.Core.Logic.{_≢_}
 use mathlib.Core.Bool.{Bool, true, false}
 use mathlib.Core.List.{List, [], _∷_, _++_}
-use Prim.Native.Nat.{ℕ, suc, _+_, _*_, _/_, _%_, _^_, _≤_, _<_}
-use native.Mathlib.Nat.{one-le-pow, pow-le-pow-right, div-lt-iff-lt-mul}
-use native.Mathlib.Numerals.{add-one}
+use Prim.Native.Nat.{ℕ, suc, _+_, _/_, _%_, _^_, _≤_, _<_}
+use native.Mathlib.Nat.{one-le-pow}
 use native.Mathlib.Omega.{arith}
-use lib.ListN.{length, getD, take, drop, length-append, length-take}
+use lib.ListN.{length, getD, take, length-append}
 use lib.Seq.{take-at, length-take-le}
 use lib.Count.{trailingZeros, trailing-of-zero}
 use lib.Dec.{lit<, ltb}
-use lib.Pow.{pow-pos}
 use borrow.Author.Tests.{eq-eqb, ne-eqb, lt-ltb, le-ltb, ltb-false}
 use Rattle.laws.specs.Bytes.{AllBytes, le, bytes}
 use Rattle.laws.proofs.Cases.{by-lt, by-eq, impossible}
-use Rattle.laws.proofs.Numbers.{take-bytes, drop-bytes, le-lt, length-bytes, le-bytes, bytes-le, first-byte, low-byte}
+use Rattle.laws.proofs.Numbers.{take-bytes, length-bytes, le-bytes, bytes-le, first-byte, low-byte}
 use Rattle.numbers.specs.Refusals.{fault}
 use Rattle.numbers.specs.Compact.{sizeOf, compactValue, readForm, formAt, strict, readCompact, formOf, marked, compactBytes}
 use Rattle.numbers.specs.declared.compact.Form.{Form}
@@ -25,7 +23,7 @@ use Rattle.numbers.specs.declared.compact.Form.the-variants.{Holds}
 use Rattle.numbers.specs.declared.compact.Form.the-variants as form
 use Rattle.numbers.specs.declared.compact.Compact.the-variants.{Value, Refused}
 use Rattle.numbers.proofs.LowestBit.{zeros-lt, zeros-mod, zeros-marked, zeros-low, marked-value}
-use Rattle.numbers.proofs.Forms.{size-short, size-pos, form-is, form-of-le, form-of-least, marked-lt, compact-is, length-compact, pow-bytes, value-long}
+use Rattle.numbers.proofs.Forms.{size-pos, form-is, form-of-le, form-of-least, marked-lt, compact-is, length-compact, value-lt, value-fits}
 
 -- ---- reading what was written
 
@@ -64,23 +62,6 @@ unfolding readCompact
 read-written v h t = rw (form-written v h t)
 
 -- ---- what is read is what is written for the value
-
--- the number of a short form is below the next form's least value
-pub value-lt : (k : ℕ) (s : List ℕ) → AllBytes s → (k ≡ 7 → ⊥) → compactValue k s < 128 ^ suc k
-unfolding compactValue
-value-lt k s b n =
-    let p : le (take (k + 1) s) < 256 ^ (k + 1) = le-lt (k + 1) (take (k + 1) s) (simp length-take (omega arith)) (take-bytes (k + 1) s b) in
-    let q : 256 ^ (k + 1) ≡ 128 ^ suc k * 2 ^ (k + 1) = rw (pow-bytes (k + 1), add-one) in
-    rw (size-short k n) (div-lt-iff-lt-mul (pow-pos (k + 1)) .1 (omega arith))
-
--- what any form holds fits 64 bits
-pub value-fits : (k : ℕ) (s : List ℕ) → AllBytes s → k < 8 → compactValue k s < 2 ^ 64
-value-fits k s b h =
-    by-eq k 7
-    (λ e. rw (e, value-long s b) (le-lt 8 (take 8 (drop 1 s)) (simp length-take (omega arith)) (take-bytes 8 (drop 1 s) (drop-bytes 1 s b))))
-    (λ n.
-    let p : 128 ^ suc k ≤ 128 ^ 7 = pow-le-pow-right {n = 128} (lit< tt) {i = suc k} {j = 7} (omega arith) in
-    omega (arith, value-lt k s b n))
 
 form-at-fits : (s : List ℕ) (v n : ℕ) (longer : Bool) → AllBytes s → formAt s ≡ Holds v n longer → v < 2 ^ 64
 unfolding formAt readForm

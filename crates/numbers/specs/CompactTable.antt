@@ -22,22 +22,22 @@ pub record FormRow : Type 0 where
   pub first : ℕ  -- the column 'range'
   pub last : ℕ
 
-infix 70 _∣_bits=_∣_∣_to_
+infix 70 │_│_bits=_│_│_to_│
 -- a row, as the document prints it
-abbrev _∣_bits=_∣_∣_to_ : ℕ → ℕ → ℕ → ℕ → ℕ → ℕ → FormRow
-_∣_bits=_∣_∣_to_ form lowBits low size first last = record { form = form; lowBits = lowBits; low = low; size = size; first = first; last = last }
+abbrev │_│_bits=_│_│_to_│ : ℕ → ℕ → ℕ → ℕ → ℕ → ℕ → FormRow
+│_│_bits=_│_│_to_│ form lowBits low size first last = record { form = form; lowBits = lowBits; low = low; size = size; first = first; last = last }
 
 unfoldable pub formTable : List FormRow
 formTable =
-    0 ∣ 8 bits= 0 ∣ 1 ∣ 0 to 0
-    ∷ 7 ∣ 1 bits= 1 ∣ 1 ∣ 1 to 0x7F
-    ∷ 14 ∣ 2 bits= 2 ∣ 2 ∣ 0x80 to 0x3FFF
-    ∷ 21 ∣ 3 bits= 4 ∣ 3 ∣ 0x4000 to 0x1FFFFF
-    ∷ 28 ∣ 4 bits= 8 ∣ 4 ∣ 0x200000 to 0xFFFFFFF
-    ∷ 35 ∣ 5 bits= 16 ∣ 5 ∣ 0x10000000 to 0x7FFFFFFFF
-    ∷ 42 ∣ 6 bits= 32 ∣ 6 ∣ 0x800000000 to 0x3FFFFFFFFFF
-    ∷ 49 ∣ 7 bits= 64 ∣ 7 ∣ 0x40000000000 to 0x1FFFFFFFFFFFF
-    ∷ 64 ∣ 8 bits= 128 ∣ 9 ∣ 0x2000000000000 to (2 ^ 64 - 1)
+    │ 0 │ 8 bits= 0 │ 1 │ 0 to 0 │
+    ∷ │ 7 │ 1 bits= 1 │ 1 │ 1 to 0x7F │
+    ∷ │ 14 │ 2 bits= 2 │ 2 │ 0x80 to 0x3FFF │
+    ∷ │ 21 │ 3 bits= 4 │ 3 │ 0x4000 to 0x1FFFFF │
+    ∷ │ 28 │ 4 bits= 8 │ 4 │ 0x200000 to 0xFFFFFFF │
+    ∷ │ 35 │ 5 bits= 16 │ 5 │ 0x10000000 to 0x7FFFFFFFF │
+    ∷ │ 42 │ 6 bits= 32 │ 6 │ 0x800000000 to 0x3FFFFFFFFFF │
+    ∷ │ 49 │ 7 bits= 64 │ 7 │ 0x40000000000 to 0x1FFFFFFFFFFFF │
+    ∷ │ 64 │ 8 bits= 128 │ 9 │ 0x2000000000000 to 2 ^ 64 - 1 │
     ∷ []
 
 -- ---- what a row says
@@ -68,20 +68,28 @@ rowReads r s =
 
 -- ---- the rule says the same
 
+-- of one row
 pub record AsPrinted (r : FormRow) : Type 0 where
   -- the value's bits and the low bits make up the bytes
   pub filled : r .form + r .lowBits ≡ 8 * r .size
   -- a value in the range is written as the row lays it down,
   pub written : (v : ℕ) → InRange r v → compactBytes v ≡ rowBytes r v
-  -- and read from there, with anything behind it
+  -- and read from there, whatever follows
   pub readBack : (v : ℕ) → InRange r v → (t : List ℕ) → readCompact (rowBytes r v ++ t) ≡ Value v (r .size)
-  -- whatever begins with the low bits is read as the row says, refusals included
+  -- any bytes that begin with the low bits are read as the row says, refusals included
   pub read : (s : List ℕ) → AllBytes s → 0 < length s → HasLowBits r (getD s 0 0) → readCompact s ≡ rowReads r s
 
 -- the row at a place of the table
 abbrev pub rowAt : ℕ → FormRow
-rowAt i = getD formTable i (0 ∣ 0 bits= 0 ∣ 0 ∣ 0 to 0)
+rowAt i = getD formTable i (│ 0 │ 0 bits= 0 │ 0 │ 0 to 0 │)
 
--- there is a row like this, and no other
+-- there is such a row, and no other
 abbrev pub ExactlyOneRow : (FormRow → Type 0) → Type 0
 ExactlyOneRow Such = (i : ℕ) × (i < length formTable) × Such (rowAt i) × ((j : ℕ) → j < length formTable → Such (rowAt j) → j ≡ i)
+
+-- of the whole table: every row is as printed, every value and every first byte has exactly one, and nothing to read is 2
+pub record RuleIsTable : Type 0 where
+  pub rows : (i : ℕ) → i < length formTable → AsPrinted (rowAt i)
+  pub values : (v : ℕ) → v < 2 ^ 64 → ExactlyOneRow (λ r. InRange r v)
+  pub firstBytes : (b : ℕ) → b < 256 → ExactlyOneRow (λ r. HasLowBits r b)
+  pub nothing : readCompact [] ≡ Refused (fault 2)

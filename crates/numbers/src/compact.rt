@@ -35,14 +35,14 @@ fn size_of(k: usize) -> usize
     if k == 7 { 9 } else { k + 1 }
 }
 
-fn value_of(s: &[u8], k: usize) -> u64
-    requires { ⌜ (k ≤ 7) × (sizeOf k ≤ length (now s)) ⌝ }
+// The value in form k, of n bytes: of the first byte the bits over its low ones, and over these the other bytes.
+fn value_of(s: &[u8], k: usize, n: usize) -> u64
+    requires { ⌜ (k ≤ 7) × (n ≡ sizeOf k) × (n ≤ length (now s)) ⌝ }
     ensures { λ r. ⌜ r ≡ compactValue k (now (s .entry)) ⌝ }
 {
-    if k == 7 {
-        return read_le(&s[1..], 8);
-    }
-    read_le(s, k + 1) >> (k + 1)
+    let first = s[0] as u64 >> (k + 1);
+    let others = read_le(&s[1..], n - 1);
+    first + (others << (7 - k))
 }
 
 fn read_form(s: &[u8], k: usize) -> Form
@@ -53,7 +53,7 @@ fn read_form(s: &[u8], k: usize) -> Form
     if s.len() < n {
         return Form::Refused(at_front(2));
     }
-    let v = value_of(s, k);
+    let v = value_of(s, k, n);
     let least: u64 = 1 << (7 * k);
     Form::Holds(v, n, v < least)
 }
@@ -100,32 +100,17 @@ pub fn read_compact(s: &[u8]) -> Compact
     item(s)
 }
 
-// The shortest form that has room for v.
+// The shortest form that has room for v: seven bits more for each form, and the last one takes what is left.
 fn form_of(v: u64) -> usize
     ensures { λ r. ⌜ r ≡ formOf v ⌝ }
 {
-    if v < 0x80 {
-        return 0;
+    let mut k = 0;
+    let mut rest = v;
+    while 128 <= rest && k < 7 {
+        rest /= 128;
+        k += 1;
     }
-    if v < 0x4000 {
-        return 1;
-    }
-    if v < 0x200000 {
-        return 2;
-    }
-    if v < 0x10000000 {
-        return 3;
-    }
-    if v < 0x800000000 {
-        return 4;
-    }
-    if v < 0x40000000000 {
-        return 5;
-    }
-    if v < 0x2000000000000 {
-        return 6;
-    }
-    7
+    k
 }
 
 fn put_form(out: &mut [u8], k: usize, v: u64)

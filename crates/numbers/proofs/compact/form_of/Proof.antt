@@ -1,43 +1,51 @@
--- `compact::form_of` meets its contract: each `return` stands in the range of its form.
+-- `compact::form_of` meets its contract. The invariant: the form of v is k forms more than that of the rest.
 -- Assumes nothing.
-use mathlib.Core.Path.{sym}
+use mathlib.Core.Path.{_≡_, sym, _∙_}
+use Prim.Native.Nat.{_+_, _-_, _≤_, _<_}
+use native.Mathlib.Nat.{add-zero}
 use native.Mathlib.Omega.{arith}
-use Rattle.numbers.specs.Compact.{formOf}
-use Rattle.numbers.proofs.Forms.{form-is}
+use borrow.Author.Tests.{ltb-true, ltb-false}
+use Rattle.numbers.specs.Compact.{formFrom, formOf}
+use Rattle.numbers.proofs.Forms.{form-more, form-no-more}
 use Rattle.numbers.proofs.compact.form_of.Statement.{statement}
 use Rattle.numbers.proofs.compact.form_of.Tie as tie
 
-returns : tie.Need-returns
-unfolding formOf
-returns c = sym (form-is 7 0 _ (omega arith) (λ z. omega arith) (λ z. omega arith))
+abbrev Inv-loop : tie.InvT-loop
+Inv-loop v k₀ rest₀ k rest = (k ≤ 7) × (formOf v ≡ k + formFrom (7 - k) rest)
 
-returns-2 : tie.Need-returns-2
-unfolding formOf
-returns-2 c = sym (form-is 7 1 _ (omega arith) (λ z. omega arith) (λ z. omega arith))
+abbrev μ-loop : tie.MeasureT-loop
+μ-loop v k₀ rest₀ k rest = 7 - k
 
-returns-3 : tie.Need-returns-3
+loop-holds : tie.Need-loop-holds Inv-loop μ-loop
 unfolding formOf
-returns-3 c = sym (form-is 7 2 _ (omega arith) (λ z. omega arith) (λ z. omega arith))
+loop-holds c = (omega arith, omega arith)
 
-returns-4 : tie.Need-returns-4
-unfolding formOf
-returns-4 c = sym (form-is 7 3 _ (omega arith) (λ z. omega arith) (λ z. omega arith))
+-- in a turn there is a form more
+below : (c : tie.Then1 Inv-loop μ-loop) → c .before .before .loop .k < 7
+below c = ltb-true _ _ (c .if1 .taken)
 
-returns-5 : tie.Need-returns-5
-unfolding formOf
-returns-5 c = sym (form-is 7 4 _ (omega arith) (λ z. omega arith) (λ z. omega arith))
+add-k : tie.Need-add-k Inv-loop μ-loop
+add-k c = omega (arith, below c)
 
-returns-6 : tie.Need-returns-6
-unfolding formOf
-returns-6 c = sym (form-is 7 5 _ (omega arith) (λ z. omega arith) (λ z. omega arith))
+loop-less : tie.Need-loop-less Inv-loop μ-loop
+loop-less c = omega (arith, below c)
 
-returns-7 : tie.Need-returns-7
-unfolding formOf
-returns-7 c = sym (form-is 7 6 _ (omega arith) (λ z. omega arith) (λ z. omega arith))
+loop-again : tie.Need-loop-again Inv-loop μ-loop
+loop-again c =
+    let l = c .before .before .loop in
+    (omega (arith, below c), l .inv .1 ∙ form-more (l .k) (l .rest) (below c) (c .before .loop-test .taken))
 
-returns-8 : tie.Need-returns-8
-unfolding formOf
-returns-8 c = sym (form-is 7 7 _ (omega arith) (λ z. omega arith) (λ z. omega arith))
+returns : tie.Need-returns Inv-loop μ-loop
+unfolding formFrom
+returns c =
+    let l = c .before .before .loop in
+    let e : 7 - l .k ≡ 0 = omega (arith, ltb-false (l .k) 7 (c .if1 .left)) in
+    sym (l .inv .1 ∙ rw e (add-zero (l .k)))
+
+returns-2 : tie.Need-returns-2 Inv-loop μ-loop
+returns-2 c =
+    let l = c .before .loop in
+    sym (l .inv .1 ∙ rw (form-no-more (7 - l .k) (l .rest) (c .loop-test .left)) (add-zero (l .k)))
 
 pub form-of-spec : {M : Type 1} → statement M
-form-of-spec = tie.close (tie.spec returns returns-2 returns-3 returns-4 returns-5 returns-6 returns-7 returns-8)
+form-of-spec = tie.close (tie.spec Inv-loop μ-loop loop-holds add-k loop-less loop-again returns returns-2)
