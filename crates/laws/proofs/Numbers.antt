@@ -3,11 +3,11 @@
 use mathlib.Core.Path.{_≡_, refl, ap, _∙_}
 use mathlib.Core.List.{List, [], _∷_, _++_}
 use Prim.Native.Nat.{ℕ, zero, suc, _+_, _-_, _*_, _/_, _%_, _^_, _≤_, _<_}
-use native.Mathlib.Nat.{pow-suc, pow-succ', one-le-pow, one-mul, div-one, div-div-eq-div-mul}
+use native.Mathlib.Nat.{zero-add, suc-add, zero-mul, mul-one, one-mul, mul-assoc, pow-suc, pow-succ', one-le-pow, div-one, div-div-eq-div-mul}
 use native.Mathlib.Numerals.{sub-one}
 use native.Mathlib.Omega.{arith}
 use lib.ListN.{length, getD, take, drop, set}
-use lib.Seq.{drop-cons, getD-drop}
+use lib.Seq.{take-nil, drop-cons, getD-drop}
 use lib.Dec.{lit<}
 use lib.Arith.{digits-div, digits-mod}
 use lib.Pow.{shl-exact}
@@ -45,6 +45,16 @@ le-lt zero (x ∷ l) h b = absurd (omega arith)
 le-lt (suc m) (x ∷ l) h b =
     let r : le l < 256 ^ m = le-lt m l (omega arith) (λ j. b (suc j)) in
     rw pow-suc (omega (arith, b 0))
+
+-- the number of the first a bytes, and over it that of the m behind them
+pub le-split : (a m : ℕ) (s : List ℕ) → le (take (a + m) s) ≡ le (take a s) + le (take m (drop a s)) * 256 ^ a
+unfolding le
+le-split zero m s = rw (zero-add m, zero-add, mul-one)
+le-split (suc a) m [] = rw (suc-add a m, take-nil m, zero-mul)
+le-split (suc a) m (b ∷ s) =
+    let x = le (take m (drop a s)) in
+    let p : x * 256 ^ suc a ≡ x * 256 ^ a * 256 = rw (pow-suc 256 a, mul-assoc) in
+    rw (suc-add a m, le-split a m s, p) (omega arith)
 
 pub le-bytes : (n x : ℕ) → x < 256 ^ n → le (bytes n x) ≡ x
 unfolding le bytes

@@ -1,17 +1,18 @@
--- The rule of `Compact` and document 01's table: the rule has just these rows, each says what the rule does, and every value
--- and every first byte has exactly one of them. Over the form: no law looks at a single row but the byte 0.
+-- The rule of `Compact` and document 01's table: the rule has just these rows, does what each says, and every value and every
+-- first byte has exactly one of them. Over the form: only the byte 0 and how far the long form goes are cases of their own.
+-- A reader can skip all but `rule-is-table`, at the end.
 -- Assumes nothing.
 use mathlib.Core.Path.{_≡_, refl, sym, ap, _∙_, subst}
 use mathlib.Core.Logic.{_≢_}
 use mathlib.Core.Bool.{false}
 use mathlib.Core.List.{List, [], _∷_, _++_}
 use Prim.Native.Nat.{ℕ, zero, suc, _+_, _-_, _*_, _/_, _%_, _^_, _≤_, _<_}
-use native.Mathlib.Nat.{one-le-pow, pow-le-pow-right, add-zero, zero-add, add-suc, suc-add}
+use native.Mathlib.Nat.{one-le-pow, pow-suc, pow-le-pow-right, add-zero, zero-add, add-suc, suc-add}
 use native.Mathlib.Omega.{arith}
 use lib.ListN.{length, getD, take}
 use lib.Arith.{digits-mod}
 use lib.Count.{trailingZeros, trailing-of-zero}
-use lib.Dec.{lit<, ltb}
+use lib.Dec.{lit<, lit≤, ltb}
 use lib.Pow.{pow-lt, split, le-ones, lt-of-le-ones}
 use borrow.Author.Tests.{ne-eqb, lt-ltb, le-ltb}
 use Rattle.laws.specs.Bytes.{AllBytes, le, bytes}
@@ -19,7 +20,7 @@ use Rattle.laws.proofs.Cases.{by-lt, by-eq}
 use Rattle.laws.proofs.Numbers.{length-bytes}
 use Rattle.numbers.specs.Refusals.{fault}
 use Rattle.numbers.specs.Compact.{sizeOf, compactValue, readForm, formAt, readCompact, formOf, marked, compactBytes}
-use Rattle.numbers.specs.CompactTable.{FormRow, formTable, InRange, rowBytes, HasLowBits, rowValue, rowReads, AsPrinted, rowAt, ExactlyOneRow, RuleIsTable}
+use Rattle.numbers.specs.CompactTable.{FormRow, formTable, InRange, rowBytes, HasLowBits, rowValue, rowReads, RuleFollows, rowAt, ExactlyOneRow, RuleIsTable}
 use Rattle.numbers.specs.declared.compact.Compact.the-variants.{Value, Refused}
 use Rattle.numbers.proofs.LowestBit.{zeros-lt, zeros-marked, zeros-low}
 use Rattle.numbers.proofs.Forms.{size-long, size-short, size-pos, pow-seven, form-is, form-of-le, form-of-least, form-of-most, compact-is, value-lt, value-fits}
@@ -152,32 +153,39 @@ form-filled : (k : ℕ) → k ≤ 7 → valueBits k + (k + 1) ≡ 8 * sizeOf k
 unfolding valueBits
 form-filled k h = omega (arith, size-pos k)
 
-as-ruled : (i : ℕ) → i < 9 → AsPrinted (ruleRow i)
-as-ruled zero h = record {
+form-ordered : (k : ℕ) → 128 ^ k ≤ 2 ^ valueBits k - 1
+form-ordered k =
+    le-ones (valueBits k)
+    (by-eq k 7 (λ e. rw (bits-long k e, e) (lit< tt)) (λ n. rw (most-short k n, pow-suc 128 k) (omega (arith, one-le-pow k 128 (lit< tt)))))
+
+follows-form : (i : ℕ) → i < 9 → RuleFollows (ruleRow i)
+follows-form zero h = record {
   filled = refl;
-  written = zero-row-written;
+  ordered = lit≤ tt;
+  laidDown = zero-row-written;
   readBack = λ v r t. row-back zeroRow v t (omega (arith, r .1)) (zero-row-written v r);
   read = zero-row-read;
 }
-as-ruled (suc k) h =
+follows-form (suc k) h =
     let le-seven : k ≤ 7 = omega arith in
     record {
       filled = form-filled k le-seven;
-      written = λ v r. form-row-written k v le-seven r;
+      ordered = form-ordered k;
+      laidDown = λ v r. form-row-written k v le-seven r;
       readBack = λ v r t. row-back (formRow k) v t (fits-range k v le-seven r) (form-row-written k v le-seven r);
       read = λ s. form-row-read k s le-seven;
     }
 
-as-printed : (i : ℕ) → i < length formTable → AsPrinted (rowAt i)
+follows-row : (i : ℕ) → i < length formTable → RuleFollows (rowAt i)
 unfolding formTable
-as-printed i h = subst AsPrinted (sym (row-at i h)) (as-ruled i h)
+follows-row i h = subst RuleFollows (sym (row-at i h)) (follows-form i h)
 
 -- ---- exactly one row
 
--- one of the rule's rows is one of the table's
-only : (Such : FormRow → Type 0) (i : ℕ) → i < 9 → Such (ruleRow i) → ((j : ℕ) → j < 9 → Such (ruleRow j) → j ≡ i) → ExactlyOneRow Such
+-- if exactly one of the rule's rows is such, exactly one of the table's is
+one-of-table : (Such : FormRow → Type 0) (i : ℕ) → i < 9 → Such (ruleRow i) → ((j : ℕ) → j < 9 → Such (ruleRow j) → j ≡ i) → ExactlyOneRow Such
 unfolding formTable
-only Such i h p u = (i, h, subst Such (sym (row-at i h)) p, λ j l q. u j l (subst Such (row-at j l) q))
+one-of-table Such i h p u = (i, h, subst Such (sym (row-at i h)) p, λ j l q. u j l (subst Such (row-at j l) q))
 
 -- of a value: the byte 0, or the form that it is written in
 
@@ -196,11 +204,11 @@ range-of : (v : ℕ) → v ≢ 0 → (j : ℕ) → j < 9 → InRange (ruleRow j)
 range-of v n zero h r = absurd (n (omega (arith, r .1)))
 range-of v n (suc k) h r = ap suc (sym (form-in-range k v (omega arith) r))
 
-value-one-row : (v : ℕ) → v < 2 ^ 64 → ExactlyOneRow (λ r. InRange r v)
-value-one-row v f =
+one-row-of-value : (v : ℕ) → v < 2 ^ 64 → ExactlyOneRow (λ r. InRange r v)
+one-row-of-value v f =
     by-eq v 0
-    (λ e. only (λ r. InRange r v) 0 (lit< tt) (omega arith, omega arith) (range-of-zero v e))
-    (λ n. only (λ r. InRange r v) (suc (formOf v)) (omega (arith, form-of-le v)) (value-in-range v n f) (range-of v n))
+    (λ e. one-of-table (λ r. InRange r v) 0 (lit< tt) (omega arith, omega arith) (range-of-zero v e))
+    (λ n. one-of-table (λ r. InRange r v) (suc (formOf v)) (omega (arith, form-of-le v)) (value-in-range v n f) (range-of v n))
 
 -- of a first byte: the byte 0, or the form that its lowest set bit tells
 
@@ -212,19 +220,19 @@ low-bits-of : (b : ℕ) → b < 256 → b ≢ 0 → (j : ℕ) → j < 9 → HasL
 low-bits-of b f n zero h l = absurd (n (omega (arith, l)))
 low-bits-of b f n (suc k) h l = ap suc (sym (zeros-of k b (omega arith) l))
 
-byte-one-row : (b : ℕ) → b < 256 → ExactlyOneRow (λ r. HasLowBits r b)
-byte-one-row b f =
+one-row-of-byte : (b : ℕ) → b < 256 → ExactlyOneRow (λ r. HasLowBits r b)
+one-row-of-byte b f =
     by-eq b 0
-    (λ e. only (λ r. HasLowBits r b) 0 (lit< tt) (rw e) (low-bits-of-zero b e))
+    (λ e. one-of-table (λ r. HasLowBits r b) 0 (lit< tt) (rw e) (low-bits-of-zero b e))
     (λ n.
     let h : trailingZeros 8 b < 8 = zeros-lt 8 b f n in
-    only (λ r. HasLowBits r b) (suc (trailingZeros 8 b)) (omega arith) (has-low-bits b h) (low-bits-of b f n))
+    one-of-table (λ r. HasLowBits r b) (suc (trailingZeros 8 b)) (omega arith) (has-low-bits b h) (low-bits-of b f n))
 
 -- ---- the law
 
-nothing-read : readCompact [] ≡ Refused (fault 2)
+no-byte : readCompact [] ≡ Refused (fault 2)
 unfolding readCompact formAt
-nothing-read = refl
+no-byte = refl
 
 pub rule-is-table : RuleIsTable
-rule-is-table = record { rows = as-printed; values = value-one-row; firstBytes = byte-one-row; nothing = nothing-read }
+rule-is-table = record { everyRow = follows-row; everyValue = one-row-of-value; everyFirstByte = one-row-of-byte; noByte = no-byte }

@@ -1,19 +1,20 @@
--- The compact forms, each law over the form k: how long it is, which values it has, and what the code writes for it.
+-- The compact forms, each law over the form k: how long it is, which values it has, how the code reads and counts it, and what
+-- it writes for it.
 -- Assumes nothing.
-use mathlib.Core.Path.{_≡_, refl, sym, ap, _∙_}
+use mathlib.Core.Path.{_≡_, refl, ap, _∙_}
 use mathlib.Core.List.{List, [], _∷_, _++_}
 use Prim.Native.Nat.{ℕ, zero, suc, _+_, _-_, _*_, _/_, _%_, _^_, _≤_, _<_, suc-le-suc}
-use native.Mathlib.Nat.{pow-suc, pow-le-pow-right, one-le-pow, zero-lt-suc, add-comm, mul-suc, mul-assoc, mul-mul-mul-comm, mul-add-div-right, mod-eq-of-lt, div-lt-iff-lt-mul}
+use native.Mathlib.Nat.{pow-suc, pow-le-pow-right, one-le-pow, zero-lt-suc, add-zero, mul-suc, mul-mul-mul-comm, div-lt-iff-lt-mul}
 use native.Mathlib.Numerals.{add-one}
 use native.Mathlib.Omega.{arith}
-use lib.ListN.{length, getD, take, drop, set, length-take}
+use lib.ListN.{length, take, drop, set, length-take}
 use lib.Arith.{digits-div, digits-mod, digits-lt}
 use lib.Dec.{lit<}
 use lib.Pow.{pow-lt, pow-add, pow-pos}
 use borrow.Author.Tests.{eq-eqb, ne-eqb, lt-ltb, le-ltb}
 use Rattle.laws.specs.Bytes.{AllBytes, le, bytes}
 use Rattle.laws.proofs.Cases.{by-lt, by-eq}
-use Rattle.laws.proofs.Numbers.{shl-one, length-bytes, le-lt, take-bytes, drop-bytes}
+use Rattle.laws.proofs.Numbers.{shl-one, length-bytes, le-lt, le-split, take-bytes, drop-bytes}
 use Rattle.numbers.specs.Compact.{sizeOf, compactValue, formFrom, formOf, marked, compactBytes}
 
 -- ---- how long a form is
@@ -29,16 +30,13 @@ size-short k n = simp (ne-eqb k 7 n)
 pub size-le : (k : ℕ) → k ≤ 7 → sizeOf k ≤ 9
 size-le k h = by-eq k 7 (λ e. rw (size-long k e) (omega arith)) (λ n. rw (size-short k n) (omega arith))
 
+pub size-over : (k : ℕ) → k + 1 ≤ sizeOf k
+size-over k = by-eq k 7 (λ e. rw (size-long k e) (omega arith)) (λ n. rw (size-short k n) (omega arith))
+
 pub size-pos : (k : ℕ) → 0 < sizeOf k
-size-pos k = by-eq k 7 (λ e. rw (size-long k e) (lit< tt)) (λ n. rw (size-short k n) (omega arith))
+size-pos k = omega (arith, size-over k)
 
 -- ---- the value in a form
-
--- the long form's first byte holds no bit of the value
-value-long : (s : List ℕ) → AllBytes s → compactValue 7 s ≡ le (take 8 (drop 1 s))
-unfolding compactValue sizeOf le
-value-long [] h = refl
-value-long (b ∷ s) h = digits-div (le (take 8 s)) (h 0)
 
 -- 256 is 128 twice, to any power
 pow-bytes : (k : ℕ) → 256 ^ k ≡ 128 ^ k * 2 ^ k
@@ -55,37 +53,33 @@ value-lt k s b n =
 
 -- what any form holds fits 64 bits
 pub value-fits : (k : ℕ) (s : List ℕ) → AllBytes s → k < 8 → compactValue k s < 2 ^ 64
+unfolding compactValue sizeOf
 value-fits k s b h =
     by-eq k 7
-    (λ e. rw (e, value-long s b) (le-lt 8 (take 8 (drop 1 s)) (simp length-take (omega arith)) (take-bytes 8 (drop 1 s) (drop-bytes 1 s b))))
+    (λ e.
+    let l : le (take 9 s) < 256 ^ 9 = le-lt 9 (take 9 s) (simp length-take (omega arith)) (take-bytes 9 s b) in
+    rw e (omega (arith, l)))
     (λ n.
-    let p : 128 ^ suc k ≤ 128 ^ 7 = pow-le-pow-right {n = 128} (lit< tt) {i = suc k} {j = 7} (omega arith) in
-    omega (arith, value-lt k s b n))
+    let m : 128 ^ suc k ≤ 128 ^ 7 = pow-le-pow-right {n = 128} (lit< tt) {i = suc k} {j = 7} (omega arith) in
+    omega (arith, value-lt k s b n, m))
 
-le-first : (n b : ℕ) (s : List ℕ) → 0 < n → le (take n (b ∷ s)) ≡ le (take (n - 1) s) * 256 + b
-unfolding le
-le-first zero b s h = absurd (omega arith)
-le-first (suc n) b s h = let e : suc n - 1 ≡ n = omega arith in rw e
+-- the number of k + 1 bytes without its low bits, and over it the ninth, as the code computes it
+long-parts : (s : List ℕ) → AllBytes s → le (take 8 s) / 2 ^ 8 + (le (take 1 (drop 8 s)) * 2 ^ 56) % 2 ^ 64 ≡ compactValue 7 s
+unfolding compactValue sizeOf
+long-parts s b =
+    let ninth : le (take 1 (drop 8 s)) < 256 ^ 1 =
+    le-lt 1 (take 1 (drop 8 s)) (simp length-take (omega arith)) (take-bytes 1 (drop 8 s) (drop-bytes 8 s b)) in
+    omega (arith, ninth, le-split 8 1 s)
 
--- of the first byte the bits over its low ones, and over these the other bytes
-value-split : (k : ℕ) (s : List ℕ) → k ≤ 7 → 0 < length s
-    → compactValue k s ≡ getD s 0 0 / 2 ^ (k + 1) + le (take (sizeOf k - 1) (drop 1 s)) * 2 ^ (7 - k)
-unfolding compactValue
-value-split k [] h l = absurd (omega arith)
-value-split k (b ∷ s) h l =
-    let x = le (take (sizeOf k - 1) s) in
-    let n : (7 - k) + (k + 1) ≡ 8 = omega arith in
-    let e : 2 ^ (7 - k) * 2 ^ (k + 1) ≡ 256 = sym (pow-add 2 (7 - k) (k + 1)) ∙ ap (λ (i : ℕ). 2 ^ i) n in
-    let w : x * 256 ≡ x * 2 ^ (7 - k) * 2 ^ (k + 1) = rw (mul-assoc, e) in
-    rw (le-first (sizeOf k) b s (size-pos k), w, mul-add-div-right {m = 2 ^ (k + 1)} (pow-pos (k + 1))) (add-comm (x * 2 ^ (7 - k)) (b / 2 ^ (k + 1)))
-
--- as the code computes it
-pub value-parts : (k n : ℕ) (s : List ℕ) → AllBytes s → k ≤ 7 → n ≡ sizeOf k → 0 < length s
-    → getD s 0 0 / 2 ^ (k + 1) + (le (take (n - 1) (drop 1 s)) * 2 ^ (7 - k)) % 2 ^ 64 ≡ compactValue k s
-value-parts k n s b h e l =
-    let p = value-split k s h l in
-    let f : compactValue k s < 2 ^ 64 = value-fits k s b (omega arith) in
-    rw (e, mod-eq-of-lt {n = le (take (sizeOf k - 1) (drop 1 s)) * 2 ^ (7 - k)} {m = 2 ^ 64} (omega arith)) (sym p)
+pub value-parts : (k n : ℕ) (s : List ℕ) → AllBytes s → k ≤ 7 → n ≡ sizeOf k
+    → le (take (k + 1) s) / 2 ^ (k + 1) + (le (take (n - (k + 1)) (drop (k + 1) s)) * 2 ^ 56) % 2 ^ 64 ≡ compactValue k s
+unfolding compactValue le
+value-parts k n s b h z =
+    by-eq k 7
+    (λ e. let nine : n ≡ 9 = z ∙ size-long k e in rw (nine, e) (long-parts s b))
+    (λ o.
+    let none : n - (k + 1) ≡ 0 = omega (arith, size-short k o) in
+    rw (none, size-short k o) (add-zero (le (take (k + 1) s) / 2 ^ (k + 1))))
 
 -- ---- the form's least value, as the code computes it
 
@@ -152,7 +146,7 @@ pub form-of-least : (v : ℕ) → (v ≡ 0 → ⊥) → 128 ^ formOf v ≤ v
 unfolding formOf
 form-of-least v n = form-least 7 v (omega arith)
 
--- as the code counts it: a form more where 128 or more is left, and there is a form more
+-- as the code counts it: one form further where 128 or more is left and the last form is not reached
 pub form-more : (k rest : ℕ) → k < 7 → 128 ≤ rest → k + formFrom (7 - k) rest ≡ (k + 1) + formFrom (7 - (k + 1)) (rest / 128)
 unfolding formFrom
 form-more k rest h l =
@@ -187,13 +181,13 @@ long-put (y ∷ d) v h = rw (digits-mod v {m = 256} {r = 128} (lit< tt), digits-
 
 -- the number of a value fits its form's bytes
 pub marked-lt : (v : ℕ) → v < 2 ^ 64 → marked (formOf v) v < 256 ^ sizeOf (formOf v)
-unfolding marked formOf
+unfolding marked
 marked-lt v h =
-    let k = formFrom 7 v in
+    let k = formOf v in
     by-eq k 7
     (λ e. rw (size-long k e, e) (omega arith))
     (λ n.
-    let b : v < 128 ^ suc k = form-most 7 v (omega (arith, form-le 7 v)) in
+    let b : v < 128 ^ suc k = form-of-most v (omega (arith, form-of-le v)) in
     let p : 2 ^ k < 2 ^ (k + 1) = pow-lt (omega arith) in
     rw (size-short k n, pow-bytes (k + 1)) (digits-lt (rw add-one b) p))
 

@@ -1,6 +1,6 @@
 -- The compact integer (document 01, 'Numbers and names'; 000, 2.2.1.1), by one rule for all its forms: the first byte has
 -- k zero bits below its lowest set bit, and form k is a little-endian number of k + 1 bytes (9 where k is 7) whose k + 1
--- low bits are 2 ^ k and whose other bits are the value. The byte 0 stands for 0.
+-- low bits are 2 ^ k and whose other bits are the value. The byte 0 stands for 0. `CompactTable` has the document's table.
 -- Assumes nothing.
 use Prim.Native.Nat.{ℕ, zero, suc, _+_, _*_, _/_, _^_}
 use mathlib.Core.Bool.{false}

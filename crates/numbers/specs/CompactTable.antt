@@ -1,6 +1,6 @@
--- Document 01's table of compact forms, row by row as it prints it, and what a row says by itself: which bytes stand for a
--- value, and what bytes that begin with its low bits are read as. That the rule of `Compact` says the same is proved once for
--- all rows (`proofs/CompactTable`), so who has compared the nine rows with the document knows what the rule does.
+-- The table of compact forms (document 01, 'Numbers and names'), row by row, and what a row says by itself: which bytes stand
+-- for a value, and what bytes that begin with its low bits are read as. That the rule of `Compact` says the same is proved once
+-- for all rows (`proofs/CompactTable`): who has compared the nine rows with the document knows what the rule does.
 -- Assumes nothing.
 use mathlib.Core.Path.{_≡_}
 use Prim.Native.Nat.{ℕ, _+_, _-_, _*_, _/_, _%_, _^_, _≤_, _<_}
@@ -15,8 +15,8 @@ use Rattle.numbers.specs.declared.compact.Compact.{Compact}
 use Rattle.numbers.specs.declared.compact.Compact.the-variants.{Value, Refused}
 
 pub record FormRow : Type 0 where
-  pub form : ℕ  -- its name, which is how many bits the value has; 'zero' is 0
-  pub lowBits : ℕ  -- how many low bits; a byte is 8
+  pub form : ℕ  -- the document's name, which is how many bits there are for the value; the rule counts the same forms by k
+  pub lowBits : ℕ  -- how many low bits
   pub low : ℕ  -- and what they are
   pub size : ℕ  -- the column 'bytes'
   pub first : ℕ  -- the column 'range'
@@ -25,8 +25,10 @@ pub record FormRow : Type 0 where
 infix 70 │_│_bits=_│_│_to_│
 -- a row, as the document prints it
 abbrev │_│_bits=_│_│_to_│ : ℕ → ℕ → ℕ → ℕ → ℕ → ℕ → FormRow
-│_│_bits=_│_│_to_│ form lowBits low size first last = record { form = form; lowBits = lowBits; low = low; size = size; first = first; last = last }
+│_│_bits=_│_│_to_│ form lowBits low size first last =
+    record { form = form; lowBits = lowBits; low = low; size = size; first = first; last = last }
 
+-- where the document says 'byte', 8 bits: the first row is "zero", "byte 0", the last "byte 128, then 8 bytes"
 unfoldable pub formTable : List FormRow
 formTable =
     │ 0 │ 8 bits= 0 │ 1 │ 0 to 0 │
@@ -58,7 +60,7 @@ HasLowBits r b = b % 2 ^ r .lowBits ≡ r .low
 unfoldable pub rowValue : FormRow → List ℕ → ℕ
 rowValue r s = le (take (r .size) s) / 2 ^ r .lowBits
 
--- such an item: 2 where it runs past the end, 3 where the value is outside the row's range, else the value and its size
+-- such an item: 2 where it "runs past the input", 3 where the number is "outside its form's range", else the value and the size
 unfoldable pub rowReads : FormRow → List ℕ → Compact
 rowReads r s =
     pick (ltb (length s) (r .size)) (Refused (fault 2))
@@ -68,28 +70,30 @@ rowReads r s =
 
 -- ---- the rule says the same
 
--- of one row
-pub record AsPrinted (r : FormRow) : Type 0 where
-  -- the value's bits and the low bits make up the bytes
+-- the rule does what one row says
+pub record RuleFollows (r : FormRow) : Type 0 where
+  -- the bits for the value and the low bits make up the bytes, and there is a value
   pub filled : r .form + r .lowBits ≡ 8 * r .size
+  pub ordered : r .first ≤ r .last
   -- a value in the range is written as the row lays it down,
-  pub written : (v : ℕ) → InRange r v → compactBytes v ≡ rowBytes r v
+  pub laidDown : (v : ℕ) → InRange r v → compactBytes v ≡ rowBytes r v
   -- and read from there, whatever follows
   pub readBack : (v : ℕ) → InRange r v → (t : List ℕ) → readCompact (rowBytes r v ++ t) ≡ Value v (r .size)
   -- any bytes that begin with the low bits are read as the row says, refusals included
   pub read : (s : List ℕ) → AllBytes s → 0 < length s → HasLowBits r (getD s 0 0) → readCompact s ≡ rowReads r s
 
--- the row at a place of the table
+-- the row at a place of the table; no place that is asked for is past the last
 abbrev pub rowAt : ℕ → FormRow
 rowAt i = getD formTable i (│ 0 │ 0 bits= 0 │ 0 │ 0 to 0 │)
 
 -- there is such a row, and no other
 abbrev pub ExactlyOneRow : (FormRow → Type 0) → Type 0
-ExactlyOneRow Such = (i : ℕ) × (i < length formTable) × Such (rowAt i) × ((j : ℕ) → j < length formTable → Such (rowAt j) → j ≡ i)
+ExactlyOneRow Such =
+    (i : ℕ) × (i < length formTable) × Such (rowAt i) × ((j : ℕ) → j < length formTable → Such (rowAt j) → j ≡ i)
 
--- of the whole table: every row is as printed, every value and every first byte has exactly one, and nothing to read is 2
+-- the rule follows every row, every value and every first byte has exactly one, and where there is no byte it is 2
 pub record RuleIsTable : Type 0 where
-  pub rows : (i : ℕ) → i < length formTable → AsPrinted (rowAt i)
-  pub values : (v : ℕ) → v < 2 ^ 64 → ExactlyOneRow (λ r. InRange r v)
-  pub firstBytes : (b : ℕ) → b < 256 → ExactlyOneRow (λ r. HasLowBits r b)
-  pub nothing : readCompact [] ≡ Refused (fault 2)
+  pub everyRow : (i : ℕ) → i < length formTable → RuleFollows (rowAt i)
+  pub everyValue : (v : ℕ) → v < 2 ^ 64 → ExactlyOneRow (λ r. InRange r v)
+  pub everyFirstByte : (b : ℕ) → b < 256 → ExactlyOneRow (λ r. HasLowBits r b)
+  pub noByte : readCompact [] ≡ Refused (fault 2)

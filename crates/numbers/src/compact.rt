@@ -1,7 +1,7 @@
 // Compact integers: what a form says by itself, the strict reading over it, and the writing, by one rule for all forms.
 ghost use mathlib.Core.Path.{_≡_};
 ghost use mathlib.Core.List.{_++_, [], _∷_};
-ghost use Prim.Native.Nat.{_+_, _*_, _^_, _≤_, _<_};
+ghost use Prim.Native.Nat.{_^_, _≤_, _<_};
 ghost use lib.ListN.{length, drop};
 ghost use Rattle.laws.specs.Bytes.{bytes};
 ghost use Rattle.numbers.specs.Compact.{sizeOf, compactValue, readForm, formAt, readCompact, formOf, marked, compactBytes};
@@ -35,14 +35,14 @@ fn size_of(k: usize) -> usize
     if k == 7 { 9 } else { k + 1 }
 }
 
-// The value in form k, of n bytes: of the first byte the bits over its low ones, and over these the other bytes.
+// The value in form k, of n bytes: the number of k + 1 of them without its k + 1 low bits, and over it the ninth, if there is one.
 fn value_of(s: &[u8], k: usize, n: usize) -> u64
     requires { ⌜ (k ≤ 7) × (n ≡ sizeOf k) × (n ≤ length (now s)) ⌝ }
     ensures { λ r. ⌜ r ≡ compactValue k (now (s .entry)) ⌝ }
 {
-    let first = s[0] as u64 >> (k + 1);
-    let others = read_le(&s[1..], n - 1);
-    first + (others << (7 - k))
+    let first = read_le(s, k + 1) >> (k + 1);
+    let ninth = read_le(&s[k + 1..], n - (k + 1));
+    first + (ninth << 56)
 }
 
 fn read_form(s: &[u8], k: usize) -> Form

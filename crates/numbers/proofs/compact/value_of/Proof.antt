@@ -1,32 +1,32 @@
--- `compact::value_of` meets its contract: the value in two parts, as the long form's number has more bits than a word.
+-- `compact::value_of` meets its contract: only the long form has a byte behind k + 1 of them.
 -- Assumes nothing.
-use mathlib.Core.Path.{_≡_}
-use Prim.Native.Nat.{_+_, _-_, _*_, _/_, _%_, _^_, _<_}
+use mathlib.Core.Path.{_≡_, ap, ap₂, _∙_}
+use mathlib.Core.List.{List}
+use Prim.Native.Nat.{ℕ, _+_, _-_, _*_, _/_, _%_, _^_, _≤_}
 use borrow.Author.Needs.{needs}
 use native.Mathlib.Omega.{arith}
-use lib.ListN.{length, getD, length-drop}
-use Rattle.laws.specs.Bytes.{AllBytes}
+use lib.ListN.{length, take, drop, length-drop}
+use Rattle.laws.specs.Bytes.{AllBytes, le}
 use Rattle.laws.proofs.Parts.{tail-part}
 use Rattle.numbers.specs.Compact.{compactValue}
-use Rattle.numbers.proofs.Forms.{size-pos, size-le, value-parts, value-fits}
+use Rattle.numbers.proofs.Forms.{size-le, size-over, value-parts, value-fits}
 use Rattle.numbers.proofs.compact.value_of.Statement.{statement}
 use Rattle.numbers.proofs.compact.value_of.Tie as tie
 
-abbrev begun : tie.After-shared-slice-known2 → tie.Start
-begun c = c .before .before
+abbrev called : tie.After-read-le2 → tie.Start
+called c = c .before .before .before .before
 
-abbrev called : tie.After-read-le → tie.Start
-called c = begun (c .before .before)
+-- k + 1 bytes are there
+there : (c : tie.Start) → (c .args .k + 1 ≤ c .args .n) × (c .args .k + 1 ≤ length (c .args .s .now))
+there c =
+    let h : c .args .k + 1 ≤ c .args .n = omega (arith, size-over (c .args .k), c .pre .1) in
+    (h, omega (arith, h, c .pre .2))
 
--- the first byte is there
-first : (c : tie.Start) → 0 < length (c .args .s .now)
-first c = omega (arith, size-pos (c .args .k), c .pre .1, c .pre .2)
+add-read-le : tie.Need-add-read-le
+add-read-le c = search needs
 
-shared-slice-read-first : tie.Need-shared-slice-read-first
-shared-slice-read-first c = first (begun c)
-
-cast-first : tie.Need-cast-first
-cast-first c = omega (arith, c .shared-slice-known2 .given 0)
+read-le-requires : tie.Need-read-le-requires
+read-le-requires c κs = (omega (arith, c .before .pre .0), there (c .before) .1)
 
 add-first : tie.Need-add-first
 add-first c = search needs
@@ -34,40 +34,43 @@ add-first c = search needs
 shr-first : tie.Need-shr-first
 shr-first c = search needs
 
+add-read-le-2 : tie.Need-add-read-le-2
+add-read-le-2 c = search needs
+
 sub-read-le : tie.Need-sub-read-le
-sub-read-le c = first (begun c)
+sub-read-le c = there (c .before .before) .1
 
 part-read-le-start : tie.Need-part-read-le-start
-part-read-le-start c = first (begun c)
+part-read-le-start c = there (c .before .before) .1
 
 part-read-le-end : tie.Need-part-read-le-end
 part-read-le-end c = search needs
 
+add-read-le-3 : tie.Need-add-read-le-3
+add-read-le-3 c = search needs
+
 sub-read-le-2 : tie.Need-sub-read-le-2
-sub-read-le-2 c = let s = begun (c .before) in omega (arith, size-pos (s .args .k), s .pre .1)
+sub-read-le-2 c = there (c .before .before .before) .0
 
-read-le-requires : tie.Need-read-le-requires
-read-le-requires c κs =
-    let s = begun (c .before) in
-    simp (tail-part, length-drop) (omega (arith, size-le (s .args .k) (s .pre .0), s .pre .1), omega (arith, s .pre .2))
-
-sub-result : tie.Need-sub-result
-sub-result c = search needs
-
-shl-result : tie.Need-shl-result
-shl-result c = search needs
+read-le-requires-2 : tie.Need-read-le-requires-2
+read-le-requires-2 c κs =
+    let s = c .before .before .before in
+    simp (tail-part, length-drop) (omega (arith, size-le (s .args .k) (s .pre .0), s .pre .1), omega (arith, s .pre .2, there s))
 
 -- every element of the slice is a byte
-in-bytes : (c : tie.After-read-le) → AllBytes (called c .args .s .now)
+in-bytes : (c : tie.After-read-le2) → AllBytes (called c .args .s .now)
 in-bytes c i = c .before .before .before .shared-slice-known .given i .fits
 
 -- the sum is the value
-value : (c : tie.After-read-le)
-    → getD (called c .args .s .now) 0 0 / 2 ^ (called c .args .k + 1) + (c .read-le .result * 2 ^ (7 - called c .args .k)) % 2 ^ 64
+value : (c : tie.After-read-le2)
+    → c .before .before .read-le .result / 2 ^ (called c .args .k + 1) + (c .read-le2 .result * 2 ^ 56) % 2 ^ 64
     ≡ compactValue (called c .args .k) (called c .args .s .now)
 value c =
-    let s = called c in
-    rw (c .read-le .ensures, tail-part) (value-parts (s .args .k) (s .args .n) (s .args .s .now) (in-bytes c) (s .pre .0) (s .pre .1) (first s))
+    let a = called c .args in
+    let e : c .read-le2 .result ≡ le (take (a .n - (a .k + 1)) (drop (a .k + 1) (a .s .now))) =
+    c .read-le2 .ensures ∙ ap (λ (l : List ℕ). le (take (a .n - (a .k + 1)) l)) (tail-part (a .k + 1) (a .s .now)) in
+    ap₂ (λ (x y : ℕ). x / 2 ^ (a .k + 1) + (y * 2 ^ 56) % 2 ^ 64) (c .before .before .read-le .ensures) e
+    ∙ value-parts (a .k) (a .n) (a .s .now) (in-bytes c) (called c .pre .0) (called c .pre .1)
 
 add-result : tie.Need-add-result
 add-result c =
@@ -81,16 +84,16 @@ pub value-of-spec : {M : Type 1} → statement M
 value-of-spec =
     tie.close
     (tie.spec
-    shared-slice-read-first
-    cast-first
+    add-read-le
+    read-le-requires
     add-first
     shr-first
+    add-read-le-2
     sub-read-le
     part-read-le-start
     part-read-le-end
+    add-read-le-3
     sub-read-le-2
-    read-le-requires
-    sub-result
-    shl-result
+    read-le-requires-2
     add-result
     returns)
