@@ -33,7 +33,7 @@ loop-less c = omega (arith, below c)
 loop-again : tie.Need-loop-again Inv-loop μ-loop
 loop-again c =
     let l = c .before .before .loop in
-    (omega (arith, below c), l .inv .1 ∙ form-more (l .k) (l .rest) (below c) (c .before .loop-test .taken))
+    (omega (arith, below c), l .inv .1 ∙ form-more (l .k) (l .rest) (below c) (omega (arith, c .before .loop-test .taken)))
 
 returns : tie.Need-returns Inv-loop μ-loop
 unfolding formFrom
