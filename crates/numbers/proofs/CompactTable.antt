@@ -11,7 +11,7 @@ use native.Mathlib.Nat.{one-le-pow, pow-suc, pow-le-pow-right, add-zero, zero-ad
 use native.Mathlib.Omega.{arith}
 use lib.ListN.{length, getD, take}
 use lib.Arith.{digits-mod}
-use lib.Count.{trailingZeros, trailing-of-zero}
+use lib.Count.{trailingZeros}
 use lib.Dec.{lit<, lit≤, ltb}
 use lib.Pow.{pow-lt, split, le-ones, lt-of-le-ones}
 use borrow.Author.Tests.{ne-eqb, lt-ltb, le-ltb}
@@ -22,7 +22,7 @@ use Rattle.numbers.specs.Refusals.{fault}
 use Rattle.numbers.specs.Compact.{sizeOf, compactValue, readForm, formAt, readCompact, formOf, marked, compactBytes}
 use Rattle.numbers.specs.CompactTable.{FormRow, formTable, InRange, rowBytes, HasLowBits, rowValue, rowReads, RuleFollows, rowAt, ExactlyOneRow, RuleIsTable}
 use Rattle.numbers.specs.declared.compact.Compact.the-variants.{Value, Refused}
-use Rattle.numbers.proofs.LowestBit.{zeros-lt, zeros-marked, zeros-low}
+use Rattle.numbers.proofs.LowestBit.{zeros-lt, zeros-not-zero, zeros-marked, zeros-low}
 use Rattle.numbers.proofs.Forms.{size-long, size-short, size-pos, pow-seven, form-is, form-of-le, form-of-least, form-of-most, compact-is, value-lt, value-fits}
 use Rattle.numbers.proofs.RoundTrip.{read-written}
 
@@ -110,9 +110,7 @@ has-low-bits b h =
     ap (λ (x : ℕ). x % 2 ^ (k + 1)) (zeros-low 8 b h) ∙ digits-mod (b / 2 ^ (k + 1)) (pow-lt (omega arith))
 
 byte-not-zero : (k b : ℕ) → k ≤ 7 → HasLowBits (formRow k) b → b ≢ 0
-byte-not-zero k b h l e =
-    let z : 8 ≡ k = sym (trailing-of-zero 8) ∙ ap (trailingZeros 8) (sym e) ∙ zeros-of k b h l in
-    omega arith
+byte-not-zero k b h l = zeros-not-zero 8 b (omega (arith, zeros-of k b h l))
 
 -- ---- each row says what the rule does
 

@@ -1,13 +1,13 @@
 -- The lowest set bit tells the form: a number marked with form k reads as form k, and a number is what its lowest set bit
 -- marks. Each law is over the width.
 -- Assumes nothing.
-use mathlib.Core.Path.{_≡_, refl, ap}
+use mathlib.Core.Path.{_≡_, refl, ap, _∙_}
 use Prim.Native.Nat.{ℕ, zero, suc, _+_, _*_, _/_, _%_, _^_, _<_, suc-le-suc}
 use native.Mathlib.Nat.{pow-suc, pow-succ', zero-lt-suc, mul-assoc, add-mul, div-div-eq-div-mul}
 use native.Mathlib.Numerals.{add-one}
 use native.Mathlib.Omega.{arith}
 use lib.Arith.{digits-div}
-use lib.Count.{trailingZeros, under}
+use lib.Count.{trailingZeros, under, trailing-of-zero}
 use lib.Pow.{pow-lt, mod-mod-pow, field}
 use Rattle.laws.proofs.Cases.{by-eq}
 use Rattle.numbers.specs.Compact.{marked}
@@ -23,6 +23,10 @@ zeros-lt zero b h n = absurd (n (omega arith))
 zeros-lt (suc f) b h n =
     let p : b < 2 ^ f * 2 = rw pow-suc at h in
     under-lt (b % 2) (trailingZeros f (b / 2)) f (λ e. zeros-lt f (b / 2) (omega arith) (λ z. n (omega arith)))
+
+-- and one with a set bit is not 0
+pub zeros-not-zero : (f b : ℕ) → trailingZeros f b < f → b ≡ 0 → ⊥
+zeros-not-zero f b h e = let z : trailingZeros f b ≡ f = ap (trailingZeros f) e ∙ trailing-of-zero f in omega arith
 
 -- only the low bits count
 pub zeros-mod : (f x : ℕ) → trailingZeros f (x % 2 ^ f) ≡ trailingZeros f x

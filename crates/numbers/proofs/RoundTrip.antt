@@ -10,7 +10,7 @@ use native.Mathlib.Nat.{one-le-pow}
 use native.Mathlib.Omega.{arith}
 use lib.ListN.{length, getD, take, length-append}
 use lib.Seq.{take-at, length-take-le}
-use lib.Count.{trailingZeros, trailing-of-zero}
+use lib.Count.{trailingZeros}
 use lib.Dec.{lit<, ltb}
 use borrow.Author.Tests.{eq-eqb, ne-eqb, lt-ltb, le-ltb, ltb-false}
 use Rattle.laws.specs.Bytes.{AllBytes, le, bytes}
@@ -22,7 +22,7 @@ use Rattle.numbers.specs.declared.compact.Form.{Form}
 use Rattle.numbers.specs.declared.compact.Form.the-variants.{Holds}
 use Rattle.numbers.specs.declared.compact.Form.the-variants as form
 use Rattle.numbers.specs.declared.compact.Compact.the-variants.{Value, Refused}
-use Rattle.numbers.proofs.LowestBit.{zeros-lt, zeros-mod, zeros-marked, zeros-low, marked-value}
+use Rattle.numbers.proofs.LowestBit.{zeros-lt, zeros-not-zero, zeros-mod, zeros-marked, zeros-low, marked-value}
 use Rattle.numbers.proofs.Forms.{size-pos, form-is, form-of-le, form-of-least, marked-lt, compact-is, length-compact, value-lt, value-fits}
 
 -- ---- reading what was written
@@ -52,7 +52,7 @@ form-written v h t =
     let f : getD (bytes (sizeOf k) (marked k v) ++ t) 0 0 ≡ marked k v % 2 ^ 8 = first-byte (sizeOf k) (marked k v) t (size-pos k) in
     let z : trailingZeros 8 (marked k v % 2 ^ 8) ≡ k = zeros-mod 8 (marked k v) ∙ zeros-marked 8 k v (omega (arith, form-of-le v)) in
     let a : length (bytes (sizeOf k) (marked k v) ++ t) ≢ 0 = rw (length-append, length-bytes) (omega (arith, size-pos k)) in
-    let b : marked k v % 2 ^ 8 ≢ 0 = λ q. let w : formOf v ≡ 8 = sym (rw q at z) ∙ trailing-of-zero 8 in omega (arith, form-of-le v) in
+    let b : marked k v % 2 ^ 8 ≢ 0 = zeros-not-zero 8 (marked k v % 2 ^ 8) (omega (arith, z, form-of-le v)) in
     let r : readForm k (bytes (sizeOf k) (marked k v) ++ t) ≡ Holds v (sizeOf k) false =
     read-form-written k v t (marked-lt v h) ∙ rw (le-ltb v (128 ^ k) (form-of-least v n)) in
     rw (length-compact v n, compact-is v n, f) (simp (ne-eqb _ _ a, ne-eqb _ _ b) (rw z r)))
