@@ -60,6 +60,7 @@ target/player: $(wildcard player/*.c player/*.h) include/hub.h tools/cc $(archiv
 speed: $(archive_file)
 	@sh peer/speed.sh
 
-# Writes the stored lines of the tests by the peer, and shows what moved: crates/cases/stdout, tests/answers.out, tests/asking.out.
+# Writes the stored lines of the tests by the peer, and shows what moved: crates/cases/stdout, tests/answers.out, tests/asking.out
+# and tests/putting.out.
 expected:
 	@sh peer/expected.sh

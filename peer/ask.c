@@ -1,14 +1,15 @@
-/* The request that a bench sends. Filters and knowledge are judged as in a request and go in as they stand. */
+/* The request that a bench sends. Filters and knowledge are judged as in a request, where padding is refused, and go in as they
+   stand. */
 #include "filters.h"
 #include "knowledge.h"
-#include "objects.h"
 #include "peer.h"
 #include "report.h"
+#include "request_frame.h"
 
 #include <string.h>
 
 /* The request's bytes beside id, constraint, filters and knowledge. */
-#define AROUND 44u
+#define AROUND (REQUEST_FRONT_BYTES + 16u)
 
 /* Filters up to the end of the input: what is left behind one is judged as the start of another. */
 static int judge_filters(struct input *in) {
@@ -26,16 +27,12 @@ static int judge_filters(struct input *in) {
 
 /* One knowledge, or nothing. */
 static int judge_knowledge(struct input *in) {
-    return in->length == 0 || (need_knowledge(in, SUB_REQUEST, DEPTH, NULL) && nothing_follows(in));
+    return in->length == 0 || (need_knowledge(in, SUB_REQUEST, DEPTH, NULL, REQUEST_PADDING) && nothing_follows(in));
 }
 
 static uint8_t *put_front(uint8_t *p, uint64_t id, uint64_t limit) {
-    static const uint8_t before[] = {0x0C, 0x00, 0x0B, 0x00, 0x9C, 0xCF, 0x29, 0xF3, 0x39, 0x94, 0x06, 0x9B,
-                                     0x06, 0x02, 0x00, 0x00, 0xEE, 0x02, 0x00, 0x00, 0x77, 0x01, 0x16, 0x02};
     static const uint8_t arguments[] = {0x8A, 0x02, 0x02, 0x00, 0x00, 0xDA, 0x02, 0x06, 0x00, 0x03, 0x00, 0x00};
-    memcpy(p, before, sizeof before);
-    p = put_little(p + sizeof before, 2 * (compact_length(id) + 2), 2);
-    p = put_compact(put_compact(put_compact(p, id), 2), 0);
+    p = put_request_front(p, TO_QUERY_CHANGES, id);
     memcpy(p, arguments, sizeof arguments);
     p += sizeof arguments;
     if (limit != UINT64_MAX) {

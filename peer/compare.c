@@ -6,7 +6,9 @@
 #include "cases.h"
 #include "field.h"
 #include "generate.h"
+#include "hub.h"
 #include "large.h"
+#include "peer.h"
 
 #include <signal.h>
 #include <stdlib.h>
@@ -18,7 +20,7 @@ struct run {
     uint64_t seed, cases;
     int large, bytes;
     const char *save, *replay, *lent;
-    uint64_t done, answered, refused[16];
+    uint64_t done, answered, refused[HUB_NO_SERIAL_LEFT + 1];
 };
 
 static void save_case(const struct run *r, const struct one_case *c) {
@@ -63,7 +65,9 @@ static void run_case(struct run *r, const struct one_case *c) {
     }
     r->done++;
     r->answered += o.number == 0;
-    r->refused[o.number < 16 ? o.number : 15]++;
+    if (o.number <= HUB_NO_SERIAL_LEFT) {
+        r->refused[o.number]++;
+    }
 }
 
 /* ---- generated cases */
@@ -79,10 +83,10 @@ static void run_cuts(struct run *r, struct luck *l, struct one_case *c, struct t
 
 static void run_all_cuts(struct run *r, struct luck *l, struct one_case *c) {
     unsigned i;
-    for (i = 0; i < 12; i++) {
-        c->call = (enum call)(i % 4);
-        c->kind = i / 4;
-        c->id = c->position = 1;
+    for (i = 0; i < 24; i++) {
+        c->call = (enum call)(i % 8);
+        c->kind = c->named = i / 8;
+        c->id = c->position = c->number = 1;
         c->limit = i;
         do {
             fill_case(c, luck_next(l), NOT_SPOILED);
@@ -120,23 +124,37 @@ static void run_bytes(struct run *r, const struct one_case *c, const struct text
     }
 }
 
-/* Of each call one case of some length that has no fault. */
+/* Whether a put expects a storage index, which an empty store has not. */
+static int expects_index(const struct text *put) {
+    static const uint8_t empty[] = {0xAC, 0x02, 0x00, 0x55};
+    return peer_put(empty, sizeof empty, put->at, put->length, 0, 0, NULL, 0, NULL, 0, NULL, 0) == HUB_OTHER_INDEX;
+}
+
+/* Whether a case has some length, and no fault; if it is a put, with a storage index. */
+static int is_fit(const struct one_case *c) {
+    struct outcome o;
+    return c->first.length >= 60 && c->first.length <= 140 && (!takes_two(c->call) || c->second.length >= 60) &&
+           c->second.length <= 200 && (c->call != PUT || expects_index(&c->second)) && (!agree(c, &o) || o.number == 0);
+}
+
+/* Of each call one case that is fit for it. */
 static void run_every_byte(struct run *r) {
+    static const enum call calls[] = {LENGTH, WRITE, ASK, READ, FIND, FIND, PUT, ASK_PUT, READ_PUT};
     struct luck l = luck_from(r->seed);
     struct one_case c;
-    struct outcome o;
     unsigned i;
     memset(&c, 0, sizeof c);
-    for (i = 0; i < 5; i++) {
-        c.call = (enum call)(i < 4 ? i : FIND);
-        c.kind = i == 3;
+    for (i = 0; i < sizeof calls / sizeof *calls; i++) {
+        c.call = calls[i];
+        c.kind = i == 4;
         c.report = 88;
         c.limit = 100;
         do {
             fill_case(&c, luck_next(&l), NOT_SPOILED);
-            c.room = c.call <= ASK ? room_needed(&c) + 60 : 0;
-        } while (c.first.length < 60 || c.first.length > 140 || (c.call <= ASK && c.second.length < 60) ||
-                 c.second.length > 200 || (agree(&c, &o) && o.number != 0));
+            c.room = writes(c.call) ? room_needed(&c) + 60 : 0;
+            c.offered = c.call == LENGTH ? room_needed(&c) + 60 : 0;
+            c.new_room = c.call == PUT ? new_room_needed(&c) + 60 : 0;
+        } while (!is_fit(&c));
         run_bytes(r, &c, &c.first);
         run_bytes(r, &c, &c.second);
     }
@@ -205,7 +223,7 @@ int main(int count, char **words) {
         run_cases(&r);
     }
     printf("%llu cases, %llu without a refusal; by number of refusal:", (unsigned long long)r.done, (unsigned long long)r.answered);
-    for (i = 1; i < 15; i++) {
+    for (i = 1; i <= HUB_NO_SERIAL_LEFT; i++) {
         printf(" %u: %llu", i, (unsigned long long)r.refused[i]);
     }
     printf("\n0 differences\n");

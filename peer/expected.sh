@@ -23,7 +23,7 @@ lines_of() { # NAME CASES WORDS..: the program is made of the words
     sh tools/cc "$room/$name" -Iinclude "$@" >"$room/log" 2>&1 || { cat "$room/log"; fail "$name is not compiled and linked"; }
     sh tools/run "$room/$name" <"$cases" >"$room/$name.lines" || fail "the peer ends with another status than 0 on $cases"
     [ "$(grep -c '' "$room/$name.lines")" = "$(grep -c '' "$cases")" ] || fail "the peer makes no line of each case in $cases"
-    ! grep -En '^(touched|apart|outside|another)' "$room/$name.lines" || fail "the peer does what it may not do, in $cases"
+    ! grep -En '^(touched|apart|outside|another|differs)' "$room/$name.lines" || fail "the peer does what it may not do, in $cases"
 }
 
 # The first lines that moved, each with its case, before and now; the last line of it is how many did.
@@ -65,12 +65,15 @@ put() { # NAME CASES EXPECTED
 # shellcheck disable=SC2086
 {
     lines_of lines crates/cases/stdin $peer_core $peer_lines
-    lines_of answer tests/answers.in -Dhub_answer=peer_answer tests/answer.c $peer_core
+    lines_of writing tests/answers.in -Dhub_length=peer_length -Dhub_write=peer_write tests/writing.c $peer_core
     lines_of asking tests/asking.in -Dhub_ask=peer_ask -Dhub_read=peer_read -Dhub_element=peer_element tests/asking.c $peer_core
+    lines_of putting tests/putting.in -Dhub_put=peer_put -Dhub_ask_put=peer_ask_put -Dhub_read_put=peer_read_put tests/putting.c \
+        $peer_core
 }
 put lines crates/cases/stdin crates/cases/stdout
-put answer tests/answers.in tests/answers.out
+put writing tests/answers.in tests/answers.out
 put asking tests/asking.in tests/asking.out
+put putting tests/putting.in tests/putting.out
 if [ "$moved" = 0 ]; then
     printf 'nothing moved\n'
 else

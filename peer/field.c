@@ -9,19 +9,34 @@ struct course {
     size_t cases, differences, lent;
 };
 
-/* One case by both, with reports of each length that makes a difference, which a line does not tell, and with each kind. The
-   first report is as long as what is told, so that a difference is shown with all of it. */
+/* How many bytes of a report a call tells at most. */
+static size_t told_by(enum stored_call call) {
+    switch (call) {
+    case CALL_READ:
+        return HUB_READ_REPORT_BYTES;
+    case CALL_PUT:
+        return HUB_PUT_REPORT_BYTES;
+    case CALL_READ_PUT:
+        return HUB_READ_PUT_REPORT_BYTES;
+    default:
+        return HUB_REPORT_BYTES;
+    }
+}
+
+/* One case by both, with reports of each length that makes a difference, which a line does not tell, and with each number that
+   is not 0 for a kind, or for whether a storage index is expected. The first report is as long as what is told, so that a
+   difference is shown with all of it. */
 static int both_agree(const struct stored *s, struct outcome *o) {
-    const size_t told = s->call == CALL_READ ? HUB_READ_REPORT_BYTES : HUB_REPORT_BYTES;
-    const size_t reports[] = {told, 0, 8, 23, 24, 25, 87, 88, 89, 100};
-    static const uint64_t kinds[] = {HUB_IN_ANSWER, 2, UINT64_MAX};
+    const size_t told = told_by(s->call), reports[] = {told, 0, 8, 23, 24, 25, told - 1, told + 1, 100};
+    static const uint64_t numbers[] = {1, 2, UINT64_MAX};
     struct one_case c = case_of(s);
     struct outcome other;
-    size_t i, k, last = s->kind == HUB_IN_STORE ? 1 : 3;
+    size_t i, k, last = s->kind != 0 || s->named != 0 ? 3 : 1;
     for (i = 0; i < sizeof reports / sizeof *reports; i++) {
         for (k = 0; k < last; k++) {
             c.report = reports[i];
-            c.kind = s->kind == HUB_IN_STORE ? HUB_IN_STORE : kinds[k];
+            c.kind = s->kind == 0 ? 0 : numbers[k];
+            c.named = s->named == 0 ? 0 : numbers[k];
             if (!agree(&c, i + k == 0 ? o : &other)) {
                 return 0;
             }

@@ -40,11 +40,11 @@ static void set_id(struct choice *choice, unsigned operation, const struct name 
 static int read_type(struct input *in, unsigned operation, struct choice *choice) {
     struct header h;
     uint64_t type;
-    if (!need_start(in, &h, FILTER, FILTER_TYPE, PLAIN)) {
+    if (!need_start(in, &h, FILTER, FILTER_TYPE, PLAIN, REQUEST_PADDING)) {
         return 0;
     }
     begin_run(in, h.length);
-    if (!read_compact(in, &type) || !end_run(in)) {
+    if (!read_number(in, &type, REQUEST_PADDING) || !end_run(in)) {
         return 0;
     }
     set_type(choice, operation, type);
@@ -54,11 +54,11 @@ static int read_type(struct input *in, unsigned operation, struct choice *choice
 static int read_ids(struct input *in, unsigned operation, struct choice *choice) {
     struct header h;
     uint64_t count, i;
-    if (!need_start(in, &h, FILTER, FILTER_IDS, PLAIN)) {
+    if (!need_start(in, &h, FILTER, FILTER_IDS, PLAIN, REQUEST_PADDING)) {
         return 0;
     }
     begin_run(in, h.length);
-    if (!read_compact(in, &count)) {
+    if (!read_number(in, &count, REQUEST_PADDING)) {
         return 0;
     }
     for (i = 0; i < count; i++) {
@@ -97,7 +97,7 @@ int read_filter(struct input *in, struct header *h, unsigned before, struct choi
     if (before == MOST_FILTERS) {
         return refuse(in, TOO_MANY, h->place);
     }
-    if (!true_length(in, h)) {
+    if (!true_length(in, h, REQUEST_PADDING)) {
         return 0;
     }
     begin_run(in, h->length);

@@ -17,7 +17,8 @@ void begin_choice(struct choice *choice, const struct store *store);
 
 struct header;
 
-/* One filter behind its header, which was read; `before` filters came before it. */
+/* One filter behind its header, which was read; `before` filters came before it. Filters are a request's, so that padding is
+   refused. */
 int read_filter(struct input *in, struct header *h, unsigned before, struct choice *choice);
 
 #endif

@@ -1,5 +1,5 @@
-/* An input that is read from left to right, and the refusals by their numbers in document 01. A reader answers 1, or 0 when the
-   input has got its fault: number and place. The first fault stays, since nobody reads on behind it. */
+/* An input that is read from left to right, and the refusals by their numbers in documents 01 and 02. A reader answers 1, or 0 when
+   the input has got its fault: number and place. The first fault stays, since nobody reads on behind it. */
 #ifndef PEER_INPUT_H
 #define PEER_INPUT_H
 
@@ -20,7 +20,9 @@ enum {
     SEEN_BEFORE = 11,
     FROM_ABOVE_TO = 12,
     TABLE_TOO_SHORT = 13,
-    OUTPUT_TOO_SHORT = 14
+    OUTPUT_TOO_SHORT = 14,
+    OTHER_INDEX = 15,
+    NO_SERIAL_LEFT = 16
 };
 
 #define LONGEST_INPUT 16777216u

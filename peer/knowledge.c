@@ -8,10 +8,11 @@
 /* 327A35F6-0761-4414-9686-51E900667A4D as it is sent, the first byte highest. */
 static const struct guid cell_kind = {0xF6357A3261071444u, 0x968651E900667A4Du};
 
-/* Where the ranges go, and how many ranges and entries there were. */
+/* Where the ranges go, how many ranges and entries there were, and whether numbers may be padded. */
 struct reading {
     struct ranges *set;
     unsigned count;
+    enum padding padding;
 };
 
 static void take(struct reading *reading, const struct range *range) {
@@ -23,11 +24,11 @@ static void take(struct reading *reading, const struct range *range) {
 static int read_range(struct input *in, struct reading *reading) {
     struct range range;
     size_t place;
-    if (!read_guid(in, &range.guid) || !read_compact(in, &range.from)) {
+    if (!read_guid(in, &range.guid) || !read_number(in, &range.from, reading->padding)) {
         return 0;
     }
     place = in->at;
-    if (!read_compact(in, &range.to)) {
+    if (!read_number(in, &range.to, reading->padding)) {
         return 0;
     }
     if (range.from > range.to) {
@@ -68,7 +69,7 @@ static int read_cells(struct input *in, struct reading *reading) {
             return refuse(in, TOO_MANY, h.place);
         }
         reading->count++;
-        if (!true_length(in, &h)) {
+        if (!true_length(in, &h, reading->padding)) {
             return 0;
         }
         begin_run(in, h.length);
@@ -83,20 +84,22 @@ static int read_specialized(struct input *in, struct header *h, unsigned most, s
     if (!is_start(h, SPECIALIZED, COMPOUND)) {
         return refuse(in, WRONG_LAYOUT, h->place);
     }
-    if (!fixed_length(in, h, 16) || !read_guid(in, &kind)) {
+    if (!fixed_length(in, h, 16, reading->padding) || !read_guid(in, &kind)) {
         return 0;
     }
     if (!same_guid(kind, cell_kind)) {
-        return pass_inside(in, SPECIALIZED, 4, most);
+        return pass_inside(in, SPECIALIZED, 4, most, reading->padding);
     }
-    return need_fixed_start(in, SPECIALIZED, CELL_KNOWLEDGE, COMPOUND, 0) && read_cells(in, reading) &&
+    return need_fixed_start(in, SPECIALIZED, CELL_KNOWLEDGE, COMPOUND, 0, reading->padding) && read_cells(in, reading) &&
            need_end(in, SPECIALIZED);
 }
 
-int read_knowledge(struct input *in, struct header *h, unsigned most, struct ranges *set) {
-    struct reading reading = {NULL, 0};
+int read_knowledge(struct input *in, struct header *h, unsigned most, struct ranges *set, enum padding padding) {
+    struct reading reading;
     reading.set = set;
-    if (!fixed_length(in, h, 0)) {
+    reading.count = 0;
+    reading.padding = padding;
+    if (!fixed_length(in, h, 0, padding)) {
         return 0;
     }
     for (;;) {
@@ -113,16 +116,27 @@ int read_knowledge(struct input *in, struct header *h, unsigned most, struct ran
     }
 }
 
-int need_knowledge(struct input *in, unsigned open, unsigned most, struct ranges *set) {
+int need_knowledge(struct input *in, unsigned open, unsigned most, struct ranges *set, enum padding padding) {
     struct header h;
-    if (!next_header(in, &h, open)) {
-        return 0;
-    }
-    return is_start(&h, KNOWLEDGE, COMPOUND) ? read_knowledge(in, &h, most, set) : refuse(in, WRONG_LAYOUT, h.place);
+    return expected_start(in, &h, open, KNOWLEDGE, COMPOUND) && read_knowledge(in, &h, most, set, padding);
 }
 
 unsigned range_length(uint64_t from, uint64_t to) {
     return 18 + compact_length(from) + compact_length(to);
+}
+
+uint64_t ranges_length(const struct ranges *set) {
+    uint64_t n = 0;
+    unsigned i;
+    for (i = 0; i < set->count; i++) {
+        n += range_length(set->rows[i].from, set->rows[i].to);
+    }
+    return n;
+}
+
+/* Without a range nothing stands between the start of two bytes and the end. */
+uint64_t knowledge_length(uint64_t ranges) {
+    return ranges == 0 ? 3 : KNOWLEDGE_AROUND + ranges;
 }
 
 static uint8_t *put_range(uint8_t *p, const struct range *range) {

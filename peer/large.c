@@ -22,20 +22,26 @@ static void hold_length(const struct text *t, size_t whole) {
     }
 }
 
-/* A package of n elements with so many bytes inside each, in an input of exactly `whole` bytes: the last takes up what is left. */
-static void fill_package(struct text *t, size_t whole, unsigned n, size_t inside) {
+/* A package of n elements with so many bytes inside each, in an input of exactly `whole` bytes: the last takes up what is left.
+   They have serial numbers by turns out of so many. */
+static void fill_package_in(struct text *t, size_t whole, unsigned n, size_t inside, unsigned groups) {
     unsigned i;
     struct text last = {0};
     plain_start(t, 0x15, 1, 1);
     text_byte(t, 0);
     for (i = 0; i + 1 < n; i++) {
-        plain_element(t, i, 5, inside);
+        plain_element_under(t, i, i % groups, 5, inside);
     }
-    plain_element(&last, i, 1, 0);
-    plain_element(t, i, 1, data_in(whole - t->length - 1 - last.length));
+    plain_element_under(&last, i, i % groups, 1, 0);
+    plain_element_under(t, i, i % groups, 1, data_in(whole - t->length - 1 - last.length));
     text_free(&last);
     plain_end(t, 0x15);
     hold_length(t, whole);
+}
+
+/* Each has one of its own. */
+static void fill_package(struct text *t, size_t whole, unsigned n, size_t inside) {
+    fill_package_in(t, whole, n, inside, n);
 }
 
 static void begin_case(struct one_case *c, enum call call, size_t room) {
@@ -44,7 +50,12 @@ static void begin_case(struct one_case *c, enum call call, size_t room) {
     c->id = 1;
     c->limit = UINT64_MAX;
     c->position = 0;
+    c->named = c->number = 0;
+    c->guid[0] = 0x5E; /* that of the serial numbers of plain elements */
+    c->guid[1] = 0;
     c->room = room;
+    c->offered = 0;
+    c->new_room = 0;
     c->report = 24;
     text_clear(&c->first);
     text_clear(&c->second);
@@ -55,7 +66,7 @@ static void large_stores(struct one_case *c, void (*run)(const struct one_case *
     unsigned n, longer;
     for (n = 1; n <= 256; n += 255) {
         for (longer = 0; longer < 2; longer++) {
-            begin_case(c, ANSWER, LARGEST_CASE);
+            begin_case(c, WRITE, LARGEST_CASE);
             fill_package(&c->first, LONGEST + longer, n, 65000);
             plain_request(&c->second, 0, NULL);
             run(c);
@@ -65,8 +76,11 @@ static void large_stores(struct one_case *c, void (*run)(const struct one_case *
             run(c);
             c->room = LONGEST - 66000;
             run(c);
-            c->call = FIND;
+            c->call = LENGTH;
             c->room = 0;
+            c->offered = UINT64_MAX;
+            run(c);
+            c->call = FIND;
             c->position = n - 1;
             text_clear(&c->second);
             run(c);
@@ -76,9 +90,30 @@ static void large_stores(struct one_case *c, void (*run)(const struct one_case *
     }
 }
 
+/* Stores of 256 elements in one group and in two under a limit of one byte, and in 128 under none: with outputs that hold all, as
+   much as the first group needs, and one byte less. */
+static void large_groups(struct one_case *c, void (*run)(const struct one_case *)) {
+    static const unsigned groups[] = {1, 2, 128};
+    struct text limit = {0};
+    unsigned i;
+    plain_start(&limit, 0x59, 0, 1);
+    plain_compact(&limit, 1);
+    for (i = 0; i < 3; i++) {
+        begin_case(c, WRITE, LARGEST_CASE);
+        fill_package_in(&c->first, LONGEST, 256, 65000, groups[i]);
+        plain_request(&c->second, 0, i == 2 ? NULL : &limit);
+        run(c);
+        c->room = room_needed(c);
+        run(c);
+        c->room--;
+        run(c);
+    }
+    text_free(&limit);
+}
+
 /* A run of as many tiny objects as there is room for. */
 static void many_objects(struct one_case *c, void (*run)(const struct one_case *)) {
-    begin_case(c, ANSWER, 4096);
+    begin_case(c, WRITE, 4096);
     plain_start(&c->first, 0x15, 1, 1);
     text_byte(&c->first, 0);
     plain_element(&c->first, 1, 5, 0);
@@ -101,7 +136,7 @@ static void large_requests(struct one_case *c, void (*run)(const struct one_case
     unsigned longer;
     for (longer = 0; longer < 2; longer++) {
         struct text small = {0};
-        begin_case(c, ANSWER, 4096);
+        begin_case(c, WRITE, 4096);
         plain_start(&c->first, 0x15, 1, 1);
         text_byte(&c->first, 0);
         plain_element(&c->first, 1, 1, 0);
@@ -157,26 +192,107 @@ static void large_asks(struct one_case *c, void (*run)(const struct one_case *))
     run(c);
 }
 
-/* Answers of the greatest length that is read, and one byte longer. */
-static void large_answers(struct one_case *c, void (*run)(const struct one_case *)) {
+/* New stores of the greatest length and one byte longer: a full store of which the put replaces the first element, by one of so
+   many bytes more. Both buffers exact, and each one byte too short. */
+static void large_new_stores(struct one_case *c, void (*run)(const struct one_case *)) {
+    static const struct made_name index = {{0x1D}, 255}; /* of the last element */
+    size_t longer;
+    begin_case(c, PUT, LARGEST_CASE);
+    fill_package(&c->first, LONGEST, 256, 65000);
+    for (longer = 0; longer < 2; longer++) {
+        struct text element = {0};
+        text_clear(&c->second);
+        plain_element(&element, 0, 5, 65000 + longer);
+        plain_put(&c->second, &index, &element);
+        text_free(&element);
+        c->report = 32;
+        c->new_room = LARGEST_CASE;
+        run(c);
+        c->room = room_needed(c);
+        c->new_room = new_room_needed(c);
+        run(c);
+        c->room = c->room > 0 ? c->room - 1 : 0;
+        run(c);
+        c->new_room = c->new_room > 0 ? c->new_room - 1 : 0;
+        run(c);
+    }
+}
+
+/* One element that takes so many bytes. */
+static void fill_element(struct text *t, size_t whole) {
+    struct text small = {0};
+    plain_element(&small, 1, 5, 0);
+    plain_element(t, 1, 5, data_in(whole - small.length));
+    hold_length(t, whole);
+    text_free(&small);
+}
+
+/* Puts of the greatest length and one byte longer, whole and cut, into an empty store. */
+static void large_puts(struct one_case *c, void (*run)(const struct one_case *)) {
+    static const struct text none;
+    struct text small = {0}, element = {0};
+    unsigned longer;
+    plain_put(&small, NULL, &none);
+    for (longer = 0; longer < 2; longer++) {
+        begin_case(c, PUT, 4096);
+        plain_start(&c->first, 0x15, 1, 1);
+        text_byte(&c->first, 0);
+        plain_end(&c->first, 0x15);
+        text_clear(&element);
+        fill_element(&element, LONGEST + longer - small.length);
+        plain_put(&c->second, NULL, &element);
+        hold_length(&c->second, LONGEST + longer);
+        c->new_room = LONGEST;
+        run(c);
+        c->second.length--;
+        run(c);
+    }
+    text_free(&small);
+    text_free(&element);
+}
+
+/* Puts that would be of the greatest length, and longer; elements that are too long by themselves. */
+static void large_put_asks(struct one_case *c, void (*run)(const struct one_case *)) {
+    unsigned longer;
+    for (longer = 0; longer < 2; longer++) {
+        begin_case(c, ASK_PUT, LONGEST);
+        fill_element(&c->first, LONGEST - 44 + longer); /* around no elements a put has 44 bytes */
+        run(c);
+        c->room = 44;
+        run(c);
+        begin_case(c, ASK_PUT, 100);
+        fill_element(&c->first, LONGEST + longer);
+        run(c);
+    }
+}
+
+/* One answer that is read, one of its elements, and the answer without its last byte. */
+static void run_answer(struct one_case *c, enum call call, void (*run)(const struct one_case *)) {
+    run(c);
+    c->call = FIND;
+    c->kind = 1;
+    c->position = 39;
+    run(c);
+    c->call = call;
+    c->first.length--;
+    run(c);
+}
+
+/* Answers of the greatest length that is read, and one byte longer: to a request, or to a put. */
+static void large_answers(struct one_case *c, enum call call, void (*plain)(struct text *, const struct text *),
+                          void (*run)(const struct one_case *)) {
     static const struct text none;
     struct text around = {0}, package = {0};
     unsigned longer;
-    plain_answer(&around, &none);
+    plain(&around, &none);
     for (longer = 0; longer < 2; longer++) {
-        begin_case(c, READ, 0);
+        begin_case(c, call, 0);
         text_clear(&package);
         fill_package(&package, LONGEST_ANSWER + longer - around.length, 40, 400000);
-        plain_answer(&c->first, &package);
+        plain(&c->first, &package);
         hold_length(&c->first, LONGEST_ANSWER + longer);
         c->report = 88;
-        run(c);
-        c->call = FIND;
-        c->kind = 1;
-        c->position = 39;
-        run(c);
-        c->first.length--;
-        run(c);
+        run_answer(c, call, run);
     }
     text_free(&around);
     text_free(&package);
@@ -186,10 +302,15 @@ void large_cases(void (*run)(const struct one_case *)) {
     struct one_case c;
     memset(&c, 0, sizeof c);
     large_stores(&c, run);
+    large_groups(&c, run);
     many_objects(&c, run);
     large_requests(&c, run);
     large_asks(&c, run);
-    large_answers(&c, run);
+    large_answers(&c, READ, plain_answer, run);
+    large_new_stores(&c, run);
+    large_puts(&c, run);
+    large_put_asks(&c, run);
+    large_answers(&c, READ_PUT, plain_put_answer, run);
     text_free(&c.first);
     text_free(&c.second);
 }

@@ -10,11 +10,13 @@
 void compact_line(const struct given *g, struct text *told) {
     struct input in;
     uint64_t value;
-    if (!is_read(begin_bytes(&in, g, 0) && read_compact(&in, &value), told, &in, 0)) {
+    int padded;
+    if (!is_read(begin_bytes(&in, g, 0) && read_compact(&in, &value, &padded), told, &in, 0)) {
         return;
     }
     spell_number(told, "ok ", value);
     spell_number(told, " ", in.at);
+    spell_number(told, " ", (uint64_t)padded);
 }
 
 /* A name that is read by this reader; null has a zero GUID and 0. */
@@ -53,7 +55,7 @@ void header_line(const struct given *g, struct text *told) {
         return;
     }
     bytes = in.at;
-    if (!is_read(true_length(&in, &h), told, &in, 0)) {
+    if (!is_read(true_length(&in, &h, HEADER_PADDING), told, &in, 0)) {
         return;
     }
     spell_number(told, h.start ? "ok start" : "ok end", 8 * bytes);

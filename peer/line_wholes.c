@@ -18,10 +18,12 @@ static int reads_store(const struct given *g, struct text *told) {
 
 void store_line(const struct given *g, struct text *told) {
     uint64_t rows[ROWS_NEEDED];
+    struct order order;
     if (!reads_store(g, told)) {
         return;
     }
-    put_rows(rows, &elements);
+    order_rows(&order, &elements);
+    put_rows(rows, &elements, &order);
     spell_number(told, "ok ", elements.count);
     spell_rows(told, rows, elements.count, ROW_NUMBERS);
 }
@@ -32,12 +34,14 @@ static void spell_ranges(struct text *told, const struct ranges *set) {
     spell_rows(told, rows, set->count, RANGE_NUMBERS);
 }
 
-/* The knowledge that is given first, read as in an open sub-request; bytes may follow it. Its bytes, or 0 if its fault is
-   spelled. */
+/* The knowledge that is given first, read as in an open sub-request, without padding; bytes may follow it. Its bytes, or 0 if its
+   fault is spelled. */
 static size_t reads_knowledge(const struct given *g, struct text *told, struct ranges *set) {
     struct input in;
+    int good;
     set->count = 0;
-    return is_read(begin_bytes(&in, g, 0) && need_knowledge(&in, SUB_REQUEST, DEPTH, set), told, &in, 0) ? in.at : 0;
+    good = begin_bytes(&in, g, 0) && need_knowledge(&in, SUB_REQUEST, DEPTH, set, REQUEST_PADDING);
+    return is_read(good, told, &in, 0) ? in.at : 0;
 }
 
 void knowledge_line(const struct given *g, struct text *told) {

@@ -22,7 +22,7 @@ static const struct kind kinds[] = {
     {"wcompact", wcompact_line, {ANY_NUMBER, FOR_ITEM}},
     {"wexguid", wexguid_line, {GUID, NUMBER_32, FOR_ITEM}},
     {"wserial", wserial_line, {GUID, ANY_NUMBER, FOR_ITEM}},
-    {"wstart", wstart_line, {ANY_NUMBER, COMPOUND_BIT, ANY_NUMBER, FOR_ITEM}},
+    {"wstart", wstart_line, {ANY_NUMBER, ZERO_OR_ONE, ANY_NUMBER, FOR_ITEM}},
     {"wend", wend_line, {ANY_NUMBER, FOR_ITEM}},
     {"store", store_line, {BYTES}},
     {"element", element_line, {BYTES, ANY_NUMBER}},
@@ -31,10 +31,14 @@ static const struct kind kinds[] = {
     {"known", known_line, {BYTES, GUID, ANY_NUMBER}},
     {"chosen", chosen_line, {BYTES, BYTES}},
     {"request", request_line, {BYTES}},
-    {"answer", answer_line, {BYTES, BYTES, FOR_ANSWER, FOR_TABLE, FOR_TABLE}},
+    {"length", length_line, {BYTES, BYTES, ANY_NUMBER, FOR_TABLE, FOR_TABLE}},
+    {"write", write_line, {BYTES, BYTES, FOR_ANSWER, FOR_TABLE, FOR_TABLE}},
     {"ask", ask_line, {ANY_NUMBER, ANY_NUMBER, BYTES, BYTES, FOR_REQUEST}},
     {"read", read_line, {BYTES}},
     {"received", received_line, {BYTES, ANY_NUMBER}},
+    {"put", put_line, {BYTES, BYTES, GUID, FOR_ANSWER, FOR_ANSWER}},
+    {"ask_put", ask_put_line, {ANY_NUMBER, ZERO_OR_ONE, GUID, NUMBER_32, BYTES, FOR_REQUEST}},
+    {"read_put", read_put_line, {BYTES}},
 };
 
 /* The kind with this name, or NULL. */
@@ -75,6 +79,7 @@ int main(void) {
     size_t n = fread(input, 1, sizeof input, stdin);
     begin_words();
     begin_calls();
+    begin_puts();
     if (n == sizeof input) {
         spell_words(&told, "the input is too long\n");
     } else {

@@ -14,8 +14,12 @@ line_of wcompact_line, wexguid_line, wserial_line, wstart_line, wend_line;
 /* A store, a knowledge and a request, read whole. */
 line_of store_line, knowledge_line, rewritten_line, known_line, chosen_line, request_line;
 
-/* The calls of peer.h. */
+/* The calls of peer.h but the one that takes a put. */
 void begin_calls(void);
-line_of answer_line, ask_line, read_line, element_line, received_line;
+line_of length_line, write_line, ask_line, read_line, element_line, received_line, ask_put_line, read_put_line;
+
+/* That one. */
+void begin_puts(void);
+line_of put_line;
 
 #endif

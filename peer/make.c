@@ -1,11 +1,11 @@
-/* Stores, filters and knowledges, made of decisions, in all forms that document 01 takes. */
+/* Stores, filters and knowledges, made of decisions, in all forms that are taken: in a store numbers may be padded. */
 #include "make_inner.h"
 
 #include <string.h>
 
 /* ---- stores */
 
-static int used(const struct made_name *names, unsigned count, const struct made_name *name) {
+int used(const struct made_name *names, unsigned count, const struct made_name *name) {
     unsigned i;
     for (i = 0; i < count; i++) {
         if (names[i].number == name->number && memcmp(names[i].guid, name->guid, 16) == 0) {
@@ -37,12 +37,13 @@ void some_serial(struct maker *m, struct made_name *serial) {
     } else {
         some_guid(&m->luck, serial->guid);
         serial->number = luck_one_in(&m->luck, 2) ? luck_below(&m->luck, 30) : luck_number(&m->luck);
+        serial->number = m->high ? UINT64_MAX - serial->number % 8 : serial->number;
     }
 }
 
-/* A new id and a new serial number for the next element. */
+/* A new id for the next element, and a serial number, which others may have too. */
 static void new_names(struct maker *m) {
-    struct made_name *id = &m->ids[m->elements], *serial = &m->serials[m->elements];
+    struct made_name *id = &m->ids[m->elements];
     do {
         if (m->elements > 0 && luck_one_in(&m->luck, 5)) {
             *id = m->ids[luck_below(&m->luck, m->elements)];
@@ -52,31 +53,36 @@ static void new_names(struct maker *m) {
             id->number = m->scale == 2 ? m->elements + 20 : luck_number(&m->luck) & UINT32_MAX;
         }
     } while (used(m->ids, m->elements, id));
-    do {
-        some_serial(m, serial);
-    } while (used(m->serials, m->elements, serial));
-    m->types[m->elements] = luck_one_in(&m->luck, 8) ? luck_number(&m->luck) : luck_below(&m->luck, 6);
+    next_serial(m, &m->serials[m->elements]);
+    m->types[m->elements] = next_type(m);
+}
+
+size_t make_named(struct maker *m, struct text *t, const struct made_name *id, const struct made_name *serial, uint64_t type,
+                  unsigned levels) {
+    struct text data = {0};
+    size_t inside;
+    make_extended(m, &data, id);
+    if (serial == NULL) {
+        text_byte(&data, 0);
+    } else {
+        make_serial(m, &data, serial);
+    }
+    make_compact(m, &data, type);
+    make_object(m, t, 0x01, 1, &data);
+    inside = t->length;
+    make_nested(m, t, levels);
+    make_end(m, t, 0x01);
+    return inside;
 }
 
 static void make_element(struct maker *m, struct text *t) {
     unsigned i = m->elements;
-    struct text data = {0};
     m->places[i] = t->length;
     new_names(m);
     if (spoils(m) && i > 0) { /* seen before */
-        unsigned other = (unsigned)luck_below(&m->wrong, i);
-        if (luck_one_in(&m->wrong, 2)) {
-            m->ids[i] = m->ids[other];
-        } else {
-            m->serials[i] = m->serials[other];
-        }
+        m->ids[i] = m->ids[luck_below(&m->wrong, i)];
     }
-    make_extended(m, &data, &m->ids[i]);
-    make_serial(m, &data, &m->serials[i]);
-    make_compact(m, &data, m->types[i]);
-    make_object(m, t, 0x01, 1, &data);
-    make_nested(m, t, 14);
-    make_end(m, t, 0x01);
+    make_named(m, t, &m->ids[i], &m->serials[i], m->types[i], 14);
     m->lengths[i] = t->length - m->places[i];
     m->elements++;
 }
@@ -91,6 +97,8 @@ void make_package(struct maker *m, struct text *t) {
     if (spoils(m) && m->scale == 2) {
         n++;
     }
+    begin_types(m, n);
+    begin_serials(m, n);
     text_byte(&data, luck_one_in(&m->luck, 3) ? (unsigned)luck_below(&m->luck, 256) : 0);
     make_object(m, t, 0x15, 1, &data);
     for (; n > 0; n--) {
@@ -110,15 +118,17 @@ void make_last(struct maker *m, struct text *t) {
 
 void make_store(struct maker *m, struct text *t) {
     size_t from = t->length;
+    m->pads = 1;
     make_package(m, t);
     part_made(m, t, from);
     make_last(m, t);
+    m->pads = 0;
 }
 
 /* ---- filters */
 
 /* An id of the store, or any. */
-static void some_id(struct maker *m, struct made_name *id, int stored) {
+void some_id(struct maker *m, struct made_name *id, int stored) {
     if (stored) {
         *id = m->ids[luck_below(&m->luck, m->elements)];
     } else {
@@ -148,10 +158,9 @@ static void make_ids(struct maker *m, struct text *data, struct made_filter *f) 
     }
 }
 
-void make_filter(struct maker *m, struct text *t) {
-    static const unsigned kinds[] = {1, 2, 2, 6, 6};
-    unsigned kind = kinds[luck_below(&m->luck, 5)], operation = (unsigned)luck_below(&m->luck, 2);
-    struct text data = {0}, inner = {0};
+/* A filter's start, with its kind and its operation. */
+static struct made_filter *begin_filter(struct maker *m, struct text *t, unsigned kind, unsigned operation) {
+    struct text data = {0};
     struct made_filter *f = &m->filter[m->filters < MOST_MADE_FILTERS - 1 ? m->filters++ : MOST_MADE_FILTERS - 1];
     int other_kind = spoils(m), other_operation = spoils(m);
     f->kind = kind;
@@ -160,6 +169,14 @@ void make_filter(struct maker *m, struct text *t) {
     text_byte(&data, other_kind ? (unsigned)luck_below(&m->wrong, 9) : kind);
     text_byte(&data, other_operation ? (unsigned)luck_below(&m->wrong, 256) : operation);
     make_object(m, t, 0x47, 1, &data);
+    return f;
+}
+
+void make_filter(struct maker *m, struct text *t) {
+    static const unsigned kinds[] = {1, 2, 2, 6, 6};
+    unsigned kind = kinds[luck_below(&m->luck, 5)], operation = (unsigned)luck_below(&m->luck, 2);
+    struct made_filter *f = begin_filter(m, t, kind, operation);
+    struct text inner = {0};
     if (kind == 2) {
         f->type = m->elements > 0 && !luck_one_in(&m->luck, 4) ? m->types[luck_below(&m->luck, m->elements)]
                                                                : luck_number(&m->luck);
@@ -172,6 +189,22 @@ void make_filter(struct maker *m, struct text *t) {
     make_end(m, t, 0x47);
 }
 
+/* All are put out, and one is let in again, or the other way: of a group the first member, the last or any between. */
+static void make_filters_for_one(struct maker *m, struct text *t) {
+    unsigned operation = luck_one_in(&m->luck, 4);
+    struct made_filter *f;
+    struct text inner = {0};
+    begin_filter(m, t, 1, operation);
+    make_end(m, t, 0x47);
+    f = begin_filter(m, t, 6, !operation);
+    make_compact(m, &inner, 1);
+    some_id(m, &f->ids[f->count], 1);
+    make_extended(m, &inner, &f->ids[f->count]);
+    f->count++;
+    make_object(m, t, 0x54, 0, &inner);
+    make_end(m, t, 0x47);
+}
+
 void make_filters(struct maker *m, struct text *t) {
     unsigned n = (unsigned)(luck_one_in(&m->luck, 2) ? 0 : luck_below(&m->luck, 4));
     if (m->scale > 0 && luck_one_in(&m->luck, 3)) {
@@ -181,6 +214,9 @@ void make_filters(struct maker *m, struct text *t) {
         n += m->scale > 0 ? 1 : 15;
     }
     m->filters = 0;
+    if (m->elements > 0 && n == 0 && luck_one_in(&m->luck, 3)) {
+        make_filters_for_one(m, t);
+    }
     for (; n > 0; n--) {
         size_t from = t->length;
         make_filter(m, t);

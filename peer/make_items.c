@@ -5,11 +5,12 @@
 
 void begin_making(struct maker *m, uint64_t seed, uint32_t spoiled) {
     m->decisions = 0;
-    m->elements = m->filters = m->said = m->ranges = 0;
+    m->elements = m->filters = m->said = m->ranges = m->entering.count = 0;
     m->luck = luck_from(seed);
     m->wrong = luck_from(seed ^ 0x5BD1E9955BD1E995u ^ spoiled);
     m->spoiled = spoiled;
     m->scale = luck_one_in(&m->luck, 400) ? 2 : luck_one_in(&m->luck, 12) ? 1 : 0;
+    m->pads = m->high = 0;
 }
 
 /* A decision: whether it is the one that is spoiled. */
@@ -48,7 +49,18 @@ void plain_compact(struct text *t, uint64_t x) {
     }
 }
 
-/* In a longer form, another number, half of it, in the form of no number, or none. */
+/* In one of the forms longer than its own, each as often; as it is where there is none. Of one byte 0 has two. */
+static void padded_compact(struct luck *l, struct text *t, uint64_t x) {
+    unsigned n = x == 0 ? 0 : bytes_for(x);
+    if (n < 9) {
+        n += 1 + (unsigned)luck_below(l, 8 - n);
+        n = n == 8 ? 9 : n;
+    }
+    compact_of(t, x, n);
+}
+
+/* In a longer form, if there is one; another number; one byte, which is a number or begins one that takes in what follows; or
+   none. */
 static void wrong_compact(struct maker *m, struct text *t, uint64_t x) {
     unsigned n = bytes_for(x);
     switch (luck_below(&m->wrong, 7)) {
@@ -75,9 +87,18 @@ static void wrong_compact(struct maker *m, struct text *t, uint64_t x) {
     }
 }
 
+/* A decision of its own where padding is wrong: that the next number, or a true length behind the next start, is not padded. */
+static int pads_wrongly(struct maker *m) {
+    return !m->pads && spoils(m);
+}
+
 void make_compact(struct maker *m, struct text *t, uint64_t x) {
     if (spoils(m)) {
         wrong_compact(m, t, x);
+    } else if (pads_wrongly(m)) {
+        padded_compact(&m->wrong, t, x);
+    } else if (m->pads && luck_one_in(&m->luck, 4)) {
+        padded_compact(&m->luck, t, x);
     } else {
         plain_compact(t, x);
     }
@@ -185,17 +206,30 @@ void plain_start(struct text *t, unsigned type, unsigned compound, uint64_t leng
     }
 }
 
+/* With the true length behind it, which is still to be put there. */
+static void escaped_start(struct text *t, unsigned type, unsigned compound) {
+    text_little(t, 2 | compound << 2 | type << 3 | (uint64_t)32767 << 17, 4);
+}
+
 /* With the true length behind it, which may be short. */
 static void long_start(struct text *t, unsigned type, unsigned compound, uint64_t length) {
-    text_little(t, 2 | compound << 2 | type << 3 | (uint64_t)32767 << 17, 4);
+    escaped_start(t, type, compound);
     plain_compact(t, length);
 }
 
-/* In any of the forms that are taken. */
-static void any_start(struct luck *l, struct text *t, unsigned type, unsigned compound, uint64_t length) {
+/* And with one that is padded. */
+static void padded_start(struct luck *l, struct text *t, unsigned type, unsigned compound, uint64_t length) {
+    escaped_start(t, type, compound);
+    padded_compact(l, t, length);
+}
+
+/* In any of the forms that are taken; the luck is the maker's own, or that of its wrong decisions. */
+static void any_start(const struct maker *m, struct luck *l, struct text *t, unsigned type, unsigned compound, uint64_t length) {
     unsigned form = (unsigned)luck_below(l, 16);
     if (form == 0) {
         long_start(t, type, compound, length);
+    } else if (form == 1 && m->pads) {
+        padded_start(l, t, type, compound, length);
     } else if (form < 4 && length < 32767) {
         text_little(t, 2 | compound << 2 | type << 3 | length << 17, 4);
     } else {
@@ -213,7 +247,8 @@ void plain_end(struct text *t, unsigned type) {
 
 static unsigned some_type(struct luck *l) {
     static const unsigned types[] = {0x01, 0x0F, 0x10, 0x14, 0x15, 0x17, 0x40, 0x41, 0x42, 0x44, 0x47, 0x51, 0x54, 0x57,
-                                     0x59, 0x5B, 0x5D, 0x5F, 0x62, 0x68, 0x88, 0x8D, 0x83, 0x30, 0x00, 0x3F, 0x3FFF};
+                                     0x59, 0x5A, 0x5B, 0x5D, 0x5F, 0x62, 0x68, 0x85, 0x86, 0x88, 0x8A, 0x8D, 0x83, 0x30,
+                                     0x00, 0x3F, 0x3FFF};
     return types[luck_below(l, sizeof types / sizeof *types)];
 }
 
@@ -236,31 +271,34 @@ static void no_start(struct luck *l, struct text *t, unsigned type) {
 
 static void wrong_start(struct maker *m, struct text *t, unsigned type, unsigned compound, uint64_t length) {
     struct luck *l = &m->wrong;
-    switch (luck_below(l, 12)) {
+    switch (luck_below(l, 13)) {
     case 0:
-        any_start(l, t, type, !compound, length);
+        any_start(m, l, t, type, !compound, length);
         break;
     case 1:
-        any_start(l, t, some_type(l), compound, length);
+        any_start(m, l, t, some_type(l), compound, length);
         break;
     case 2:
-        any_start(l, t, type ^ 1u << luck_below(l, 14), compound, length);
+        any_start(m, l, t, type ^ 1u << luck_below(l, 14), compound, length);
         break;
     case 3:
-        any_start(l, t, type, compound, length + 1);
+        any_start(m, l, t, type, compound, length + 1);
         break;
     case 4:
-        any_start(l, t, type, compound, length - 1); /* 2^64-1 where there was none */
+        any_start(m, l, t, type, compound, length - 1); /* 2^64-1 where there was none */
         break;
     case 5:
-        any_start(l, t, type, compound, luck_number(l));
+        any_start(m, l, t, type, compound, luck_number(l));
         break;
-    case 6: /* the true length in a form that has it not, or cut */
-        text_little(t, 2 | compound << 2 | type << 3 | (uint64_t)32767 << 17, 4);
+    case 6: /* the true length as a wrong number: padded, another, one byte, or none */
+        escaped_start(t, type, compound);
         wrong_compact(m, t, length);
         break;
     case 7: /* a length that is right only if it is cut to 32 bits or to 15 */
         long_start(t, type, compound, length + ((uint64_t)1 << (luck_one_in(l, 2) ? 32 : 15)));
+        break;
+    case 8: /* padded, and another length or another type */
+        padded_start(l, t, luck_one_in(l, 2) ? type : some_type(l), compound, length + luck_below(l, 3) - 1);
         break;
     default:
         no_start(l, t, type);
@@ -271,8 +309,10 @@ static void wrong_start(struct maker *m, struct text *t, unsigned type, unsigned
 void make_start(struct maker *m, struct text *t, unsigned type, unsigned compound, uint64_t length) {
     if (spoils(m)) {
         wrong_start(m, t, type, compound, length);
+    } else if (pads_wrongly(m)) {
+        padded_start(&m->wrong, t, type, compound, length);
     } else {
-        any_start(&m->luck, t, type, compound, length);
+        any_start(m, &m->luck, t, type, compound, length);
     }
 }
 
@@ -289,10 +329,10 @@ static void wrong_end(struct maker *m, struct text *t, unsigned type) {
         plain_end(t, type);
         break;
     case 3:
-        any_start(&m->wrong, t, type, 1, 0);
+        any_start(m, &m->wrong, t, type, 1, 0);
         break;
     case 4:
-        any_start(&m->wrong, t, some_type(&m->wrong), (unsigned)luck_below(&m->wrong, 2), luck_below(&m->wrong, 4));
+        any_start(m, &m->wrong, t, some_type(&m->wrong), (unsigned)luck_below(&m->wrong, 2), luck_below(&m->wrong, 4));
         break;
     case 5:
         any_byte(&m->wrong, t);
@@ -345,11 +385,11 @@ void part_made(struct maker *m, struct text *t, size_t from) {
         break;
     case 2:
         t->length = from;
-        any_start(&m->wrong, t, some_type(&m->wrong), 0, 0);
+        any_start(m, &m->wrong, t, some_type(&m->wrong), 0, 0);
         text_add(t, again.at, again.length);
         break;
     case 3:
-        any_start(&m->wrong, t, some_type(&m->wrong), 0, 0);
+        any_start(m, &m->wrong, t, some_type(&m->wrong), 0, 0);
         break;
     default:
         any_byte(&m->wrong, t);
@@ -383,7 +423,7 @@ static void make_deep(struct maker *m, struct text *t, unsigned levels) {
         levels++;
     }
     for (i = 0; i < levels; i++) {
-        any_start(&m->luck, t, type + i, 1, 0);
+        any_start(m, &m->luck, t, type + i, 1, 0);
     }
     make_start(m, t, type, 0, 0);
     while (i > 0) {

@@ -1,4 +1,5 @@
-/* Requests and answers, made of decisions; and plain ones, in the shortest form and never spoiled. */
+/* Requests and answers, made of decisions; and plain ones, in the shortest form and never spoiled. In a request a padded number is
+   a spoiled one, and in an answer it is none. */
 #include "make_inner.h"
 
 #include <string.h>
@@ -19,15 +20,16 @@ static void make_front(struct maker *m, struct text *t, uint64_t signature) {
     text_little(t, signature, 8);
 }
 
-static uint64_t request_type(struct maker *m) {
-    static const uint64_t others[] = {0, 1, 3, 5, 11, 130, UINT64_MAX};
-    return spoils(m) ? others[luck_below(&m->wrong, 7)] : 2;
+/* The type of a sub-request or a sub-response: 2 for a query, 5 for a put. */
+static uint64_t request_type(struct maker *m, uint64_t right) {
+    static const uint64_t others[] = {0, 1, 3, 2, 5, 11, 130, UINT64_MAX};
+    return spoils(m) ? others[luck_below(&m->wrong, 8)] : right;
 }
 
-static void make_sub_request(struct maker *m, struct text *t) {
+static void make_sub_request(struct maker *m, struct text *t, uint64_t type) {
     struct text data = {0};
     make_compact(m, &data, luck_number(&m->luck));
-    make_compact(m, &data, request_type(m));
+    make_compact(m, &data, request_type(m, type));
     make_compact(m, &data, luck_one_in(&m->luck, 2) ? 0 : luck_number(&m->luck));
     make_object(m, t, 0x42, 1, &data);
 }
@@ -53,15 +55,14 @@ static void make_arguments(struct maker *m, struct text *t) {
     part_made(m, t, from);
 }
 
-/* The length of the store's first few elements, or one more or less; or any number. */
+/* The length of the store's first few groups, or one more or less; or any number. */
 static uint64_t some_limit(struct maker *m) {
-    uint64_t sum = 0, n = m->elements == 0 ? 0 : luck_below(&m->luck, m->elements < 5 ? m->elements + 1 : 6), i;
+    unsigned n = m->elements == 0 ? 0 : (unsigned)luck_below(&m->luck, m->elements < 5 ? m->elements + 1 : 6);
+    uint64_t sum;
     if (luck_one_in(&m->luck, 3)) {
         return luck_number(&m->luck);
     }
-    for (i = 0; i < n; i++) {
-        sum += m->lengths[i];
-    }
+    sum = made_groups_length(m, n);
     return sum + luck_below(&m->luck, 3) - (sum > 0);
 }
 
@@ -118,12 +119,16 @@ static void make_request_package(struct maker *m, struct text *t) {
     part_made(m, t, from);
 }
 
-void make_request(struct maker *m, struct text *t) {
+void make_request_front(struct maker *m, struct text *t, uint64_t type) {
     struct text none = {0};
     make_front(m, t, 0x9B069439F329CF9Cu);
     make_object(m, t, 0x40, 1, &none);
     make_agent(m, t);
-    make_sub_request(m, t);
+    make_sub_request(m, t, type);
+}
+
+void make_request(struct maker *m, struct text *t) {
+    make_request_front(m, t, 2);
     make_arguments(m, t);
     make_optional(m, t);
     make_end(m, t, 0x42);
@@ -134,14 +139,10 @@ void make_request(struct maker *m, struct text *t) {
     make_last(m, t);
 }
 
-static void make_sub_response(struct maker *m, struct text *t) {
-    struct text data = {0}, changes = {0};
+static void make_changes(struct maker *m, struct text *t) {
+    struct text changes = {0};
     struct made_name index;
     size_t from = t->length;
-    make_compact(m, &data, luck_number(&m->luck));
-    make_compact(m, &data, request_type(m));
-    text_byte(&data, (unsigned)luck_below(&m->luck, 128) * 2 + (unsigned)spoils(m));
-    make_object(m, t, 0x41, 1, &data);
     if (luck_one_in(&m->luck, 2)) {
         text_byte(&changes, 0);
     } else {
@@ -152,24 +153,47 @@ static void make_sub_response(struct maker *m, struct text *t) {
     text_byte(&changes, (unsigned)luck_below(&m->luck, 256));
     make_object(m, t, 0x5F, 0, &changes);
     part_made(m, t, from);
+}
+
+/* That a put is answered without 0x5F is a decision too. */
+static void make_sub_response(struct maker *m, struct text *t, uint64_t type) {
+    struct text data = {0};
+    size_t from;
+    make_compact(m, &data, luck_number(&m->luck));
+    make_compact(m, &data, request_type(m, type));
+    text_byte(&data, (unsigned)luck_below(&m->luck, 128) * 2 + (unsigned)spoils(m));
+    make_object(m, t, 0x41, 1, &data);
+    if (type == 2 || spoils(m)) {
+        make_changes(m, t);
+    }
     from = t->length;
     make_knowledge(m, t, 13);
     part_made(m, t, from);
     make_end(m, t, 0x41);
 }
 
-void make_answer(struct maker *m, struct text *t) {
+static void make_answer_to(struct maker *m, struct text *t, uint64_t type) {
     struct text data = {0};
     size_t from;
+    m->pads = 1;
     make_front(m, t, 0x9B069439F329CF9Du);
     text_byte(&data, (unsigned)luck_below(&m->luck, 128) * 2 + (unsigned)spoils(m));
     make_object(m, t, 0x62, 1, &data);
     from = t->length;
     make_package(m, t);
     part_made(m, t, from);
-    make_sub_response(m, t);
+    make_sub_response(m, t, type);
     make_end(m, t, 0x62);
     make_last(m, t);
+    m->pads = 0;
+}
+
+void make_answer(struct maker *m, struct text *t) {
+    make_answer_to(m, t, 2);
+}
+
+void make_put_answer(struct maker *m, struct text *t) {
+    make_answer_to(m, t, 5);
 }
 
 /* ---- a knowledge that is full, or nearly */
@@ -214,23 +238,26 @@ static void full_knowledge(struct maker *m, struct text *t, const struct made_na
     plain_end(t, 0x10);
 }
 
-/* A store whose serial numbers join ranges, make them longer, or are new. */
+/* A store whose serial numbers join ranges, make them longer, or are new; at times an element has that of the one before. */
 void make_full(struct maker *m, struct text *store, struct text *request) {
     struct text parts = {0};
     struct made_name id = {{0x1D}, 0}, serial = {{0x77}, 0};
     unsigned i, n = (unsigned)luck_below(&m->luck, 8) + 1, ranges = 512 - (unsigned)luck_below(&m->luck, 3);
     uint64_t odd = luck_below(&m->luck, 2 * ranges);
+    begin_types(m, n);
     plain_start(store, 0x15, 1, 1);
     text_byte(store, 0);
     for (i = 0; i < n; i++) {
-        int joins = luck_one_in(&m->luck, 2);
+        int joins = luck_one_in(&m->luck, 2), same = i > 0 && luck_one_in(&m->luck, 3);
         id.number = i;
-        serial.guid[1] = joins ? 0 : 9;
-        serial.number = joins ? (odd + 2 * i) % (2 * ranges) | 1 : 3 * i;
+        if (!same) {
+            serial.guid[1] = joins ? 0 : 9;
+            serial.number = joins ? (odd + 2 * i) % (2 * ranges) | 1 : 3 * i;
+        }
         plain_start(store, 0x01, 1, 43);
         extended_of(store, &id, 0);
         serial_of(store, &serial);
-        plain_compact(store, i % 3);
+        plain_compact(store, next_type(m) % 12); /* in one byte */
         plain_end(store, 0x01);
     }
     plain_end(store, 0x15);
@@ -242,39 +269,57 @@ void make_full(struct maker *m, struct text *store, struct text *request) {
 
 /* ---- as many elements as may be, or nearly */
 
-/* 255 to 258 elements, whose names differ in few bits; at times one has the names of another. */
+/* 255 to 258 elements, whose names differ in few bits; at times one has the id of another. Each has a serial number of its own, or
+   they have them by turns out of 128, three or two, or all have one; at times one stands apart. */
 void make_many(struct maker *m, struct text *store) {
-    static const uint64_t steps[] = {1, 2, 256, 4096, 65536};
+    static const uint64_t steps[] = {1, 2, 256, 4096, 65536}, groups[] = {300, 128, 3, 2, 1};
     uint64_t step = steps[luck_below(&m->luck, 5)], n = 255 + luck_below(&m->luck, 4), i;
     uint64_t twice = luck_one_in(&m->luck, 3) ? luck_below(&m->luck, n) : n;
+    uint64_t turns = groups[luck_below(&m->luck, 5)], alone = luck_below(&m->luck, 2 * n);
+    begin_types(m, (unsigned)n);
     plain_start(store, 0x15, 1, 1);
     text_byte(store, 0);
     for (i = 0; i < n; i++) {
-        plain_element(store, (i == twice ? luck_below(&m->luck, i + 1) : i) * step, luck_below(&m->luck, 4), 0);
+        uint64_t id = i == twice ? luck_below(&m->luck, i + 1) : i;
+        plain_element_under(store, id * step, (i == alone ? i : i % turns) * step, next_type(m), 0);
     }
     plain_end(store, 0x15);
 }
 
-/* An answer around a package. */
-void plain_answer(struct text *t, const struct text *package) {
+/* Versions and the response's start, and a package. */
+static void plain_answer_front(struct text *t, const struct text *package) {
     static const uint8_t front[] = {0x0C, 0x00, 0x0B, 0x00, 0x9D, 0xCF, 0x29, 0xF3, 0x39,
                                     0x94, 0x06, 0x9B, 0x16, 0x03, 0x02, 0x00, 0x00};
-    static const uint8_t behind[] = {0x0E, 0x02, 0x06, 0x00, 0x03, 0x05, 0x00, 0xFA, 0x02, 0x04,
-                                     0x00, 0x00, 0x01, 0x84, 0x00, 0x41, 0x07, 0x01, 0x8B, 0x01};
     text_add(t, front, sizeof front);
     text_add(t, package->at, package->length);
+}
+
+void plain_answer(struct text *t, const struct text *package) {
+    static const uint8_t behind[] = {0x0E, 0x02, 0x06, 0x00, 0x03, 0x05, 0x00, 0xFA, 0x02, 0x04,
+                                     0x00, 0x00, 0x01, 0x84, 0x00, 0x41, 0x07, 0x01, 0x8B, 0x01};
+    plain_answer_front(t, package);
+    text_add(t, behind, sizeof behind);
+}
+
+void plain_put_answer(struct text *t, const struct text *package) {
+    static const uint8_t behind[] = {0x0E, 0x02, 0x06, 0x00, 0x03, 0x0B, 0x00, 0x84, 0x00, 0x41, 0x07, 0x01, 0x8B, 0x01};
+    plain_answer_front(t, package);
     text_add(t, behind, sizeof behind);
 }
 
 /* ---- plain things */
 
 void plain_element(struct text *t, uint64_t number, uint64_t type, size_t inside) {
-    struct made_name id = {{0x1D}, 0}, serial = {{0x5E}, 0};
+    plain_element_under(t, number, number, type, inside);
+}
+
+void plain_element_under(struct text *t, uint64_t number, uint64_t serial, uint64_t type, size_t inside) {
+    struct made_name id = {{0x1D}, 0}, given = {{0x5E}, 0};
     struct text data = {0};
     id.number = number;
-    serial.number = number;
+    given.number = serial;
     extended_of(&data, &id, extended_form(number));
-    serial_of(&data, &serial);
+    serial_of(&data, &given);
     plain_compact(&data, type);
     plain_start(t, 0x01, 1, data.length);
     text_add(t, data.at, data.length);

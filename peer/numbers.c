@@ -20,6 +20,20 @@ static int has(struct input *in, size_t n) {
     return n <= in->end - in->at ? 1 : refuse(in, RUNS_PAST, in->at);
 }
 
+struct guid guid_of_halves(uint64_t low, uint64_t high) {
+    uint8_t bytes[16];
+    put_little(put_little(bytes, low, 8), high, 8);
+    return guid_at(bytes);
+}
+
+int pass_bytes(struct input *in, size_t n) {
+    if (!has(in, n)) {
+        return 0;
+    }
+    in->at += n;
+    return 1;
+}
+
 int read_byte(struct input *in, unsigned *value) {
     if (!has(in, 1)) {
         return 0;
@@ -29,8 +43,9 @@ int read_byte(struct input *in, unsigned *value) {
 }
 
 /* The lowest set bit tells the form: in n bytes, n from 1 to 7, it is bit n - 1, and the number stands above it. Only the byte 128
-   has eight whole bytes behind it. The next shorter form has the numbers below 2^(7 * (n - 1)); that of one byte leaves 0 out. */
-int read_compact(struct input *in, uint64_t *value) {
+   has eight whole bytes behind it. The next shorter form has the numbers below 2^(7 * (n - 1)), and 0 has the byte 0: below that a
+   number is padded. Both readers have this within themselves, as a call less for each number is worth it. */
+static inline int read_marked(struct input *in, uint64_t *value, int *padded) {
     const uint8_t *p;
     unsigned n;
     uint64_t x, least;
@@ -40,6 +55,7 @@ int read_compact(struct input *in, uint64_t *value) {
     p = in->bytes + in->at;
     if (p[0] == 0) {
         *value = 0;
+        *padded = 0;
         in->at++;
         return 1;
     }
@@ -58,12 +74,23 @@ int read_compact(struct input *in, uint64_t *value) {
         x = little(p, n) >> n;
         least = (uint64_t)1 << (7 * (n - 1));
     }
-    if (x < least) {
-        return refuse(in, NO_FORM, in->at);
-    }
     *value = x;
+    *padded = x < least;
     in->at += n;
     return 1;
+}
+
+int read_compact(struct input *in, uint64_t *value, int *padded) {
+    return read_marked(in, value, padded);
+}
+
+int read_number(struct input *in, uint64_t *value, enum padding padding) {
+    size_t place = in->at;
+    int padded;
+    if (!read_marked(in, value, &padded)) {
+        return 0;
+    }
+    return padded && padding == PADDING_REFUSED ? refuse(in, NO_FORM, place) : 1;
 }
 
 int read_guid(struct input *in, struct guid *guid) {

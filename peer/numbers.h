@@ -48,13 +48,36 @@ static inline struct guid guid_at(const uint8_t *p) {
     return g;
 }
 
+/* The GUID that is handed to a call as two numbers: bytes 0 to 7 and bytes 8 to 15, each with its lowest byte first. */
+struct guid guid_of_halves(uint64_t low, uint64_t high);
+
+/* Whether numbers may be padded: stand in a form longer than they need. That is said here, once for each layout; true lengths,
+   what is only nested, knowledge and package hand it on. */
+enum padding {
+    PADDING_TAKEN,
+    PADDING_REFUSED,
+    STORE_PADDING = PADDING_TAKEN,
+    ANSWER_PADDING = PADDING_TAKEN,   /* in an answer that is read */
+    HEADER_PADDING = PADDING_TAKEN,   /* in a single header */
+    REQUEST_PADDING = PADDING_REFUSED /* in all of a request, and in filters and a knowledge that are handed in for one */
+};
+
 int read_byte(struct input *in, unsigned *value);
-int read_compact(struct input *in, uint64_t *value);
+
+/* An item of so many bytes that are not looked at. */
+int pass_bytes(struct input *in, size_t n);
+
+/* A compact integer in any form that has it, and whether it is padded, 1 or 0. */
+int read_compact(struct input *in, uint64_t *value, int *padded);
+
+/* The same where padding is taken or refused: then it is 3. */
+int read_number(struct input *in, uint64_t *value, enum padding padding);
 int read_guid(struct input *in, struct guid *guid);
 int read_extended_guid(struct input *in, struct name *id);
 int read_serial(struct input *in, struct name *serial);
 
-/* How many bytes are written for it. */
+/* How many bytes are written for it; for a serial number that is not null always as many. */
+#define SERIAL_BYTES 25u
 unsigned compact_length(uint64_t value);
 unsigned extended_guid_length(const struct name *id);
 

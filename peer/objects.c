@@ -1,6 +1,5 @@
 /* Objects within objects, read, and headers written. Headers stand outside of runs, so that only the input's end bounds them. */
 #include "objects.h"
-#include "numbers.h"
 
 static int read_header(struct input *in, struct header *h) {
     size_t left = in->length - in->at;
@@ -48,31 +47,31 @@ int next_header(struct input *in, struct header *h, unsigned open) {
     return h->start || h->type == open ? 1 : refuse(in, WRONG_END, h->place);
 }
 
-int true_length(struct input *in, struct header *h) {
-    return h->longer ? read_compact(in, &h->length) : 1;
+int true_length(struct input *in, struct header *h, enum padding padding) {
+    return h->longer ? read_number(in, &h->length, padding) : 1;
 }
 
-int fixed_length(struct input *in, struct header *h, uint64_t length) {
-    if (!true_length(in, h)) {
+int fixed_length(struct input *in, struct header *h, uint64_t length, enum padding padding) {
+    if (!true_length(in, h, padding)) {
         return 0;
     }
     return h->length == length ? 1 : refuse(in, WRONG_LAYOUT, h->place);
 }
 
-static int expected_start(struct input *in, struct header *h, unsigned open, unsigned type, int compound) {
+int expected_start(struct input *in, struct header *h, unsigned open, unsigned type, int compound) {
     if (!next_header(in, h, open)) {
         return 0;
     }
     return is_start(h, type, compound) ? 1 : refuse(in, WRONG_LAYOUT, h->place);
 }
 
-int need_start(struct input *in, struct header *h, unsigned open, unsigned type, int compound) {
-    return expected_start(in, h, open, type, compound) && true_length(in, h);
+int need_start(struct input *in, struct header *h, unsigned open, unsigned type, int compound, enum padding padding) {
+    return expected_start(in, h, open, type, compound) && true_length(in, h, padding);
 }
 
-int need_fixed_start(struct input *in, unsigned open, unsigned type, int compound, uint64_t length) {
+int need_fixed_start(struct input *in, unsigned open, unsigned type, int compound, uint64_t length, enum padding padding) {
     struct header h;
-    return expected_start(in, &h, open, type, compound) && fixed_length(in, &h, length);
+    return expected_start(in, &h, open, type, compound) && fixed_length(in, &h, length, padding);
 }
 
 int need_end(struct input *in, unsigned open) {
@@ -107,7 +106,7 @@ struct nest {
 };
 
 /* One header of the longer forms, or one that is cut, with its data; 2 when it was the last end. */
-static int pass_one(struct input *in, struct nest *nest) {
+static int pass_one(struct input *in, struct nest *nest, enum padding padding) {
     struct header h;
     if (!next_header(in, &h, nest->types[nest->depth])) {
         return 0;
@@ -122,7 +121,7 @@ static int pass_one(struct input *in, struct nest *nest) {
     if (h.compound && nest->depth == nest->most) {
         return refuse(in, TOO_DEEP, h.place);
     }
-    if (!true_length(in, &h)) {
+    if (!true_length(in, &h, padding)) {
         return 0;
     }
     if (h.length > in->length - in->at) {
@@ -136,7 +135,7 @@ static int pass_one(struct input *in, struct nest *nest) {
 }
 
 /* Goes by objects and ends with the short headers, as long as nothing is wrong with them and the last end has not come. Most are
-   such, and a store may have millions; whatever is anything else is left to pass_one. */
+   such, and a store may have millions; whatever is anything else is left to pass_one, and a true length with it. */
 static size_t pass_short(const uint8_t *p, size_t at, size_t length, struct nest *nest) {
     unsigned depth = nest->depth;
     while (length - at >= 2) {
@@ -159,7 +158,7 @@ static size_t pass_short(const uint8_t *p, size_t at, size_t length, struct nest
     return at;
 }
 
-int pass_inside(struct input *in, unsigned type, unsigned open, unsigned most) {
+int pass_inside(struct input *in, unsigned type, unsigned open, unsigned most, enum padding padding) {
     struct nest nest;
     int gone;
     nest.types[0] = type;
@@ -167,7 +166,7 @@ int pass_inside(struct input *in, unsigned type, unsigned open, unsigned most) {
     nest.most = most - open;
     do {
         in->at = pass_short(in->bytes, in->at, in->length, &nest);
-        gone = pass_one(in, &nest);
+        gone = pass_one(in, &nest, padding);
     } while (gone == 1);
     return gone == 2;
 }

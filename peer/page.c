@@ -1,6 +1,6 @@
-/* The longest page. Elements are gone through once, in store order. An element is priced before it is taken, since a range that
-   was joined cannot be parted again. That an element is wanted may be asked of the grown ranges: what was added are serial numbers
-   of other elements. */
+/* The longest page. Groups are gone through once, each at its first row. A group is priced before it is taken, since a range that
+   was joined cannot be parted again. That a group is wanted may be asked of the grown ranges: what was added are serial numbers of
+   other groups. */
 #include "page.h"
 #include "knowledge.h"
 
@@ -30,18 +30,35 @@ static struct price price_of(const struct page *page, const struct ranges *set, 
 }
 
 static size_t answer_length(const struct page *page, uint64_t bytes, uint64_t ranges) {
-    return page->around + (size_t)bytes + (ranges == 0 ? KNOWLEDGE_EMPTY : KNOWLEDGE_AROUND + (size_t)ranges);
+    return page->around + (size_t)(bytes + knowledge_length(ranges));
 }
 
 /* No refusal, as a page of 1 has no limit. */
 enum { OVER_LIMIT = 100 };
 
-/* Takes one more wanted element, if the page with it is allowed; else 9, 14 or OVER_LIMIT. Its serial number would stand at this
-   row. */
-static unsigned take(struct page *page, struct asked *asked, const struct element *e, unsigned row, size_t room) {
-    struct fit fit = fit_of(&asked->known, row, e->serial.guid, e->serial.number);
-    struct price price = price_of(page, &asked->known, fit, e->serial.number);
-    uint64_t bytes = page->bytes + e->length;
+/* A group that is considered: its serial number, how many bytes its members have, and whether the filters let one of them in. */
+struct group {
+    const struct name *serial;
+    uint64_t bytes;
+    int in;
+};
+
+/* The group whose first row this is. */
+static struct group group_at(const struct groups *groups, const struct choice *choice, unsigned row) {
+    struct group group = {&element_at(groups, row)->serial, 0, 0};
+    for (; row != NO_ROW; row = groups->next[row]) {
+        group.bytes += element_at(groups, row)->length;
+        group.in |= choice->in[groups->order->position[row]];
+    }
+    return group;
+}
+
+/* Takes one more wanted group, if the page with it is allowed; else 9, 14 or OVER_LIMIT. Its serial number would stand at this
+   place among the ranges. */
+static unsigned take(struct page *page, struct asked *asked, const struct group *group, unsigned place, uint64_t room) {
+    struct fit fit = fit_of(&asked->known, place, group->serial->guid, group->serial->number);
+    struct price price = price_of(page, &asked->known, fit, group->serial->number);
+    uint64_t bytes = page->bytes + group->bytes;
     if (page->count > 0 && bytes > asked->limit) {
         return OVER_LIMIT;
     }
@@ -55,42 +72,43 @@ static unsigned take(struct page *page, struct asked *asked, const struct elemen
     page->count++;
     page->bytes = bytes;
     page->ranges = price.ranges;
-    add_number(&asked->known, fit, e->serial.guid, e->serial.number);
+    add_number(&asked->known, fit, group->serial->guid, group->serial->number);
     return 0;
 }
 
-static uint64_t ranges_length(const struct ranges *set) {
-    uint64_t n = 0;
-    unsigned i;
-    for (i = 0; i < set->count; i++) {
-        n += range_length(set->rows[i].from, set->rows[i].to);
+/* All members of the group that was taken go out, those too that the filters put out. */
+static void send_group(struct page *page, const struct groups *groups, unsigned row) {
+    for (; row != NO_ROW; row = groups->next[row]) {
+        page->rows[page->sent++] = (uint16_t)row;
     }
-    return n;
 }
 
 static void begin_page(struct page *page, const struct ranges *known, size_t around) {
-    page->count = 0;
+    page->count = page->sent = 0;
     page->bytes = 0;
     page->ranges = ranges_length(known);
     page->around = around;
     page->partial = 0;
 }
 
-unsigned decide_page(struct page *page, const struct store *store, struct asked *asked, size_t around, size_t room) {
-    unsigned i;
+unsigned decide_page(struct page *page, const struct groups *groups, struct asked *asked, size_t around, uint64_t room) {
+    unsigned row;
     begin_page(page, &asked->known, around);
-    for (i = 0; i < store->count; i++) {
-        const struct element *e = &store->elements[i];
-        unsigned row, fault;
-        page->taken[i] = 0;
-        if (!asked->choice.in[i]) {
+    for (row = 0; row < groups->store->count; row++) {
+        struct group group;
+        unsigned place, fault;
+        if (!groups->first[row]) {
             continue;
         }
-        row = row_for(&asked->known, e->serial.guid, e->serial.number);
-        if (row_has(&asked->known, row, e->serial.guid, e->serial.number)) {
+        group = group_at(groups, &asked->choice, row);
+        if (!group.in) {
             continue;
         }
-        fault = take(page, asked, e, row, room);
+        place = row_for(&asked->known, group.serial->guid, group.serial->number);
+        if (row_has(&asked->known, place, group.serial->guid, group.serial->number)) {
+            continue;
+        }
+        fault = take(page, asked, &group, place, room);
         if (fault != 0 && page->count == 0) {
             return fault;
         }
@@ -98,9 +116,8 @@ unsigned decide_page(struct page *page, const struct store *store, struct asked 
             page->partial = 1;
             break;
         }
-        page->taken[i] = 1;
+        send_group(page, groups, row);
     }
-    page->gone = i;
     page->length = answer_length(page, page->bytes, page->ranges);
     return page->length <= room ? 0 : OUTPUT_TOO_SHORT;
 }

@@ -1,34 +1,7 @@
-/* A request, read from front to end in the order of 000, 2.2.2 and 2.2.2.1.3. */
+/* A request that queries changes, read from front to end in the order of 000, 2.2.2 and 2.2.2.1.3. */
 #include "request.h"
 #include "knowledge.h"
-#include "objects.h"
-
-#define SIGNATURE 0x9B069439F329CF9Cu
-
-static int read_agent(struct input *in) {
-    return need_fixed_start(in, REQUEST, USER_AGENT, COMPOUND, 0) && pass_inside(in, USER_AGENT, 2, DEPTH);
-}
-
-static int read_sub_request(struct input *in, struct asked *asked) {
-    struct header h;
-    uint64_t type, priority;
-    size_t place;
-    if (!need_start(in, &h, REQUEST, SUB_REQUEST, COMPOUND)) {
-        return 0;
-    }
-    begin_run(in, h.length);
-    if (!read_compact(in, &asked->id)) {
-        return 0;
-    }
-    place = in->at;
-    if (!read_compact(in, &type)) {
-        return 0;
-    }
-    if (type != 2) {
-        return refuse(in, NOT_SERVED, place);
-    }
-    return read_compact(in, &priority) && end_run(in);
-}
+#include "request_frame.h"
 
 /* Half of a cell ID, which has to be null. */
 static int read_null_id(struct input *in) {
@@ -44,8 +17,8 @@ static int read_null_id(struct input *in) {
 static int read_arguments(struct input *in) {
     struct header h;
     unsigned ignored, flags;
-    if (!need_fixed_start(in, SUB_REQUEST, QUERY_CHANGES, PLAIN, 1) || !read_byte(in, &ignored) ||
-        !need_start(in, &h, SUB_REQUEST, ARGUMENTS, PLAIN)) {
+    if (!need_fixed_start(in, SUB_REQUEST, QUERY_CHANGES, PLAIN, 1, REQUEST_PADDING) || !read_byte(in, &ignored) ||
+        !need_start(in, &h, SUB_REQUEST, ARGUMENTS, PLAIN, REQUEST_PADDING)) {
         return 0;
     }
     begin_run(in, h.length);
@@ -59,11 +32,11 @@ static int read_arguments(struct input *in) {
 }
 
 static int read_constraint(struct input *in, struct header *h, struct asked *asked) {
-    if (!true_length(in, h)) {
+    if (!true_length(in, h, REQUEST_PADDING)) {
         return 0;
     }
     begin_run(in, h->length);
-    return read_compact(in, &asked->limit) && end_run(in);
+    return read_number(in, &asked->limit, REQUEST_PADDING) && end_run(in);
 }
 
 /* Constraint, filters and knowledge, as far as they are there, and the end of the sub-request. */
@@ -84,7 +57,7 @@ static int read_rest(struct input *in, struct asked *asked) {
         }
     }
     if (is_start(&h, KNOWLEDGE, COMPOUND) &&
-        (!read_knowledge(in, &h, DEPTH, &asked->known) || !next_header(in, &h, SUB_REQUEST))) {
+        (!read_knowledge(in, &h, DEPTH, &asked->known, REQUEST_PADDING) || !next_header(in, &h, SUB_REQUEST))) {
         return 0;
     }
     return h.start ? refuse(in, WRONG_LAYOUT, h.place) : 1;
@@ -98,8 +71,8 @@ static int read_behind(struct input *in) {
         return 0;
     }
     if (is_start(&h, PACKAGE, COMPOUND)) {
-        return fixed_length(in, &h, 1) && read_byte(in, &reserved) && pass_inside(in, PACKAGE, 2, DEPTH) &&
-               need_end(in, REQUEST);
+        return fixed_length(in, &h, 1, REQUEST_PADDING) && read_byte(in, &reserved) &&
+               pass_inside(in, PACKAGE, 2, DEPTH, REQUEST_PADDING) && need_end(in, REQUEST);
     }
     return h.start ? refuse(in, WRONG_LAYOUT, h.place) : 1;
 }
@@ -107,7 +80,6 @@ static int read_behind(struct input *in) {
 int read_request(struct input *in, struct asked *asked, const struct store *store) {
     begin_choice(&asked->choice, store);
     asked->known.count = 0;
-    return read_front(in, SIGNATURE) && need_fixed_start(in, NOTHING, REQUEST, COMPOUND, 0) && read_agent(in) &&
-           read_sub_request(in, asked) && read_arguments(in) && read_rest(in, asked) && read_behind(in) &&
-           nothing_follows(in);
+    return read_request_front(in, TO_QUERY_CHANGES, &asked->id) && read_arguments(in) && read_rest(in, asked) &&
+           read_behind(in) && nothing_follows(in);
 }

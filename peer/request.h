@@ -1,4 +1,4 @@
-/* A request, read whole. */
+/* A request that queries changes, read whole. put.h has the one that puts them. */
 #ifndef PEER_REQUEST_H
 #define PEER_REQUEST_H
 
@@ -13,7 +13,8 @@ struct asked {
     struct ranges known;
 };
 
-/* Its filters are put to the elements of the store, and what it knows into the ranges. */
+/* Its filters are put to the elements of the store, and what it knows into the ranges. Padding is refused in every part of it, also
+   in what is passed over. */
 int read_request(struct input *in, struct asked *asked, const struct store *store);
 
 #endif

@@ -1,4 +1,4 @@
-/* The rows of the tables that document 01 has lent to the answering call. */
+/* The rows of the tables that document 01 has lent to the answering calls. */
 #include "rows.h"
 
 /* The rows have a GUID's two halves as little-endian numbers, unlike struct guid. */
@@ -11,15 +11,16 @@ static void put_halves(uint64_t *to, struct guid guid) {
     }
 }
 
-void put_rows(uint64_t *to, const struct store *store) {
+void put_rows(uint64_t *to, const struct store *store, const struct order *order) {
     unsigned i;
     for (i = 0; i < store->count; i++, to += ROW_NUMBERS) {
-        const struct element *e = &store->elements[i];
+        const struct element *e = &store->elements[order->position[i]];
         to[0] = e->place;
         to[1] = e->length;
         to[2] = e->type;
         put_halves(to + 3, e->serial.guid);
         to[5] = e->serial.number;
+        to[6] = rank_of(e);
     }
 }
 

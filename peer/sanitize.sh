@@ -25,7 +25,9 @@ rm -f "$saved"
 
 # ---- with the library or alone
 with='-DPEER_ALONE' archive='' said='the peer alone, and the player with it,'
-calls='-Dhub_answer=peer_answer -Dhub_ask=peer_ask -Dhub_read=peer_read -Dhub_element=peer_element'
+peers='-Dhub_length=peer_length -Dhub_write=peer_write -Dhub_ask=peer_ask -Dhub_read=peer_read -Dhub_element=peer_element
+    -Dhub_put=peer_put -Dhub_ask_put=peer_ask_put -Dhub_read_put=peer_read_put'
+calls=$peers
 if [ "$(uname -m)" = x86_64 ]; then
     with='' calls='' archive=target/staticlib/libhub.a said='library, peer and player'
     [ -s "$archive" ] || fail "there is no $archive: make archive writes it"
@@ -69,7 +71,7 @@ stored() { # PROGRAM CASES EXPECTED
     cmp "$room/got" "$3" || fail "of $2 the peer makes other lines than $3 has"
 }
 
-# A talk of the player on its sample, damaged requests, a dump of each kind, and cases: all end well, and where leaks can
+# A talk of the player on its sample, damaged requests, a dump of each kind, cases, and puts: all end well, and where leaks can
 # be looked for there is none. Faults end well if they end with their status.
 ends_well() { # WORDS..
     ends_with 0 "$@"
@@ -81,6 +83,16 @@ ends_with() { # STATUS WORDS..
     got=$?
     [ "$got" = "$awaited" ] ||
         { tail -n 40 "$room/log"; fail "player $*, built by $compiler, ends with the status $got, not $awaited"; }
+}
+# What a book is that has all of a store: its elements as they came, which is in row order. The peer tells where each row's stands.
+in_row_order() { # STORE
+    printf '\254\002\000'
+    printf 'store %s\n' "$(od -An -v -tx1 "$1" | tr -d ' \n')" | "$room/lines" | tr ' ;' '\n\n' |
+        sed -n 's/^\([0-9]*\),\([0-9]*\),.*/\1 \2/p' |
+        while read -r place length; do
+            dd if="$1" bs=1 skip="$place" count="$length" 2>/dev/null
+        done
+    printf '\125'
 }
 talks_well() {
     sample=player/sample
@@ -98,7 +110,21 @@ talks_well() {
     ends_with 3 --replay "$room/absent"
     ends_with 5 --replay $sample/book.store
     ends_with 5 $sample/first.request "$room/other"
-    cmp "$room/book" "$sample/book.store" || fail "the book of the program in player/, built by $compiler, is not the store"
+    in_row_order $sample/book.store | cmp - "$room/book" ||
+        fail "the book of the program in player/, built by $compiler, is not the store in row order"
+    puts_well
+}
+# Two stores into one: as a package into an empty one, and as a folder into that.
+puts_well() {
+    rm -rf "$room/put" && mkdir -p "$room/put/folder" || fail 'there is no room for a store'
+    printf '\254\002\000\125' >"$room/put/store"
+    cp $sample/book.store $sample/manifests.store "$room/put/folder"
+    ends_well --put $sample/book.store --answer-bytes 0 --ask-bytes 0 --limit 400 "$room/put/store" "$room/put/book"
+    in_row_order "$room/put/store" | cmp - "$room/put/book" ||
+        fail "the book behind a put, built by $compiler, is not the store in row order"
+    ends_well --put "$room/put/folder" --quiet "$room/put/store" "$room/put/book"
+    ends_well --put "$room/put/folder" "$room/put/store" "$room/put/book"
+    ends_with 5 --put $sample/first.request "$room/put/store" "$room/put/book"
 }
 
 # The tables that are lent, by the peer alone: what it has no right to touch is looked at, and nothing is compared. Generated cases,
@@ -131,8 +157,9 @@ for compiler in $compilers; do
     rm -f "$room"/*.o
     # shellcheck disable=SC2086
     {
-        build answer -Dhub_answer=peer_answer tests/answer.c $peer_core
-        build asking -Dhub_ask=peer_ask -Dhub_read=peer_read -Dhub_element=peer_element tests/asking.c $peer_core
+        build writing $peers tests/writing.c $peer_core
+        build asking $peers tests/asking.c $peer_core
+        build putting $peers tests/putting.c $peer_core
         build lines $peer_core $peer_lines
         build compare $calls $peer_core $peer_compare $archive
         build series $peer_core $peer_series $archive
@@ -146,8 +173,9 @@ for compiler in $compilers; do
     }
     talks_well
     stored lines crates/cases/stdin crates/cases/stdout
-    stored answer tests/answers.in tests/answers.out
+    stored writing tests/answers.in tests/answers.out
     stored asking tests/asking.in tests/asking.out
+    stored putting tests/putting.in tests/putting.out
     run compare --cases "$cases" --save "$saved"
     run compare --large --save "$saved"
     run series --talks "$talks" --save "$saved"

@@ -9,16 +9,23 @@ static struct text lent_text(const struct bytes *b) {
 }
 
 struct one_case case_of(const struct stored *s) {
-    static const enum call calls[] = {ANSWER, ASK, READ, FIND}; /* in the order of enum stored_call */
+    /* in the order of enum stored_call */
+    static const enum call calls[] = {LENGTH, WRITE, ASK, READ, FIND, PUT, ASK_PUT, READ_PUT};
     struct one_case c;
     c.call = calls[s->call];
+    c.offered = s->offered;
     c.id = s->id;
     c.limit = s->limit;
     c.kind = s->kind;
     c.position = s->position;
+    c.named = s->named;
+    c.number = s->number;
+    c.guid[0] = s->guid[0];
+    c.guid[1] = s->guid[1];
     c.first = lent_text(&s->first);
     c.second = lent_text(&s->second);
     c.room = s->room;
+    c.new_room = s->new_room;
     c.report = 0;
     return c;
 }

@@ -1,7 +1,7 @@
-/* Makes cases of the answering call with lent tables, for the program `cases` (crates/cases/README.md), which makes it with the
-   library's own sources. The peer makes each call, on tables, output and inputs that end at a protected page, and what it has no
-   right to touch is looked at. Written are files that go together, N.cases with the lines for the program, N.lines with what it has
-   to print and N.names with which case each is: as many as are needed for each to be short enough. peer/tables.sh compares. The
+/* Makes cases of the two answering calls with lent tables, for the program `cases` (crates/cases/README.md), which makes them with
+   the library's own sources. The peer makes each call, on tables, output and inputs that end at a protected page, and what it has
+   no right to touch is looked at. Written are files that go together, N.cases with the lines for the program, N.lines with what it
+   has to print and N.names with which case each is: as many as are needed for each to be short enough. peer/tables.sh compares. The
    words: --cases N, --seed N, --into FOLDER, --save FILE, --replay FILE. The cases are generated, and the seed is printed; they go
    into files of a hundred, since the first that differs ends the comparison, and the program is slow. With --replay they are those
    of a file of stored cases that lend tables. A peer that touches more than it may ends the run with status 1, and its case is
@@ -17,7 +17,7 @@
 #include <stdlib.h>
 #include <string.h>
 
-#define ROWS_NEEDED 1536u
+#define ROWS_NEEDED 1792u
 #define RANGES_NEEDED 2048u
 #define GENERATED_IN_A_FILE 100u
 
@@ -42,10 +42,10 @@ struct lent_case {
 
 static void spell_case(struct lent_case *k) {
     text_clear(&k->line);
-    spell_words(&k->line, "answer");
+    spell_words(&k->line, k->c.call == WRITE ? "write" : "length");
     spell_hex(&k->line, k->c.first.at, k->c.first.length);
     spell_hex(&k->line, k->c.second.at, k->c.second.length);
-    spell_number(&k->line, " ", k->c.room);
+    spell_number(&k->line, " ", k->c.call == WRITE ? k->c.room : k->c.offered);
     spell_number(&k->line, " ", k->rows_len);
     spell_number(&k->line, " ", k->ranges_len);
     spell_words(&k->line, "\n");
@@ -80,7 +80,7 @@ static void stopped(int signal_number) {
 
 /* Tables of every kind, mostly long enough. */
 static size_t some_table(struct luck *l, size_t needed) {
-    static const size_t edges[] = {0, 1535, 1536, 1537, 2047, 2048, 2049, LONGEST_TABLE};
+    static const size_t edges[] = {0, 1535, 1536, 1537, 1791, 1792, 1793, 2047, 2048, 2049, LONGEST_TABLE};
     switch (luck_below(l, 12)) {
     case 0:
         return edges[luck_below(l, sizeof edges / sizeof *edges)];
@@ -98,7 +98,7 @@ static size_t some_table(struct luck *l, size_t needed) {
 static void make_lent(struct luck *l, struct lent_case *k) {
     uint64_t seed = luck_next(l);
     enum way way = luck_one_in(l, 2) ? VALID : (enum way)luck_below(l, 4); /* only what is answered leaves rows */
-    k->c.call = ANSWER;
+    k->c.call = luck_one_in(l, 2) ? LENGTH : WRITE;
     make_inputs(l, &k->c, seed, way);
     lend_rooms(l, &k->c);
     if (k->c.room > LONGEST_BYTES) {
@@ -159,13 +159,14 @@ static void write_lent(struct run *r, const struct lent_case *k) {
 /* Whether the program takes the case; its line is then shorter than a file may be. */
 static int is_taken(const struct lent_case *k) {
     return k->c.first.length <= LONGEST_BYTES && k->c.second.length <= LONGEST_BYTES - k->c.first.length &&
-           k->c.room <= LONGEST_BYTES && k->rows_len <= LONGEST_TABLE && k->ranges_len <= LONGEST_TABLE;
+           (k->c.call != WRITE || k->c.room <= LONGEST_BYTES) && k->rows_len <= LONGEST_TABLE && k->ranges_len <= LONGEST_TABLE;
 }
 
 /* A case that is taken, by the peer and into the files. */
 static void take_case(struct run *r, struct lent_case *k) {
-    const struct lent_answer a = {k->c.first.at, k->c.second.at, k->c.first.length, k->c.second.length,
-                                  k->c.room,     k->rows_len,    k->ranges_len};
+    int writing = k->c.call == WRITE;
+    const struct lent_answer a = {writing,           writing ? k->c.room : k->c.offered, k->c.first.at,  k->c.second.at,
+                                  k->c.first.length, k->c.second.length,                 k->rows_len,    k->ranges_len};
     struct lent_result result;
     const char *touched;
     spell_case(k);
@@ -175,7 +176,7 @@ static void take_case(struct run *r, struct lent_case *k) {
         give_up(touched);
     }
     text_clear(&k->told);
-    spell_answer(&k->told, &result);
+    spell_answer(&k->told, &a, &result);
     spell_words(&k->told, "\n");
     write_lent(r, k);
     r->done++;

@@ -1,5 +1,5 @@
 #!/bin/sh
-# peer/tables.sh PROGRAM CASES SEED SAVED, or PROGRAM --replay FILE: compares the tables of the answering call. PROGRAM is
+# peer/tables.sh PROGRAM CASES SEED SAVED, or PROGRAM --replay FILE: compares the tables of the answering calls. PROGRAM is
 # peer/tables.c, built: it writes cases with lent tables, generated ones or those of a file of stored cases, and what the peer makes
 # of each. The program `cases` makes the same calls with the library's sources, and what it prints is compared line by line. The
 # first generated case that differs is saved as SAVED; if none does the last line is '0 differences'. Of stored cases each that

@@ -75,7 +75,7 @@ static uint64_t most_of(enum word_kind kind) {
     switch (kind) {
     case NUMBER_32:
         return UINT32_MAX;
-    case COMPOUND_BIT:
+    case ZERO_OR_ONE:
         return 1;
     case FOR_ITEM:
         return LONGEST_ITEM;

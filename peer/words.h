@@ -20,7 +20,7 @@ enum word_kind {
     GUID,
     ANY_NUMBER,
     NUMBER_32,
-    COMPOUND_BIT,
+    ZERO_OR_ONE,
     FOR_ITEM,
     FOR_KNOWLEDGE,
     FOR_REQUEST,
@@ -28,7 +28,7 @@ enum word_kind {
     FOR_TABLE
 };
 
-#define MOST_WORDS 5u
+#define MOST_WORDS 6u
 
 void begin_words(void);
 
@@ -38,6 +38,13 @@ int take_words(const char *line, const char *end, const enum word_kind *kinds, s
 /* Begins to read the bytes of the first or the second word that has some. */
 static inline int begin_bytes(struct input *in, const struct given *g, unsigned i) {
     return begin_input(in, g->bytes[i], g->lengths[i], LONGEST_INPUT);
+}
+
+/* The half of the GUID that begins at this byte, as the calls are handed it. */
+static inline uint64_t guid_half(const struct given *g, size_t at) {
+    uint8_t bytes[16];
+    put_guid(bytes, g->guid);
+    return little8(bytes + at);
 }
 
 /* Where the word that begins here ends: at a blank or at the end of the line. */

@@ -106,13 +106,10 @@ static int same_id(const struct book *b, const struct element *mine, const uint8
     return same(b->package.at + mine->id, mine->id_length, bytes + e->id, e->id_length);
 }
 
-static int same_serial(const struct book *b, const struct element *mine, const uint8_t *bytes, const struct element *e) {
-    return memcmp(b->package.at + mine->id + mine->id_length, bytes + e->id + e->id_length, SERIAL_SIZE) == 0;
-}
-
 int book_has(const struct book *b, const uint8_t *bytes, const struct element *e) {
     for (size_t i = 0; i < b->all.count; i++) {
-        if (same_id(b, &b->all.row[i], bytes, e) && same_serial(b, &b->all.row[i], bytes, e)) {
+        const struct element *mine = &b->all.row[i];
+        if (same_id(b, mine, bytes, e) && memcmp(serial_of(b->package.at, mine), serial_of(bytes, e), SERIAL_SIZE) == 0) {
             return 1;
         }
     }
@@ -136,7 +133,7 @@ static int put_in(struct book *b, const uint8_t *element, const struct element *
     if (b->all.count == MOST_ELEMENTS || e->length > HUB_LONGEST_INPUT - b->package.length) {
         fprintf(stderr, "player: %s: the book is full: it has %zu elements in %zu bytes, and one of %zu bytes came\n", b->name,
                 b->all.count, b->package.length, e->length);
-        return BOOK_FULL;
+        return FULL;
     }
     struct element *mine = &b->all.row[b->all.count];
     b->package.length -= sizeof package_end;
@@ -162,10 +159,12 @@ int book_take(struct book *b, const uint8_t *element, size_t length, int *is_new
             return ENDED_WELL;
         }
     }
-    for (size_t i = b->all.count; i > 0; i--) {
-        if (same_id(b, &b->all.row[i - 1], element, &e) || same_serial(b, &b->all.row[i - 1], element, &e)) {
-            take_out(b, i - 1);
-        }
+    size_t old = 0;
+    while (old < b->all.count && !same_id(b, &b->all.row[old], element, &e)) {
+        old++;
+    }
+    if (old < b->all.count) {
+        take_out(b, old);
     }
     *is_new = 1;
     return put_in(b, element, &e);

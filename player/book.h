@@ -10,8 +10,12 @@
      given: not after a cut between the two names, not if they came to the disk in the other order, not if a book was put back
      from a copy, was removed or has a damaged byte. No element can be lost.
    - With no knowledge the talk begins anew and everything comes again. An element that the book has with the same bytes is
-     passed over. Another with the id or the serial number of one in the book replaces it. So an element that comes twice does
-     no harm, and the book is always a store.
+     passed over. Another with the id of one in the book replaces it. So an element that comes twice does no harm, and the book
+     is always a store.
+
+   Elements that share a serial number are a group, and each has its own id: the book has them all. So a serial number replaces
+   nothing; an element would be lost for good if another took its place, as its serial number is known by then. An element
+   whose id was damaged in the book is then one that no store has, and stays beside the good one when that comes again.
 
    Each save makes two new files, which take the names of the old: the umask decides their modes, whatever the old ones had, and
    a name that was a link is then a file. Who wants a book that nobody else reads sets the umask, or keeps it in a folder of that
@@ -34,7 +38,7 @@ struct book {
 /* Reads the book and its knowledge; a book that is absent is empty. CANNOT_OPEN, TOO_LARGE and BOOK_DAMAGED are said. */
 int book_open(struct book *b, const char *name);
 
-/* Takes an element that came: *is_new tells whether the book is now another. BOOK_FULL is said. */
+/* Takes an element that came: *is_new tells whether the book is now another. FULL is said. */
 int book_take(struct book *b, const uint8_t *element, size_t length, int *is_new);
 
 /* Whether the book has an element with this id and this serial number. */

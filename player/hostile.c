@@ -44,7 +44,7 @@ static int keep_requests(struct attack *a, const struct options *o) {
     x.limit = o->limit;
     x.quiet = 1;
     bytes_lend(&x.request, o->ask_bytes);
-    bytes_lend(&x.answer, o->answer_bytes);
+    x.offered = o->answer_bytes;
     while (status == ENDED_WELL && partial && a->count <= a->all.count) {
         status = exchange_once(&x);
         if (status == ENDED_WELL) {
@@ -79,7 +79,7 @@ static void damage(struct attack *a, struct bytes *r, int quiet) {
 }
 
 static void say_result(const struct guarded *g) {
-    if (g->number == HUB_ANSWERED) {
+    if (g->number == HUB_DONE) {
         printf("answered, %llu bytes\n", (unsigned long long)g->length);
     } else if (g->number == HUB_OUTPUT_TOO_SHORT) {
         printf("refused 14, %llu bytes needed\n", (unsigned long long)g->length);
@@ -97,7 +97,7 @@ static int one_damaged(struct attack *a, const struct options *o, uint64_t turn)
         printf("%llu: request %zu of %zu bytes,", (unsigned long long)turn, which + 1, r.length);
     }
     damage(a, &r, o->quiet);
-    struct guarded g = guarded_answer(&a->store, &r, o->answer_bytes);
+    struct guarded g = guarded_write(&a->store, &r, o->answer_bytes);
     if (!o->quiet) {
         say_result(&g);
     }

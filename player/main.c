@@ -4,6 +4,7 @@
 #include "dump.h"
 #include "hostile.h"
 #include "options.h"
+#include "put_talk.h"
 #include "replay.h"
 #include "status.h"
 #include "talk.h"
@@ -12,6 +13,8 @@
 
 static int run(const struct options *o) {
     switch (o->mode) {
+    case PUT:
+        return put_talk(o);
     case HOSTILE:
         return hostile(o);
     case DUMP:

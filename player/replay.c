@@ -34,23 +34,83 @@ static void say_read(const struct bytes *answer) {
     }
 }
 
-static int say_answer(const struct stored *c) {
-    struct guarded g = guarded_answer(&c->first, &c->second, c->room);
-    int status = ENDED_WELL;
+/* What hub_read_put says of an answer. */
+static void say_read_put(const struct bytes *answer) {
+    uint8_t report[HUB_READ_PUT_REPORT_BYTES] = {0};
+    uint64_t number = hub_read_put(answer->at, answer->length, report, sizeof report);
+    if (number != HUB_DONE) {
+        printf("hub_read_put: %llu, place %llu (%s)\n", (unsigned long long)number, told(report, HUB_AT_PLACE),
+               hub_refusal_text(number));
+        return;
+    }
+    printf("hub_read_put: 0, id %llu, knowledge at %llu of %llu bytes\n", told(report, HUB_AT_ID), told(report, HUB_AT_PLACE),
+           told(report, HUB_AT_LENGTH));
+}
+
+/* What a call on guarded buffers gave, and whether it kept its promises. */
+static int say_guarded(const struct stored *c, const char *call, const struct guarded *g) {
+    printf("%s: %llu, input %llu, place %llu, length %llu (%s)\n", call, (unsigned long long)g->number,
+           (unsigned long long)g->input, (unsigned long long)g->place, (unsigned long long)g->length, hub_refusal_text(g->number));
+    if (g->broken != NULL) {
+        fflush(stdout);
+        fprintf(stderr, "player: line %zu: a promise is broken: %s\n", c->line, g->broken);
+        return PROMISE_BROKEN;
+    }
+    return ENDED_WELL;
+}
+
+static int say_length(const struct stored *c) {
+    struct guarded g = guarded_length(&c->first, &c->second, c->offered);
+    printf("line %zu: store %zu bytes, request %zu bytes, offered %llu bytes\n", c->line, c->first.length, c->second.length,
+           (unsigned long long)c->offered);
+    return say_guarded(c, "hub_length", &g);
+}
+
+static int say_write(const struct stored *c) {
+    struct guarded g = guarded_write(&c->first, &c->second, c->room);
     printf("line %zu: store %zu bytes, request %zu bytes, output %zu bytes\n", c->line, c->first.length, c->second.length,
            c->room);
-    printf("hub_answer: %llu, input %llu, place %llu, length %llu (%s)\n", (unsigned long long)g.number,
-           (unsigned long long)g.input, (unsigned long long)g.place, (unsigned long long)g.length, hub_refusal_text(g.number));
-    if (g.broken != NULL) {
-        fflush(stdout);
-        fprintf(stderr, "player: line %zu: a promise is broken: %s\n", c->line, g.broken);
-        status = PROMISE_BROKEN;
-    } else if (g.number == HUB_ANSWERED) {
+    int status = say_guarded(c, "hub_write", &g);
+    if (status == ENDED_WELL && g.number == HUB_DONE) {
         say_bytes("answer", g.answer.at, g.answer.length);
         say_read(&g.answer);
     }
     bytes_free(&g.answer);
     return status;
+}
+
+/* A GUID that is handed in as two numbers, as it is sent. */
+static void say_guid(const uint64_t *guid) {
+    uint8_t sent[16];
+    for (size_t i = 0; i < sizeof sent; i++) {
+        sent[i] = (uint8_t)(guid[i / 8] >> i % 8 * 8);
+    }
+    say_hex(sent, sizeof sent);
+}
+
+static int say_put(const struct stored *c) {
+    struct guarded g = guarded_put(&c->first, &c->second, c->guid, c->new_room, c->room);
+    printf("line %zu: store %zu bytes, put %zu bytes, hub's GUID ", c->line, c->first.length, c->second.length);
+    say_guid(c->guid);
+    printf(", new store %zu bytes, output %zu bytes\n", c->new_room, c->room);
+    int status = say_guarded(c, "hub_put", &g);
+    if (status == ENDED_WELL && g.number == HUB_DONE) {
+        say_bytes("answer", g.answer.at, g.answer.length);
+        say_bytes("new store", g.new_store.at, g.new_store.length);
+        say_read_put(&g.answer);
+    }
+    bytes_free(&g.answer);
+    bytes_free(&g.new_store);
+    return status;
+}
+
+/* What came of a call that writes a request or a put. */
+static void say_written(const char *call, const char *what, uint64_t number, const struct bytes *out, const uint8_t *report) {
+    printf("%s: %llu, input %llu, place %llu, length %llu (%s)\n", call, (unsigned long long)number, told(report, HUB_AT_INPUT),
+           told(report, HUB_AT_PLACE), told(report, HUB_AT_LENGTH), hub_refusal_text(number));
+    if (number == HUB_DONE) {
+        say_bytes(what, out->at, told_size(report, HUB_AT_LENGTH));
+    }
 }
 
 static void say_ask(const struct stored *c) {
@@ -61,11 +121,25 @@ static void say_ask(const struct stored *c) {
                               report, sizeof report);
     printf("line %zu: id %llu, limit %llu, filters %zu bytes, knowledge %zu bytes, output %zu bytes\n", c->line,
            (unsigned long long)c->id, (unsigned long long)c->limit, c->first.length, c->second.length, c->room);
-    printf("hub_ask: %llu, input %llu, place %llu, length %llu (%s)\n", (unsigned long long)number, told(report, HUB_AT_INPUT),
-           told(report, HUB_AT_PLACE), told(report, HUB_AT_LENGTH), hub_refusal_text(number));
-    if (number == HUB_DONE) {
-        say_bytes("request", out.at, told_size(report, HUB_AT_LENGTH));
+    say_written("hub_ask", "request", number, &out, report);
+    bytes_free(&out);
+}
+
+static void say_ask_put(const struct stored *c) {
+    uint8_t report[HUB_REPORT_BYTES] = {0};
+    struct bytes out = {NULL, 0, 0};
+    bytes_lend(&out, c->room);
+    uint64_t number = hub_ask_put(c->id, c->named, c->guid[0], c->guid[1], c->number, c->first.at, c->first.length, out.at,
+                                  out.room, report, sizeof report);
+    printf("line %zu: id %llu, expected storage index ", c->line, (unsigned long long)c->id);
+    if (c->named != 0) {
+        printf("%llu of ", (unsigned long long)c->number);
+        say_guid(c->guid);
+    } else {
+        printf("null");
     }
+    printf(", elements %zu bytes, output %zu bytes\n", c->first.length, c->room);
+    say_written("hub_ask_put", "put", number, &out, report);
     bytes_free(&out);
 }
 
@@ -83,8 +157,10 @@ static void say_element(const struct stored *c) {
 
 int replay_case(const struct stored *c) {
     switch (c->call) {
-    case CALL_ANSWER:
-        return say_answer(c);
+    case CALL_LENGTH:
+        return say_length(c);
+    case CALL_WRITE:
+        return say_write(c);
     case CALL_ASK:
         say_ask(c);
         break;
@@ -94,6 +170,15 @@ int replay_case(const struct stored *c) {
         break;
     case CALL_ELEMENT:
         say_element(c);
+        break;
+    case CALL_PUT:
+        return say_put(c);
+    case CALL_ASK_PUT:
+        say_ask_put(c);
+        break;
+    case CALL_READ_PUT:
+        printf("line %zu: answer %zu bytes\n", c->line, c->first.length);
+        say_read_put(&c->first);
         break;
     }
     return ENDED_WELL;

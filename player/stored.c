@@ -8,7 +8,7 @@
 #include <stdlib.h>
 #include <string.h>
 
-#define MOST_WORDS 7u /* one more than a case has */
+#define MOST_WORDS 8u /* one more than a case has */
 
 /* A line, cut into its words. */
 struct line {
@@ -19,11 +19,15 @@ struct line {
 
 /* The forms of a line that has its bytes in hex, each under its first word. */
 static const char *const forms[] = {
-    "answer STOREHEX REQUESTHEX OUTLEN [STORETABLELEN KNOWTABLELEN]",
+    "length STOREHEX REQUESTHEX OFFERED [STORETABLELEN KNOWTABLELEN]",
+    "write STOREHEX REQUESTHEX OUTLEN [STORETABLELEN KNOWTABLELEN]",
     "ask ID LIMIT FILTERHEX KNOWLEDGEHEX OUTLEN",
     "read ANSWERHEX",
     "received ANSWERHEX POSITION",
     "element STOREHEX POSITION",
+    "put STOREHEX REQUESTHEX HUBGUIDHEX NEWSTORELEN OUTLEN",
+    "ask_put ID NAMED GUIDHEX NUMBER ELEMENTSHEX OUTLEN",
+    "read_put ANSWERHEX",
 };
 
 static const char *form_of(const char *word) {
@@ -76,19 +80,62 @@ static int is_room(struct stored *c, const char *word) {
     return is_length(&c->room, word, STORED_LONGEST);
 }
 
+/* The room for a new store. */
+static int is_new_room(struct stored *c, const char *word) {
+    return is_length(&c->new_room, word, STORED_LONGEST);
+}
+
+/* A GUID, its sixteen bytes as they are sent. */
+static int is_guid(struct stored *c, const char *word) {
+    struct bytes b = {NULL, 0, 0};
+    int good = is_hex(&b, word) && b.length == 16;
+    for (size_t i = 0; good && i < 2; i++) {
+        c->guid[i] = hub_report_number(b.at, 8 * i);
+    }
+    bytes_free(&b);
+    return good;
+}
+
 /* The lengths of both tables. Nothing is lent here by them, so they may be as great as a length can be. */
 static int are_tables(struct stored *c, const char *rows, const char *ranges) {
     c->lent = 1;
     return is_length(&c->rows, rows, SIZE_MAX) && is_length(&c->ranges, ranges, SIZE_MAX);
 }
 
+/* One of the forms of the calls for puts: whether the line is as it says. */
+static int spelled_put(const struct line *l, struct stored *c) {
+    char *const *w = l->words;
+    if (strcmp(w[0], "put") == 0) {
+        c->call = CALL_PUT;
+        return l->count == 6 && is_hex(&c->first, w[1]) && is_hex(&c->second, w[2]) && is_guid(c, w[3]) && is_new_room(c, w[4]) &&
+               is_room(c, w[5]);
+    }
+    if (strcmp(w[0], "ask_put") == 0) {
+        c->call = CALL_ASK_PUT;
+        return l->count == 7 && decimal(w[1], UINT64_MAX, &c->id) && decimal(w[2], UINT64_MAX, &c->named) && c->named <= 1 &&
+               is_guid(c, w[3]) && decimal(w[4], UINT64_MAX, &c->number) && is_hex(&c->first, w[5]) && is_room(c, w[6]);
+    }
+    c->call = CALL_READ_PUT;
+    return l->count == 2 && is_hex(&c->first, w[1]);
+}
+
+static int is_offered(struct stored *c, const char *word) {
+    return decimal(word, UINT64_MAX, &c->offered);
+}
+
+/* One of the two forms of an answer. */
+static int spelled_answer(const struct line *l, struct stored *c) {
+    char *const *w = l->words;
+    c->call = strcmp(w[0], "length") == 0 ? CALL_LENGTH : CALL_WRITE;
+    return (l->count == 4 || (l->count == 6 && are_tables(c, w[4], w[5]))) && is_hex(&c->first, w[1]) && is_hex(&c->second, w[2]) &&
+           (c->call == CALL_LENGTH ? is_offered(c, w[3]) : is_room(c, w[3]));
+}
+
 /* One of the forms: whether the line is as it says. */
 static int spelled_case(const struct line *l, struct stored *c) {
     char *const *w = l->words;
-    if (strcmp(w[0], "answer") == 0) {
-        c->call = CALL_ANSWER;
-        return (l->count == 4 || (l->count == 6 && are_tables(c, w[4], w[5]))) && is_hex(&c->first, w[1]) &&
-               is_hex(&c->second, w[2]) && is_room(c, w[3]);
+    if (strcmp(w[0], "length") == 0 || strcmp(w[0], "write") == 0) {
+        return spelled_answer(l, c);
     }
     if (strcmp(w[0], "ask") == 0) {
         c->call = CALL_ASK;
@@ -98,6 +145,9 @@ static int spelled_case(const struct line *l, struct stored *c) {
     if (strcmp(w[0], "read") == 0) {
         c->call = CALL_READ;
         return l->count == 2 && is_hex(&c->first, w[1]);
+    }
+    if (strstr(w[0], "put") != NULL) {
+        return spelled_put(l, c);
     }
     c->call = CALL_ELEMENT;
     c->kind = strcmp(w[0], "element") == 0 ? HUB_IN_STORE : HUB_IN_ANSWER;
@@ -116,16 +166,39 @@ static int read_beside(const char *cases, const char *word, struct bytes *into) 
     return status;
 }
 
-/* `store=FILE request=FILE out=OUTLEN`. */
-static int named_case(const struct line *l, struct stored *c) {
+/* What stands in a word behind its name, as in `out=OUTLEN`; NULL if it has another name. */
+static const char *behind(const char *word, const char *name) {
+    size_t n = strlen(name);
+    return strncmp(word, name, n) == 0 && word[n] == '=' ? word + n + 1 : NULL;
+}
+
+/* `store=FILE request=FILE offered=OFFERED`, or `out=OUTLEN` as the last word. */
+static int names_answer(const struct line *l, struct stored *c) {
     char *const *w = l->words;
-    if (l->count != 3 || strncmp(w[0], "store=", 6) != 0 || strncmp(w[1], "request=", 8) != 0 || strncmp(w[2], "out=", 4) != 0 ||
-        !is_room(c, w[2] + 4)) {
+    if (l->count != 3 || behind(w[0], "store") == NULL || behind(w[1], "request") == NULL) {
+        return 0;
+    }
+    const char *offered = behind(w[2], "offered"), *room = behind(w[2], "out");
+    c->call = offered != NULL ? CALL_LENGTH : CALL_WRITE;
+    return (offered != NULL && is_offered(c, offered)) || (room != NULL && is_room(c, room));
+}
+
+/* `store=FILE put=FILE guid=HUBGUIDHEX new=NEWSTORELEN out=OUTLEN`. */
+static int names_put(const struct line *l, struct stored *c) {
+    char *const *w = l->words;
+    c->call = CALL_PUT;
+    return l->count == 5 && behind(w[0], "store") != NULL && behind(w[1], "put") != NULL && behind(w[2], "guid") != NULL &&
+           behind(w[3], "new") != NULL && behind(w[4], "out") != NULL && is_guid(c, behind(w[2], "guid")) &&
+           is_new_room(c, behind(w[3], "new")) && is_room(c, behind(w[4], "out"));
+}
+
+/* One of these, with both files read. */
+static int named_case(const struct line *l, struct stored *c) {
+    if (!names_answer(l, c) && !names_put(l, c)) {
         return bad_line(l, "it is no case (player --help tells the forms)");
     }
-    c->call = CALL_ANSWER;
-    int status = read_beside(l->file, w[0] + 6, &c->first);
-    return status == ENDED_WELL ? read_beside(l->file, w[1] + 8, &c->second) : status;
+    int status = read_beside(l->file, behind(l->words[0], "store"), &c->first);
+    return status == ENDED_WELL ? read_beside(l->file, strchr(l->words[1], '=') + 1, &c->second) : status;
 }
 
 static int read_case(const struct line *l, struct stored *c) {
@@ -145,7 +218,7 @@ struct course {
 
 /* One line; empty ones and those that begin with # are passed over. */
 static int one_line(const struct line *l, struct course *course) {
-    struct stored c = {l->number, CALL_ANSWER, 0, 0, 0, 0, {NULL, 0, 0}, {NULL, 0, 0}, 0, 0, 0, 0};
+    struct stored c = {l->number, CALL_WRITE, 0, 0, 0, 0, 0, 0, {0, 0}, {NULL, 0, 0}, {NULL, 0, 0}, 0, 0, 0, 0, 0, 0};
     if (l->count == 0 || l->words[0][0] == '#') {
         return ENDED_WELL;
     }

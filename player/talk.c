@@ -1,8 +1,6 @@
 /* A whole talk (talk.h). */
 #include "talk.h"
 #include "../include/hub.h"
-#include "book.h"
-#include "exchange.h"
 #include "files.h"
 #include "report.h"
 #include "status.h"
@@ -38,15 +36,6 @@ int filters_read(const char *name, struct bytes *filters) {
 }
 
 /* ---- the talk */
-
-struct course {
-    struct bytes store, filters;
-    struct elements all, page; /* the store's elements, and those of the last answer */
-    struct book book;
-    struct exchange x;
-    uint64_t answers, came, came_bytes, taken; /* taken: those that the book did not have */
-    int partial, quiet;
-};
 
 /* How many elements of the store the book lacks. */
 static size_t wanted_left(const struct course *c) {
@@ -86,15 +75,46 @@ static int save_if_new(struct course *c, uint64_t taken) {
     return book_save(&c->book, now);
 }
 
+/* Whether the last answer brings the storage index that it names. It tells which parts of the book belong together, so a bench has
+   nothing to show before; the hub sends it first, in the first answer of a talk in which it is wanted. */
+static int index_came(const struct course *c) {
+    const uint8_t *report = c->x.report;
+    for (size_t i = 0; hub_report_number(report, HUB_AT_NAMED) == 1 && i < c->page.count; i++) {
+        struct exguid id = read_exguid(c->x.answer.at + c->page.row[i].id);
+        if (id.number == hub_report_number(report, HUB_AT_GUID_NUMBER) && memcmp(id.guid, report + HUB_AT_GUID_LOW, 16) == 0) {
+            return 1;
+        }
+    }
+    return 0;
+}
+
+static void say_index(const struct course *c) {
+    printf("answer %llu: storage index %llu of ", (unsigned long long)c->answers, told(c->x.report, HUB_AT_GUID_NUMBER));
+    say_hex(c->x.report + HUB_AT_GUID_LOW, 16);
+    printf(" has come\n");
+}
+
+/* Where elements share a serial number it is told how many groups there are: those that come whole, and that a talk is counted by. */
+static void say_groups(const char *where, size_t groups, size_t elements) {
+    if (groups < elements) {
+        printf("%s groups %zu, as elements share serial numbers\n", where, groups);
+    }
+}
+
 static void say_answer(const struct course *c, uint64_t page_bytes) {
+    char where[32];
     printf("answer %llu: %zu bytes, page %zu of %llu bytes, wanted left %zu, ranges %zu, %s\n", (unsigned long long)c->answers,
            c->x.answer.length, c->page.count, (unsigned long long)page_bytes, wanted_left(c),
            count_objects(c->x.knowledge.at, c->x.knowledge.length, RANGE), c->partial ? "partial" : "the last");
+    snprintf(where, sizeof where, "answer %llu:", (unsigned long long)c->answers);
+    say_groups(where, count_groups(c->x.answer.at, &c->page), c->page.count);
+    if (index_came(c)) {
+        say_index(c);
+    }
     fflush(stdout);
 }
 
-/* One ask and what comes of it, up to the book on the disk. */
-static int one_answer(struct course *c) {
+int talk_ask(struct course *c) {
     uint64_t page_bytes = 0, taken = 0;
     int status = exchange_once(&c->x);
     if (status == ENDED_WELL) {
@@ -124,19 +144,20 @@ static void say_end(const struct course *c) {
            c->book.package.length, count_objects(c->x.knowledge.at, c->x.knowledge.length, RANGE), wanted_left(c));
 }
 
-/* Asks until an answer is unmarked. That comes at the n-th answer or sooner if n elements were wanted, at the first if none
-   was, which is proved. No more asks than the store has elements, and one, is held to here besides, as the daemon of a bench
+/* Asks until an answer is unmarked. That comes at the n-th answer or sooner if n groups were wanted, at the first if none
+   was, which is proved. No more asks than the store has groups, and one, is held to here besides, as the daemon of a bench
    should do with a hub that it does not know. */
-static int ask_until_done(struct course *c, uint64_t stop_after) {
+int talk_to_end(struct course *c, uint64_t stop_after) {
     int status = ENDED_WELL;
+    size_t groups = count_groups(c->store.at, &c->all);
     c->partial = 1;
     while (status == ENDED_WELL && c->partial && c->answers < stop_after) {
-        if (c->answers > c->all.count) {
-            fprintf(stderr, "player: %llu answers came about %zu elements, and the last is still marked partial\n",
-                    (unsigned long long)c->answers, c->all.count);
+        if (c->answers - c->before > groups) {
+            fprintf(stderr, "player: %llu answers came about %zu groups of elements, and the last is still marked partial\n",
+                    (unsigned long long)(c->answers - c->before), groups);
             return BOUND_PASSED;
         }
-        status = one_answer(c);
+        status = talk_ask(c);
     }
     if (status == ENDED_WELL) {
         say_end(c);
@@ -147,14 +168,13 @@ static int ask_until_done(struct course *c, uint64_t stop_after) {
 static void say_begin(const struct course *c, const struct options *o) {
     printf("store %s: elements %zu, bytes %zu; book %s: elements %zu, bytes %zu%s\n", o->store, c->all.count, c->store.length,
            o->book, c->book.all.count, c->book.package.length, c->book.there ? "" : ", new");
+    say_groups("store:", count_groups(c->store.at, &c->all), c->all.count);
     if (c->book.passed_over) {
         printf("the knowledge beside the book was not saved with this book and is passed over: everything comes again\n");
     }
 }
 
-int talk(const struct options *o) {
-    struct course *c = memory(sizeof *c);
-    memset(c, 0, sizeof *c);
+int talk_begin(struct course *c, const struct options *o) {
     c->quiet = o->quiet;
     int status = store_read(o->store, &c->store, &c->all);
     if (status == ENDED_WELL) {
@@ -172,14 +192,27 @@ int talk(const struct options *o) {
         c->x.limit = o->limit;
         c->x.quiet = o->quiet;
         bytes_lend(&c->x.request, o->ask_bytes);
-        bytes_lend(&c->x.answer, o->answer_bytes);
+        c->x.offered = o->answer_bytes;
         bytes_add(&c->x.knowledge, c->book.knowledge.at, c->book.knowledge.length);
-        status = ask_until_done(c, o->stop_after);
     }
+    return status;
+}
+
+void talk_free(struct course *c) {
     exchange_free(&c->x);
     book_free(&c->book);
     bytes_free(&c->store);
     bytes_free(&c->filters);
+}
+
+int talk(const struct options *o) {
+    struct course *c = memory(sizeof *c);
+    memset(c, 0, sizeof *c);
+    int status = talk_begin(c, o);
+    if (status == ENDED_WELL) {
+        status = talk_to_end(c, o->stop_after);
+    }
+    talk_free(c);
     free(c);
     return status;
 }

@@ -4,6 +4,8 @@
    - `another input` if there is no refusal and the report does not begin with 0, after a request that is written with 0 and 0;
    - `outside` if an element is told that does not lie in what was handed in;
    - `bad` if the line is no case.
+   Lines 494 to 684 of asking.in have padded numbers, each in every longer form: to 529 elements of stores, to 621 answers and
+   their elements, all of which are taken; then requests to be written with padded filters or a padded knowledge, which is 3.
    The first argument is the report's length, 88 if there is none. With a report of under 88 bytes an answer that is read gives
    only `ok PLACE LENGTH`, its knowledge's; with one of under 24 bytes every line is only `ok` or `no NUMBER`. The second
    argument is the kind that stands for an answer, 1 if there is none. */

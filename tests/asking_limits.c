@@ -230,7 +230,7 @@ static void one_turn(struct talk *t) {
     t->good = hub_ask(t->answers, t->limit, t->filters.at, t->filters.length, t->knowledge.at, t->knowledge.length, request,
                       PAPER, report, sizeof report) == HUB_DONE;
     size_t asked = t->good ? (size_t)number_in(report + HUB_AT_LENGTH) : 0;
-    t->good = t->good && hub_answer(t->store.at, t->store.length, request, asked, answer, t->room, report, sizeof report) == 0;
+    t->good = t->good && hub_write(t->store.at, t->store.length, request, asked, answer, t->room, report, sizeof report) == 0;
     if (t->good) {
         take_answer(t, answer, (size_t)number_in(report + HUB_AT_LENGTH));
     }

@@ -13,7 +13,11 @@
 enum { ELEMENT = 0x01, RANGE = 0x0F, KNOWLEDGE = 0x10, CELL_KNOWLEDGE = 0x14, PACKAGE = 0x15, ENTRY = 0x17, INSIDE = 0x1D };
 enum { LONGEST_TYPE = 0x3FFF }; /* of 14 bits */
 enum { REQUEST = 0x40, SUB_RESPONSE = 0x41, SUB_REQUEST = 0x42, SPECIALIZED = 0x44, FILTER = 0x47, QUERY_CHANGES = 0x51 };
-enum { FILTER_IDS = 0x54, CONSTRAINT = 0x59, ARGUMENTS = 0x5B, USER_AGENT = 0x5D, CHANGES = 0x5F, RESPONSE = 0x62 };
+enum { FILTER_IDS = 0x54, FILTER_TYPE = 0x57, CONSTRAINT = 0x59, PUT_CHANGES = 0x5A, ARGUMENTS = 0x5B, USER_AGENT = 0x5D };
+enum { CHANGES = 0x5F, RESPONSE = 0x62, LOCK_ID = 0x85, ADDITIONAL_FLAGS = 0x86, DIAGNOSTIC = 0x8A };
+
+/* Types of sub-requests. */
+enum { QUERY = 2, PUT = 5 };
 
 /* The limit that a request without a constraint has. */
 #define NO_LIMIT UINT64_MAX
@@ -110,12 +114,17 @@ static inline void add_end(struct text *t, uint64_t type) {
     }
 }
 
+/* The id 1, 2 .. 31 of an element: 17 bytes. */
+static inline void add_id(struct text *t, unsigned id) {
+    add_byte(t, id << 3 | 4);
+    add_like(t, 16, 0x1D);
+}
+
 /* An element of type 5 with the id 1, 2 .. 31 and a serial number under the GUID of like bytes; inside it, if asked for, one
    plain object with so many bytes. */
 static inline void add_element(struct text *t, unsigned id, uint8_t guid, uint64_t serial, size_t inside) {
     add_start(t, ELEMENT, 1, 43);
-    add_byte(t, id << 3 | 4);
-    add_like(t, 16, 0x1D);
+    add_id(t, id);
     add_byte(t, 0x80);
     add_like(t, 16, guid);
     add_le(t, 8, serial);
@@ -226,6 +235,18 @@ static inline void add_filter(struct text *t, unsigned operation) {
     add_end(t, FILTER);
 }
 
+/* A filter of the elements of one type, with this operation: 12 bytes and the type's. */
+static inline void add_type_filter(struct text *t, unsigned operation, uint64_t type) {
+    struct text data = {0};
+    add_compact(&data, type);
+    add_start(t, FILTER, 1, 2);
+    add_byte(t, 2);
+    add_byte(t, operation);
+    add_start(t, FILTER_TYPE, 0, data.length);
+    add_text(t, &data);
+    add_end(t, FILTER);
+}
+
 /* A filter that puts in n ids, at most 127: the first stands at its byte 11, and each is 17 bytes long. */
 static inline void add_ids_filter(struct text *t, unsigned n) {
     struct text data = {0};
@@ -259,8 +280,8 @@ static inline void add_constraint(struct text *t, uint64_t limit) {
     add_text(t, &most);
 }
 
-/* A request with the id 1, up to its arguments. */
-static inline void add_request_front(struct text *t, size_t agent) {
+/* A request with the id 1, up to what its sub-request of this type begins with. */
+static inline void add_message_front(struct text *t, size_t agent, uint64_t type) {
     add_le(t, 2, 12);
     add_le(t, 2, 11);
     add_le(t, 8, 0x9B069439F329CF9C);
@@ -268,8 +289,13 @@ static inline void add_request_front(struct text *t, size_t agent) {
     add_agent(t, agent);
     add_start(t, SUB_REQUEST, 1, 3);
     add_compact(t, 1);
-    add_compact(t, 2);
+    add_compact(t, type);
     add_compact(t, 0);
+}
+
+/* A request with the id 1, up to its arguments. */
+static inline void add_request_front(struct text *t, size_t agent) {
+    add_message_front(t, agent, QUERY);
     add_start(t, QUERY_CHANGES, 0, 1);
     add_byte(t, 0);
     add_start(t, ARGUMENTS, 0, 3);
@@ -281,8 +307,8 @@ static inline void add_request_ends(struct text *t) {
     add_end(t, REQUEST);
 }
 
-/* The answer to a request with the id 1 from a store with no element of type 1: these elements, the partial byte and n ranges. */
-static inline void add_answer(struct text *t, struct text elements, unsigned partial, const struct range *r, size_t n) {
+/* The answer to a sub-request of this type with the id 1, with these elements, up to what its sub-response begins with. */
+static inline void add_answer_front(struct text *t, struct text elements, uint64_t type) {
     add_le(t, 2, 12);
     add_le(t, 2, 11);
     add_le(t, 8, 0x9B069439F329CF9D);
@@ -291,14 +317,23 @@ static inline void add_answer(struct text *t, struct text elements, unsigned par
     add_package(t, elements);
     add_start(t, SUB_RESPONSE, 1, 3);
     add_compact(t, 1);
-    add_compact(t, 2);
+    add_compact(t, type);
     add_byte(t, 0);
+}
+
+static inline void add_answer_ends(struct text *t) {
+    add_end(t, SUB_RESPONSE);
+    add_end(t, RESPONSE);
+}
+
+/* The answer to a request with the id 1 from a store with no element of type 1: these elements, the partial byte and n ranges. */
+static inline void add_answer(struct text *t, struct text elements, unsigned partial, const struct range *r, size_t n) {
+    add_answer_front(t, elements, QUERY);
     add_start(t, CHANGES, 0, 2);
     add_byte(t, 0);
     add_byte(t, partial);
     add_knowledge(t, r, n);
-    add_end(t, SUB_RESPONSE);
-    add_end(t, RESPONSE);
+    add_answer_ends(t);
 }
 
 #endif

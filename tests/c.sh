@@ -33,7 +33,8 @@ run() { # NAME WORDS..
     sh tools/run "$room/$name" "$@"
 }
 
-# ---- those that hold themselves to what they await, a line for each thing; `document 01` and `beside it` say whose number it is
+# ---- those that hold themselves to what they await, a line for each thing; `document 01`, `document 02` and `beside it` say whose
+# it is
 hold() { # NAME OTHER-FILES..
     out=$room/$1.out
     compile "$@"
@@ -44,10 +45,22 @@ hold() { # NAME OTHER-FILES..
 }
 
 hold limits
+hold offered
+hold ranks
+hold groups
+hold shared_serials
 hold asking_limits
 hold refusals
 hold asking_refusals
 hold counts
+hold put_limits
+hold put_entering
+hold put_asking
+hold put_ways
+hold put_refusals
+hold put_asking_refusals
+hold put_counts
+hold put_dumps
 hold stack
 hold example
 hold header tests/header_twin.c
@@ -62,8 +75,9 @@ cmp "$room/readme" "$room/example.text" || fail 'the example in README.md is ano
 passed=$((passed + 1))
 
 # ---- stored cases
-compile answer
+compile writing
 compile asking
+compile putting
 
 # With a report of under 24 bytes only the number is told.
 numbers_only() { sed -e 's/^ok .*/ok/' -e 's/^\(no [0-9]*\) .*/\1/'; }
@@ -84,9 +98,9 @@ compare() { # CASES EXPECTED PROGRAM WORDS..
 }
 
 numbers_only <tests/answers.out >"$room/numbers"
-compare tests/answers.in tests/answers.out answer 24
-compare tests/answers.in tests/answers.out answer 40
-compare tests/answers.in "$room/numbers" answer 23
+compare tests/answers.in tests/answers.out writing 24
+compare tests/answers.in tests/answers.out writing 40
+compare tests/answers.in "$room/numbers" writing 23
 passed=$((passed + 1))
 
 # The last word is the kind that stands for an answer: any but 0.
@@ -100,29 +114,50 @@ compare tests/asking.in "$room/numbers" asking 23
 compare tests/asking.in "$room/numbers" asking 0
 passed=$((passed + 1))
 
+# The last word stands for 1 where a storage index is named: any but 0.
+compare tests/putting.in tests/putting.out putting 32
+compare tests/putting.in tests/putting.out putting 40 18446744073709551615
+compare tests/putting.in tests/putting.out putting 31 2
+compare tests/putting.in tests/putting.out putting 24
+compare tests/putting.in tests/putting.out putting 23 4294967296
+compare tests/putting.in tests/putting.out putting 0
+passed=$((passed + 1))
+
 # The cases that the program cases is held to, as this form has them: no tables, so none that lends shorter ones, and no rows.
 paste -d '|' crates/cases/stdin crates/cases/stdout | awk -F '|' -v cases="$room/cases.in" '
-    $1 ~ /^answer / && $2 != "bad" && split($1, w, " ") == 6 && w[5] >= 1536 && w[6] >= 2048 {
+    $1 ~ /^(length|write) / && $2 != "bad" && split($1, w, " ") == 6 && w[5] >= 1792 && w[6] >= 2048 {
         print $1 >cases
         split($2, r, " ")
         print r[1] == "ok" ? r[1] " " r[2] : $2
     }' >"$room/cases.out"
-compare "$room/cases.in" "$room/cases.out" answer 24
+for kind in length write; do
+    grep -q "^$kind " "$room/cases.in" || fail "crates/cases/stdin has no case of $kind that lends tables as long as this form's"
+done
+compare "$room/cases.in" "$room/cases.out" writing 24
 passed=$((passed + 1))
 
-# And those of the bench's calls, with the elements of stores.
-paste -d '|' crates/cases/stdin crates/cases/stdout | awk -F '|' -v cases="$room/calls.in" '
-    $1 ~ /^(ask|read|received|element) / && $2 != "bad" {
-        print $1 >cases
-        print $2
-    }' >"$room/calls.out"
-compare "$room/calls.in" "$room/calls.out" asking 88
+# And those of the bench's calls, with the elements of stores, and of the calls for puts.
+others() { # NAME KINDS PROGRAM WORDS..
+    name=$1 kinds=$2
+    shift 2
+    paste -d '|' crates/cases/stdin crates/cases/stdout | awk -F '|' -v cases="$room/$name.in" -v kinds="^($kinds) " '
+        $1 ~ kinds && $2 != "bad" {
+            print $1 >cases
+            print $2
+        }' >"$room/$name.out"
+    compare "$room/$name.in" "$room/$name.out" "$@"
+}
+others calls 'ask|read|received|element' asking 88
+others puts 'put|ask_put|read_put' putting 32
 passed=$((passed + 1))
+printf 'tests/c.sh: %s calls for puts as they should be\n' "$(cat tests/putting.in "$room/puts.in" | wc -l | tr -d ' ')"
 
 way='the machine'"'"'s compiler'
 [ "$(uname -m)" = x86_64 ] && [ "${HUB_WAY:-}" != toolchain ] || way='the toolchain'
-printf 'tests/c.sh: %s numbers of document 01 and %s more things, %s answers and %s calls of a bench as they should be, by %s\n' \
-    "$(lines 'document 01')" "$(lines 'beside it')" "$(cat tests/answers.in "$room/cases.in" | wc -l | tr -d ' ')" \
+printf 'tests/c.sh: %s numbers of document 01, %s of document 02 and %s more things, ' \
+    "$(lines 'document 01')" "$(lines 'document 02')" "$(lines 'beside it')"
+printf '%s answers and lengths, and %s calls of a bench as they should be, by %s\n' \
+    "$(cat tests/answers.in "$room/cases.in" | wc -l | tr -d ' ')" \
     "$(cat tests/asking.in "$room/calls.in" | wc -l | tr -d ' ')" "$way"
 grep 'bytes of stack at most' "$room/stack.out"
 printf '%s passed, 0 failed\n' "$passed"

@@ -13,18 +13,18 @@
 #include <stdlib.h>
 #include <string.h>
 
-#define OTHERS 0x70u /* the GUID of ranges that no element has; it comes behind SERIALS */
-
 /* ---- each call's result on the right side */
 
-/* Whether hub_answer, with the room that always suffices, gives an answer of so many elements, all that the store has, whose
-   knowledge is so many bytes long. */
+/* Whether hub_write, with the room that always suffices, gives an answer of so many elements, all that the store has, whose
+   knowledge is so many bytes long, and hub_length tells the length of that answer. */
 static int answered(struct text store, struct text request, uint64_t elements, size_t knowledge) {
     struct lent out = lend(store.length + HUB_ANSWER_OVER_STORE), report = lend(HUB_REPORT_BYTES);
     uint8_t read[HUB_READ_REPORT_BYTES] = {0};
     struct text s = exact(store), q = exact(request);
-    int good = hub_answer(s.at, s.length, q.at, q.length, front_of(out), out.length, front_of(report), report.length) == 0;
+    int good = hub_write(s.at, s.length, q.at, q.length, front_of(out), out.length, front_of(report), report.length) == 0;
     size_t length = good ? (size_t)hub_report_number(front_of(report), HUB_AT_LENGTH) : 0;
+    struct result told = {HUB_DONE, 0, 0, length};
+    good = good && length_told(store, request, out.length, told);
     good = good && kept_behind(out, length) && hub_read(front_of(out), length, read, sizeof read) == HUB_DONE;
     good = good && hub_report_number(read, HUB_AT_COUNT) == elements && hub_report_number(read, HUB_AT_PARTIAL) == 0;
     good = good && hub_report_number(read, HUB_AT_LENGTH) == knowledge;
@@ -134,20 +134,9 @@ static int taken_by_all(struct text knowledge) {
     return answered(store, request, 0, 48) && asked(none, knowledge) && was_read(answer, 0);
 }
 
-static struct text ranges(unsigned n) {
-    static struct range r[513];
-    struct text knowledge = {0};
-    for (unsigned i = 0; i < n; i++) {
-        struct range x = {OTHERS, 5, 5};
-        r[i] = x;
-    }
-    add_knowledge(&knowledge, r, n);
-    return knowledge;
-}
-
 static void ranges_and_entries(void) {
-    paper("512 ranges known", taken_by_all(ranges(512)));
-    paper("513 ranges known", refused_by_all(ranges(513), HUB_TOO_MANY, 24 + 512 * 20));
+    paper("512 ranges known", taken_by_all(same_ranges(512)));
+    paper("513 ranges known", refused_by_all(same_ranges(513), HUB_TOO_MANY, 24 + 512 * 20));
     paper("512 entries known", taken_by_all(entries(512, 0)));
     paper("513 entries known", refused_by_all(entries(513, 0), HUB_TOO_MANY, 24 + 512 * 27));
     paper("512 ranges and entries known", taken_by_all(entries(512, 1)));
@@ -180,13 +169,6 @@ static void filters_and_ids(void) {
 
 /* ---- depth */
 
-/* The one element of a store or an answer, with n objects nested before its end at a place. */
-static struct text nested_at(struct text t, size_t at, unsigned n) {
-    struct text nested = {0};
-    add_nested(&nested, n);
-    return with(t, at, nested);
-}
-
 /* Outside an element stand the package and the element itself, in an answer the response too. Each start is 2 bytes. */
 static void depth_of_elements(void) {
     struct text elements = {0}, answer = {0}, store = store_of(7, 1), request = plain_request();
@@ -202,12 +184,6 @@ static void depth_of_elements(void) {
     paper("18 open in an answer", read_refused(nested_at(answer, 65, 15), deep_sent));
     paper("an element found with 17 open", finds(HUB_IN_ANSWER, nested_at(answer, 65, 14), 0, found_sent));
     paper("none with 18 open", finds(HUB_IN_ANSWER, nested_at(answer, 65, 15), 0, deep_sent));
-}
-
-static struct text other_knowledge(unsigned n) {
-    struct text knowledge = {0};
-    add_other_knowledge(&knowledge, n);
-    return knowledge;
 }
 
 /* Outside a user agent's objects stand the request and the user agent; outside a knowledge's, the message and its part, the

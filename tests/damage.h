@@ -47,6 +47,13 @@ static inline struct text with(struct text t, size_t at, struct text part) {
     return other;
 }
 
+/* With n objects put in at a place, each nested in the one before. */
+static inline struct text nested_at(struct text t, size_t at, unsigned n) {
+    struct text nested = {0};
+    add_nested(&nested, n);
+    return with(t, at, nested);
+}
+
 /* With a null id in the element that stands at a place, 16 bytes shorter; its start has the length in the upper 7 bits. */
 static inline struct text null_id(struct text t, size_t at) {
     struct text other = without(t, at + 3, 16);

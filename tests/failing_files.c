@@ -1,5 +1,6 @@
-/* A disk that fails, for tests of how the player saves a book: it takes the place of player/files.c, which it holds, and hands the
-   program's calls that change the disk to its own. Each such call is a step, counted from 1. What it does is named by variables:
+/* A disk that fails, for tests of how the player saves a book or a store: it takes the place of player/files.c, which it holds, and
+   hands the program's calls that change the disk to its own. Each such call is a step, counted from 1. What it does is named by
+   variables:
    - STEPS: a file, to which a line is added for each step;
    - FAIL_AT: the number of the step that fails, with nothing done (a file is closed all the same);
    - CUT_AT: the number of the step before which everything ends, as when the power goes: the status is 99, and of a file that was

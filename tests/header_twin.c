@@ -10,5 +10,13 @@ uint64_t twin_number(const uint8_t *report) {
 }
 
 uint64_t twin_call(void) {
-    return hub_answer(NULL, 0, NULL, 0, NULL, 0, NULL, 0);
+    return hub_write(NULL, 0, NULL, 0, NULL, 0, NULL, 0);
+}
+
+uint64_t twin_length(void) {
+    return hub_length(NULL, 0, NULL, 0, 0, NULL, 0);
+}
+
+uint64_t twin_put(void) {
+    return hub_put(NULL, 0, NULL, 0, 0, 0, NULL, 0, NULL, 0, NULL, 0);
 }

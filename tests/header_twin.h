@@ -10,6 +10,8 @@ extern "C" {
 const char *twin_text(uint64_t number);
 uint64_t twin_number(const uint8_t *report);
 uint64_t twin_call(void);
+uint64_t twin_length(void);
+uint64_t twin_put(void);
 #ifdef __cplusplus
 }
 #endif

@@ -64,7 +64,8 @@ END
 sh tools/cc "$room/small" "$room/small.c" "-I$room/root/opt/hub/include" "-L$room/root/opt/hub/lib" -lhub ||
     fail 'a program is not compiled and linked with what is installed'
 said=$(sh tools/run "$room/small") || fail 'that program does not run'
-[ "$said" = "$version: the output is too short, 45 bytes are needed" ] || fail "that program says '$said'"
+awaited="$version: the output, the length offered for it, or the buffer for a new store is too short, 45 bytes are needed"
+[ "$said" = "$awaited" ] || fail "that program says '$said'"
 passed=$((passed + 1))
 
 # ---- README.md's line for a shared library, beside the archive that is installed; only on x86-64 can cc link it
@@ -76,7 +77,7 @@ if [ "$(uname -m)" = x86_64 ] && command -v cc >/dev/null 2>&1; then
     cc "-I$room/root/opt/hub/include" -o "$room/beside/small" "$room/small.c" "$room/beside/libhub.so" ||
         fail 'a program is not linked with the shared library'
     said=$(LD_LIBRARY_PATH="$room/beside" "$room/beside/small") || fail 'a program does not run with the shared library'
-    [ "$said" = "$version: the output is too short, 45 bytes are needed" ] || fail "with the shared library a program says '$said'"
+    [ "$said" = "$awaited" ] || fail "with the shared library a program says '$said'"
 else
     printf 'tests/install.sh: cc does not link for x86-64 here, so the line for a shared library is not run\n'
 fi

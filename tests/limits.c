@@ -1,58 +1,37 @@
-/* hub_answer held to its limits: lengths, pages, whole talks, ranges, 2^64-1, inputs of 16,777,216 bytes and one more, reports,
-   empty slices. A line for each thing that is tried. `document 01` stands before the numbers that document 01 itself gives:
-   those of 'Numbers to test', 512 ranges, what follows 2^64-1, the longest inputs, a report of 24 bytes. `beside it` stands
-   before what is the project's own: room to spare and none, which refusal comes first, other reports, null pointers. The exit
-   status is 1 if a line is not ok. */
+/* hub_length and hub_write held to their limits: lengths, pages, whole talks, ranges, 2^64-1, inputs of 16,777,216 bytes and one
+   more, reports, empty slices. Both are called with the same inputs, hub_length with as much offered as hub_write has for its
+   output; offered.c tries every length. A line for each thing that is tried. `document 01` stands before the numbers that
+   document 01 itself gives: those of 'Numbers to test', 512 ranges, what follows 2^64-1, the longest inputs, a report of 24 bytes.
+   `beside it` stands before what is the project's own: room to spare and none, a padded number, which refusal comes first, other
+   reports, null pointers. The exit status is 1 if a line is not ok. */
 #include "../include/hub.h"
 #include "build.h"
+#include "damage.h"
 #include "lent.h"
 #include "limits.h"
+#include "told.h"
 
 #include <stdio.h>
 #include <stdlib.h>
 #include <string.h>
 
-#define OTHERS 0x70u /* the GUID of the other ranges; it comes behind */
-
-/* Whether a call with this much output gives the number and the report, and leaves alone all else. Where there is an answer, it
-   is to be the bytes of `answer`. */
-static int gives(struct text store, struct text request, size_t room, uint64_t number, uint64_t input, uint64_t place,
-                 uint64_t length, const struct text *answer) {
+/* Whether hub_write with this much output sends the answer, and leaves alone all else; and hub_length tells its length. */
+static int sends(struct text store, struct text request, size_t room, struct text answer) {
     struct lent out = lend(room), report = lend(HUB_REPORT_BYTES);
-    uint64_t got = hub_answer(store.at, store.length, request.at, request.length, front_of(out), room, front_of(report),
-                              HUB_REPORT_BYTES);
-    const uint8_t *told = front_of(report);
-    int good = got == number && number_in(told) == input && number_in(told + 8) == place && number_in(told + 16) == length;
-    good = good && kept_behind(report, HUB_REPORT_BYTES) && kept_behind(out, answer == NULL ? 0 : answer->length);
-    if (good && answer != NULL) {
-        good = answer->length == length && memcmp(front_of(out), answer->at, answer->length) == 0;
-    }
+    struct result r = {HUB_DONE, 0, 0, answer.length};
+    uint64_t got = hub_write(store.at, store.length, request.at, request.length, front_of(out), room, front_of(report),
+                             HUB_REPORT_BYTES);
+    int good = is_told(got, front_of(report), r) && kept_behind(report, HUB_REPORT_BYTES) && kept_behind(out, answer.length);
+    good = good && memcmp(front_of(out), answer.at, answer.length) == 0 && length_told(store, request, room, r);
     give_back(out);
     give_back(report);
     return good;
 }
 
-static int sends(struct text store, struct text request, size_t room, struct text answer) {
-    return gives(store, request, room, HUB_ANSWERED, 0, 0, answer.length, &answer);
-}
-
 static int refuses(struct text store, struct text request, size_t room, uint64_t number, uint64_t input, uint64_t place,
                    uint64_t needed) {
-    return gives(store, request, room, number, input, place, needed, NULL);
-}
-
-/* A request with the id 1, this limit and n known ranges. */
-static void add_request(struct text *t, uint64_t limit, const struct range *r, size_t n, size_t agent) {
-    add_request_front(t, agent);
-    add_constraint(t, limit);
-    add_knowledge(t, r, n);
-    add_request_ends(t);
-}
-
-static struct text request_of(uint64_t limit, const struct range *r, size_t n) {
-    struct text request = {0};
-    add_request(&request, limit, r, n, 0);
-    return request;
+    struct result r = {number, input, place, needed};
+    return answer_refused(store, request, room, r);
 }
 
 /* An answer with n elements from the one with this id and this serial number on. */
@@ -75,6 +54,19 @@ static void lengths(void) {
     beside("no room at all too", refuses(none, request, 0, HUB_OUTPUT_TOO_SHORT, 0, 0, 41));
     paper("one element: 132 bytes", second.length == 132 && sends(one, request, 132, second));
     beside("room for 131 is refused, needed 132", refuses(one, request, 131, HUB_OUTPUT_TOO_SHORT, 0, 0, 132));
+}
+
+/* The type of one element in a longer form than it needs: at 47 in a store, at 64 in an answer. It goes out as it is stored. */
+static void padding(void) {
+    struct range seven[1] = {{SERIALS, 7, 7}};
+    struct text one = store_of(7, 1), request = request_of(NO_LIMIT, NULL, 0), answer = answer_of(1, 7, 1, 0, seven, 1);
+    struct text padded = put(one, 47, 0x01), sent = put(answer, 64, 0x01);
+    beside("a padded type goes out as it is stored", sends(padded, request, 132, sent));
+    free(one.at);
+    free(request.at);
+    free(answer.at);
+    free(padded.at);
+    free(sent.at);
 }
 
 /* ---- whole talks */
@@ -197,39 +189,51 @@ static void longest_request(void) {
 
 /* ---- reports, and empty slices */
 
-/* Whether a report of this length takes its first 24 bytes if it has them, and the number and the output are the same. */
-static int reported(struct text store, struct text request, size_t room, size_t length, struct text answer, uint64_t number) {
-    struct lent out = lend(room), report = lend(length);
-    uint64_t got = hub_answer(store.at, store.length, request.at, request.length, front_of(out), room, front_of(report), length);
-    size_t written = number == 0 ? answer.length : 0, told = length < HUB_REPORT_BYTES ? 0 : HUB_REPORT_BYTES;
-    int good = got == number && kept_behind(out, written) && kept_behind(report, told);
-    good = good && (written == 0 || memcmp(front_of(out), answer.at, written) == 0);
-    if (told > 0) {
-        const uint8_t *p = front_of(report);
-        good = good && number_in(p) == 0 && number_in(p + 8) == 0 && number_in(p + 16) == answer.length;
+/* Whether a report has in its first 24 bytes, if it has so many, that this length is the answer's or is needed for it, and is else
+   as it was lent. */
+static int has_length(struct lent report, uint64_t number, size_t length) {
+    struct result r = {number, 0, 0, length};
+    if (report.length < HUB_REPORT_BYTES) {
+        return kept_behind(report, 0);
     }
+    return kept_behind(report, HUB_REPORT_BYTES) && is_told(number, front_of(report), r);
+}
+
+/* Whether both calls take a report of this length so, and give the number and hub_write the output that they give with others. */
+static int reported(struct text store, struct text request, size_t room, size_t length, struct text answer, uint64_t number) {
+    struct lent out = lend(room), report = lend(length), asked = lend(length);
+    uint64_t got = hub_write(store.at, store.length, request.at, request.length, front_of(out), room, front_of(report), length);
+    uint64_t told = hub_length(store.at, store.length, request.at, request.length, room, front_of(asked), length);
+    size_t written = number == 0 ? answer.length : 0;
+    int good = got == number && told == number && kept_behind(out, written);
+    good = good && has_length(report, number, answer.length) && has_length(asked, number, answer.length);
+    good = good && (written == 0 || memcmp(front_of(out), answer.at, written) == 0);
     give_back(out);
     give_back(report);
+    give_back(asked);
     return good;
 }
 
 /* An answer, and a refusal, with a report of this length. */
 static int both_reported(size_t length) {
     struct text store = store_of(7, 0), request = request_of(NO_LIMIT, NULL, 0), answer = answer_of(1, 7, 0, 0, NULL, 0);
-    int sent = reported(store, request, 64, length, answer, HUB_ANSWERED);
+    int sent = reported(store, request, 64, length, answer, HUB_DONE);
     return sent && reported(store, request, 40, length, answer, HUB_OUTPUT_TOO_SHORT);
 }
 
 static void reports(void) {
     beside("no report", both_reported(0));
+    beside("a report of 1 byte", both_reported(1));
     paper("a report of 23 bytes", both_reported(HUB_REPORT_BYTES - 1));
     paper("a report of 24 bytes", both_reported(HUB_REPORT_BYTES));
+    beside("a report of 25 bytes", both_reported(HUB_REPORT_BYTES + 1));
     beside("a report of 40 bytes", both_reported(40));
 }
 
 static void empty_slices(void) {
     struct text nothing = {0}, store = store_of(7, 1), request = request_of(NO_LIMIT, NULL, 0);
-    beside("four null pointers", hub_answer(NULL, 0, NULL, 0, NULL, 0, NULL, 0) == HUB_RUNS_PAST);
+    beside("four null pointers", hub_write(NULL, 0, NULL, 0, NULL, 0, NULL, 0) == HUB_RUNS_PAST);
+    beside("three, and all that can be offered", hub_length(NULL, 0, NULL, 0, UINT64_MAX, NULL, 0) == HUB_RUNS_PAST);
     beside("no store", refuses(nothing, request, 4096, HUB_RUNS_PAST, 0, 0, 0));
     beside("no request", refuses(store, nothing, 4096, HUB_RUNS_PAST, 1, 0, 0));
     beside("no output", refuses(store, request, 0, HUB_OUTPUT_TOO_SHORT, 0, 0, 132));
@@ -237,6 +241,7 @@ static void empty_slices(void) {
 
 int main(void) {
     lengths();
+    padding();
     talks();
     many_ranges();
     greatest();

@@ -1,5 +1,5 @@
-/* What the programs share that hold the calls exported to C to their limits: a line for each thing that is tried, and stores and
-   answers of a given length or a given number of elements. */
+/* What the programs share that hold the calls exported to C to their limits: a line for each thing that is tried, and stores,
+   requests and answers of a given length or a given number of elements or ranges. */
 #ifndef LIMITS_H
 #define LIMITS_H
 
@@ -10,6 +10,7 @@
 #include <stdio.h>
 
 #define SERIALS 0x22u /* the GUID of the serial numbers */
+#define OTHERS 0x70u  /* a GUID of other ranges; it comes behind */
 #define LONGEST ((size_t)HUB_LONGEST_INPUT)
 
 static int failures = 0;
@@ -22,6 +23,11 @@ static inline void tell(const char *group, const char *what, int good) {
 /* A number that document 01 gives. */
 static inline void paper(const char *what, int good) {
     tell("document 01", what, good);
+}
+
+/* And what document 02 says. */
+static inline void document_02(const char *what, int good) {
+    tell("document 02", what, good);
 }
 
 /* What is tried beside them. */
@@ -43,6 +49,20 @@ static inline struct text store_of(uint64_t serial, unsigned n) {
     return store;
 }
 
+/* A request with the id 1, this limit and n known ranges. */
+static inline void add_request(struct text *t, uint64_t limit, const struct range *r, size_t n, size_t agent) {
+    add_request_front(t, agent);
+    add_constraint(t, limit);
+    add_knowledge(t, r, n);
+    add_request_ends(t);
+}
+
+static inline struct text request_of(uint64_t limit, const struct range *r, size_t n) {
+    struct text request = {0};
+    add_request(&request, limit, r, n, 0);
+    return request;
+}
+
 /* A store of n elements of 47 bytes, and 3 more for each object of a short type nested inside them. */
 static inline struct text many_store(unsigned n, unsigned nested) {
     struct text elements = {0}, store = {0};
@@ -61,6 +81,25 @@ static inline struct text many_answer(unsigned n, unsigned nested, struct text k
     add(&answer, empty.at + empty.length - 4, 4);
     free(empty.at);
     return answer;
+}
+
+/* A knowledge of n ranges, at most 513, which are all the same: 28 bytes and 20 for each. */
+static inline struct text same_ranges(unsigned n) {
+    static struct range r[513];
+    struct text knowledge = {0};
+    for (unsigned i = 0; i < n; i++) {
+        struct range x = {OTHERS, 5, 5};
+        r[i] = x;
+    }
+    add_knowledge(&knowledge, r, n);
+    return knowledge;
+}
+
+/* One of another kind with n objects nested in it, at its byte 22. */
+static inline struct text other_knowledge(unsigned n) {
+    struct text knowledge = {0};
+    add_other_knowledge(&knowledge, n);
+    return knowledge;
 }
 
 /* A store of exactly n bytes: its one element has a long object inside. 54 bytes and 4 of the true length are around it. */

@@ -1,7 +1,7 @@
-/* Every refusal of hub_answer, provoked: its number, the input, the place and the needed length, with the output left alone. The
-   places are counted by hand from the layouts of document 01; a comment beside a group says where its parts stand. The store's
-   faults stand in faults.h. Lengths and counts at their limits are tried in limits.c and counts.c. The exit status is 1 if a line
-   is not ok. */
+/* Every refusal of hub_write, provoked: its number, the input, the place and the needed length, with the output left alone; and
+   the same refusal of hub_length, with as much offered. The places are counted by hand from the layouts of document 01; a comment
+   beside a group says where its parts stand. The store's faults stand in faults.h. Lengths and counts at their limits are tried
+   in limits.c and counts.c. The exit status is 1 if a line is not ok. */
 #include "../include/hub.h"
 #include "build.h"
 #include "damage.h"
@@ -32,12 +32,15 @@ static void request_refused(const char *what, struct text request, uint64_t numb
     free(request.at);
 }
 
-/* Version 0 and 2, signature 4, request 12, user agent 16, its end 20, sub-request 22, its type 27, 0x51 29, its byte 33,
-   arguments 34, flags 38, cell ID 39 and 40, end 41; filters or knowledge stand before that end. */
+/* Version 0 and 2, signature 4, request 12, user agent 16, its end 20, sub-request 22, its id 26, its type 27, its priority 28,
+   0x51 29, its byte 33, arguments 34, flags 38, cell ID 39 and 40, end 41; filters or knowledge stand before that end. The byte
+   0x01 is a padded 0. */
 static void of_the_request(void) {
     struct text request = plain_request();
     request_refused("a request without its last end", cut(request, 43), HUB_RUNS_PAST, 43);
-    request_refused("an id outside its form's range", put(request, 26, 0x01), HUB_NO_FORM, 26);
+    request_refused("a padded id", put(request, 26, 0x01), HUB_NO_FORM, 26);
+    request_refused("a padded type, which is another too", put(request, 27, 0x01), HUB_NO_FORM, 27);
+    request_refused("a padded priority", put(request, 28, 0x01), HUB_NO_FORM, 28);
     request_refused("a user agent ended by another's end", put(request, 20, 0x7B), HUB_WRONG_END, 20);
     request_refused("no sub-request", without(request, 22, 21), HUB_WRONG_LAYOUT, 22);
     request_refused("a byte behind the request", put_behind(request, 0x00), HUB_WRONG_LAYOUT, 45);
@@ -60,7 +63,8 @@ static void of_its_parts(void) {
     request_refused("a filter with another operation", with(request, 41, put(filter, 5, 0x02)), HUB_NOT_SERVED, 46);
     request_refused("a filter cut behind its kind", with(request, 41, cut(filter, 5)), HUB_NOT_SERVED, 46);
     request_refused("a range from 3 to 2", with(request, 41, put(knowledge, 43, 0x05)), HUB_FROM_ABOVE_TO, 84);
-    request_refused("a range to no number", with(request, 41, put(knowledge, 43, 0x01)), HUB_NO_FORM, 84);
+    request_refused("a range from 3 to a padded 0", with(request, 41, put(knowledge, 43, 0x01)), HUB_NO_FORM, 84);
+    request_refused("a range from a padded 0", with(request, 41, put(knowledge, 42, 0x01)), HUB_NO_FORM, 83);
     request_refused("a range ended by another's end", with(request, 41, put(knowledge, 44, 0x55)), HUB_WRONG_END, 85);
     free(filter.at);
     free(knowledge.at);
@@ -85,14 +89,14 @@ static void others(void) {
 
 static void texts(void) {
     int apart = 1;
-    for (uint64_t i = 0; i <= 15; i++) {
+    for (uint64_t i = 0; i <= 17; i++) {
         for (uint64_t j = 0; j < i; j++) {
             apart = apart && strcmp(hub_refusal_text(i), hub_refusal_text(j)) != 0;
         }
     }
     beside("each number has words of its own", apart);
     beside("no refusal", strcmp(hub_refusal_text(HUB_DONE), "no refusal") == 0);
-    beside("and all others the same", strcmp(hub_refusal_text(15), hub_refusal_text(UINT64_MAX)) == 0);
+    beside("and all others the same", strcmp(hub_refusal_text(17), hub_refusal_text(UINT64_MAX)) == 0);
 }
 
 int main(void) {

@@ -1,60 +1,21 @@
 /* How much stack the calls take, each on the inputs that take it deepest: objects nested as deep as they may be, with short headers
-   and with long ones, 256 elements, 512 ranges, 16 filters of 64 ids, a page of 256 elements. Each call runs on a stack of its
-   own with exactly HUB_STACK_BYTES below the caller's, and behind them 64 KiB that nobody may touch: a call that takes more ends
-   the program by a fault. The stack is painted before, so that it can be told how much was written to. The exit status is 1 if a
-   line is not ok. */
+   and with long ones, 256 elements, each by itself and in groups, 512 ranges, 16 filters of 64 ids, a page of 256 elements, a put
+   of 256 into 256. Each call runs on a stack of its own (stack.h) with exactly HUB_STACK_BYTES below the caller's. The exit status
+   is 1 if a line is not ok. */
 #define _DEFAULT_SOURCE /* MAP_ANONYMOUS */
 #include "../include/hub.h"
 #include "build.h"
+#include "damage.h"
 #include "lent.h"
 #include "limits.h"
+#include "puts.h"
+#include "stack.h"
 
 #include <stdio.h>
 #include <stdlib.h>
 #include <string.h>
-#include <sys/mman.h>
 
-#define GUARD 65536u /* so much that no frame steps over it */
-#define PAINT 0xD7u
-#define OTHERS 0x70u /* the GUID of ranges that no element has */
-
-/* ---- a stack of one's own */
-
-static uint8_t *stack; /* HUB_STACK_BYTES, as many before them that may not be touched, and some behind for the caller's part */
-static size_t most;    /* the greatest number of bytes that a call took */
-
-static void make_stack(void) {
-    void *p = mmap(NULL, HUB_STACK_BYTES + 2 * GUARD, PROT_READ | PROT_WRITE, MAP_PRIVATE | MAP_ANONYMOUS, -1, 0);
-    if (p == MAP_FAILED || mprotect(p, GUARD, PROT_NONE) != 0) {
-        printf("there is no memory for a stack\n");
-        exit(2);
-    }
-    stack = (uint8_t *)p + GUARD;
-}
-
-/* Calls work(what) with the stack pointer at top; what it answers is passed over. The archive is x86-64 code, and so is this. */
-static void call_on(uint8_t *top, void (*work)(void *), void *what) {
-    __asm__ volatile("movq %%rsp, %%rbx\n\t"
-                     "movq %[top], %%rsp\n\t"
-                     "callq *%[work]\n\t"
-                     "movq %%rbx, %%rsp"
-                     : "+D"(what)
-                     : [top] "r"(top), [work] "r"(work)
-                     : "rax", "rbx", "rcx", "rdx", "rsi", "r8", "r9", "r10", "r11", "xmm0", "xmm1", "xmm2", "xmm3", "xmm4",
-                       "xmm5", "xmm6", "xmm7", "xmm8", "xmm9", "xmm10", "xmm11", "xmm12", "xmm13", "xmm14", "xmm15", "memory",
-                       "cc");
-}
-
-/* Runs one call on the painted stack, and answers how many of its bytes are painted no more. */
-static size_t taken_by(void (*work)(void *), void *what) {
-    size_t kept = 0;
-    memset(stack, PAINT, HUB_STACK_BYTES);
-    call_on(stack + HUB_STACK_BYTES, work, what);
-    while (kept < HUB_STACK_BYTES && stack[kept] == PAINT) {
-        kept++;
-    }
-    return HUB_STACK_BYTES - kept;
-}
+static size_t most; /* the greatest number of bytes that a call took */
 
 /* ---- the calls */
 
@@ -62,15 +23,20 @@ static size_t taken_by(void (*work)(void *), void *what) {
 struct call {
     struct text first, second;
     uint64_t kind, position, number;
-    uint8_t *out;
+    uint8_t *out, *new_store;
     size_t room;
     uint8_t report[HUB_READ_REPORT_BYTES];
 };
 
-static void answer_it(void *what) {
+static void length_it(void *what) {
     struct call *c = what;
-    c->number = hub_answer(c->first.at, c->first.length, c->second.at, c->second.length, c->out, c->room, c->report,
-                           sizeof c->report);
+    c->number = hub_length(c->first.at, c->first.length, c->second.at, c->second.length, c->room, c->report, sizeof c->report);
+}
+
+static void write_it(void *what) {
+    struct call *c = what;
+    c->number = hub_write(c->first.at, c->first.length, c->second.at, c->second.length, c->out, c->room, c->report,
+                          sizeof c->report);
 }
 
 static void ask_it(void *what) {
@@ -84,6 +50,23 @@ static void read_it(void *what) {
     c->number = hub_read(c->first.at, c->first.length, c->report, sizeof c->report);
 }
 
+static void put_it(void *what) {
+    struct call *c = what;
+    c->number = hub_put(c->first.at, c->first.length, c->second.at, c->second.length, HALF_OF_SERIALS, HALF_OF_SERIALS,
+                        c->new_store, c->room, c->out, c->room, c->report, sizeof c->report);
+}
+
+static void ask_put_it(void *what) {
+    struct call *c = what;
+    c->number = hub_ask_put(1, 1, HALF_OF_IDS, HALF_OF_IDS, UINT32_MAX, c->first.at, c->first.length, c->out, c->room, c->report,
+                            sizeof c->report);
+}
+
+static void read_put_it(void *what) {
+    struct call *c = what;
+    c->number = hub_read_put(c->first.at, c->first.length, c->report, sizeof c->report);
+}
+
 static void find_it(void *what) {
     struct call *c = what;
     c->number = hub_element(c->kind, c->first.at, c->first.length, c->position, c->report, sizeof c->report);
@@ -95,6 +78,14 @@ static void takes(const char *what, void (*work)(void *), struct call c, uint64_
     printf("%s took %zu bytes\n", what, bytes);
     beside(what, c.number == number && bytes > 0 && bytes < HUB_STACK_BYTES);
     most = bytes > most ? bytes : most;
+}
+
+/* Two lines: the length of an answer asked for, and the answer written. */
+static void takes_both(const char *what, struct call c, uint64_t number) {
+    char line[128];
+    sprintf(line, "the length of %s", what);
+    takes(line, length_it, c, number);
+    takes(what, write_it, c, number);
 }
 
 /* ---- what is handed in */
@@ -140,28 +131,47 @@ static struct text deep_request(unsigned agent, struct text filters, struct text
     return request;
 }
 
+/* A store of 256 elements, of which so many behind one another share a number that no other follows: each group is a range of its
+   own. */
+static struct text spread_store(unsigned nested, unsigned share) {
+    struct text elements = {0}, store = {0};
+    for (unsigned i = 0; i < 256; i++) {
+        struct text one = {0};
+        add_many_elements(&one, SERIALS, UINT64_MAX / 2 + 2 * (i / share), 1, nested);
+        one.at[2] = (uint8_t)((0x20 + i) << 6 | 0x20); /* the id's number is above the lowest 6 bits */
+        one.at[3] = (uint8_t)((0x20 + i) >> 2);
+        add_text(&elements, &one);
+    }
+    add_package(&store, elements);
+    return store;
+}
+
 /* ---- each call at its deepest */
 
 static struct call of(struct text first, struct text second) {
-    struct call c = {first, second, 0, 0, 99, NULL, 1 << 20, {0}};
+    struct call c = {first, second, 0, 0, 99, NULL, NULL, 1 << 20, {0}};
     c.out = room_for(c.room);
+    c.new_store = room_for(c.room);
     return c;
 }
 
 static void answers(void) {
     struct text none = {0}, deep = many_store(256, 14), too_deep = many_store(256, 15), other = {0}, too_deep_other = {0};
     struct text all = deep_request(14, many_filters(), spread_knowledge(511), 14), flat = store_of(7, 1);
+    struct text but_128 = deep_request(14, many_filters(), spread_knowledge(384), 14);
     add_other_knowledge(&other, 12);
     add_other_knowledge(&too_deep_other, 13);
-    takes("an answer of 256 elements, with 512 ranges and 16 filters", answer_it, of(deep, all), HUB_ANSWERED);
-    takes("an answer, 16 open in the user agent", answer_it, of(flat, deep_request(14, none, none, 0)), HUB_ANSWERED);
-    takes("17 open in the user agent", answer_it, of(flat, deep_request(15, none, none, 0)), HUB_TOO_DEEP);
-    takes("an answer, 16 open in a knowledge", answer_it, of(flat, deep_request(0, none, other, 0)), HUB_ANSWERED);
-    takes("17 open in a knowledge", answer_it, of(flat, deep_request(0, none, too_deep_other, 0)), HUB_TOO_DEEP);
-    takes("an answer, 16 open in a package", answer_it, of(flat, deep_request(0, none, none, 14)), HUB_ANSWERED);
-    takes("17 open in a package", answer_it, of(flat, deep_request(0, none, none, 15)), HUB_TOO_DEEP);
-    takes("a store with 17 open", answer_it, of(too_deep, all), HUB_TOO_DEEP);
-    takes("nothing handed in", answer_it, of(none, none), HUB_RUNS_PAST);
+    takes_both("an answer of 256 elements, with 512 ranges and 16 filters", of(deep, all), HUB_DONE);
+    takes_both("an answer of 128 groups of two, with 512 ranges and 16 filters", of(spread_store(14, 2), but_128), HUB_DONE);
+    takes_both("an answer of one group of 256", of(spread_store(14, 256), all), HUB_DONE);
+    takes_both("an answer, 16 open in the user agent", of(flat, deep_request(14, none, none, 0)), HUB_DONE);
+    takes_both("an answer, 17 open in the user agent", of(flat, deep_request(15, none, none, 0)), HUB_TOO_DEEP);
+    takes_both("an answer, 16 open in a knowledge", of(flat, deep_request(0, none, other, 0)), HUB_DONE);
+    takes_both("an answer, 17 open in a knowledge", of(flat, deep_request(0, none, too_deep_other, 0)), HUB_TOO_DEEP);
+    takes_both("an answer, 16 open in a package", of(flat, deep_request(0, none, none, 14)), HUB_DONE);
+    takes_both("an answer, 17 open in a package", of(flat, deep_request(0, none, none, 15)), HUB_TOO_DEEP);
+    takes_both("an answer from a store with 17 open", of(too_deep, all), HUB_TOO_DEEP);
+    takes_both("an answer with nothing handed in", of(none, none), HUB_RUNS_PAST);
 }
 
 static void requests(void) {
@@ -196,6 +206,48 @@ static void elements_found(void) {
     takes("of an answer, 18 open", find_it, answer, HUB_TOO_DEEP);
 }
 
+/* A put of the elements of many_store with objects nested in them, in its user agent, at 20, and in its knowledge, at 36. */
+static struct text deep_put(unsigned elements, unsigned nested, unsigned agent, struct text knowledge) {
+    return nested_at(with(many_put(elements, nested), 36, knowledge), 20, agent);
+}
+
+static void changes(void) {
+    struct text none = {0}, deep = spread_store(14, 1), too_deep = spread_store(15, 1);
+    struct text all = deep_put(256, 13, 14, spread_knowledge(512));
+    struct text nothing = put_of(1, 0), one = deep_put(1, 13, 14, other_knowledge(12)), empty = store_of(7, 0);
+    takes("a put of 256 elements into 256, 16 open, with 512 ranges", put_it, of(deep, all), HUB_DONE);
+    takes("a put of 256 elements into none", put_it, of(empty, all), HUB_DONE);
+    takes("a put of nothing into 256, which are told as 256 ranges", put_it, of(deep, nothing), HUB_DONE);
+    takes("a put of 256 elements into 128 groups of two", put_it, of(spread_store(14, 2), all), HUB_DONE);
+    takes("a put of one, 16 open in its knowledge", put_it, of(deep, one), HUB_DONE);
+    takes("17 open in an element of a put", put_it, of(deep, deep_put(256, 14, 14, spread_knowledge(512))), HUB_TOO_DEEP);
+    takes("17 open in its user agent", put_it, of(deep, deep_put(256, 13, 15, none)), HUB_TOO_DEEP);
+    takes("17 open in its knowledge", put_it, of(deep, deep_put(256, 13, 14, other_knowledge(13))), HUB_TOO_DEEP);
+    takes("a store with 17 open, and a put", put_it, of(too_deep, all), HUB_TOO_DEEP);
+    takes("no store and no put", put_it, of(none, none), HUB_RUNS_PAST);
+}
+
+static void changes_asked(void) {
+    struct text none = {0}, deep = {0}, too_deep = {0};
+    add_many_elements(&deep, OTHERS, 1000, 256, 13);
+    add_many_elements(&too_deep, OTHERS, 1000, 256, 14);
+    takes("a put written with 256 elements, 16 open", ask_put_it, of(deep, none), HUB_DONE);
+    takes("with 17 open", ask_put_it, of(too_deep, none), HUB_TOO_DEEP);
+    takes("with nothing", ask_put_it, of(none, none), HUB_DONE);
+}
+
+static void changes_answered(void) {
+    struct text none = {0}, elements = {0}, answer = {0}, ranges = spread_knowledge(512);
+    add_many_elements(&elements, SERIALS, 7, 256, 14);
+    add_answer_front(&answer, elements, PUT);
+    add_text(&answer, &ranges);
+    add_answer_ends(&answer);
+    takes("an answer to a put read, of 256 elements, 17 open, 512 ranges", read_put_it, of(answer, none), HUB_DONE);
+    takes("17 open in its knowledge", read_put_it, of(put_answer_with(other_knowledge(13)), none), HUB_DONE);
+    takes("18 open in its knowledge", read_put_it, of(put_answer_with(other_knowledge(14)), none), HUB_TOO_DEEP);
+    takes("no answer to a put", read_put_it, of(none, none), HUB_RUNS_PAST);
+}
+
 int main(void) {
     static const unsigned types[] = {INSIDE, LONGEST_TYPE}; /* short headers, and long ones */
     make_stack();
@@ -206,6 +258,9 @@ int main(void) {
         requests();
         answers_read();
         elements_found();
+        changes();
+        changes_asked();
+        changes_answered();
     }
     printf("%zu bytes of stack at most, of %u\n", most, HUB_STACK_BYTES);
     return ended();

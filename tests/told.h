@@ -35,12 +35,46 @@ static inline struct text exact(struct text t) {
     return e;
 }
 
-/* Whether hub_answer refuses with this result, and leaves the output alone. */
+static inline int same_bytes(struct text t, struct text other) {
+    return t.length == other.length && (t.length == 0 || memcmp(t.at, other.at, t.length) == 0);
+}
+
+/* Whether hub_length tells this result for so much offered, and writes nothing but the report's three numbers. */
+static inline int length_told(struct text store, struct text request, uint64_t offered, struct result r) {
+    struct lent report = lend(HUB_REPORT_BYTES);
+    struct text s = exact(store), q = exact(request);
+    uint64_t got = hub_length(s.at, s.length, q.at, q.length, offered, front_of(report), HUB_REPORT_BYTES);
+    int good = is_told(got, front_of(report), r) && kept_behind(report, HUB_REPORT_BYTES);
+    good = good && same_bytes(s, store) && same_bytes(q, request);
+    free(s.at);
+    free(q.at);
+    give_back(report);
+    return good;
+}
+
+/* Whether hub_length tells this answer's length for so much offered, and hub_write writes exactly this answer into so much. */
+static inline int answer_comes(struct text store, struct text request, size_t room, struct text answer) {
+    struct lent out = lend(room), report = lend(HUB_REPORT_BYTES);
+    struct text s = exact(store), q = exact(request);
+    struct result sent = {HUB_DONE, 0, 0, answer.length};
+    uint64_t got = hub_write(s.at, s.length, q.at, q.length, front_of(out), room, front_of(report), HUB_REPORT_BYTES);
+    int good = is_told(got, front_of(report), sent) && kept_behind(report, HUB_REPORT_BYTES);
+    good = good && kept_behind(out, answer.length) && memcmp(front_of(out), answer.at, answer.length) == 0;
+    good = good && length_told(store, request, room, sent);
+    free(s.at);
+    free(q.at);
+    give_back(out);
+    give_back(report);
+    return good;
+}
+
+/* Whether hub_write refuses with this result, and leaves the output alone; and hub_length too, with so much offered. */
 static inline int answer_refused(struct text store, struct text request, size_t room, struct result r) {
     struct lent out = lend(room), report = lend(HUB_REPORT_BYTES);
     struct text s = exact(store), q = exact(request);
-    uint64_t got = hub_answer(s.at, s.length, q.at, q.length, front_of(out), room, front_of(report), HUB_REPORT_BYTES);
+    uint64_t got = hub_write(s.at, s.length, q.at, q.length, front_of(out), room, front_of(report), HUB_REPORT_BYTES);
     int good = is_told(got, front_of(report), r) && kept_behind(report, HUB_REPORT_BYTES) && kept_behind(out, 0);
+    good = good && length_told(store, request, room, r);
     free(s.at);
     free(q.at);
     give_back(out);

@@ -1,2 +1,4 @@
-// The mode of the test program for the answering call.
+// The modes of the test program for the two calls that answer a request.
 pub mod answers;
+pub mod lengths;
+pub mod tables;

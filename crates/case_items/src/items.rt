@@ -13,10 +13,14 @@ use numbers::serial::Serial;
 // `compact HEX`
 pub fn compact(s: &[u8]) {
     match numbers::compact::read_compact(s) {
-        Compact::Value(value, used) => {
+        Compact::Value(value, used, padded) => {
             say::ok();
             say::number(value);
-            say::number(used as u64)
+            say::number(used as u64);
+            if padded {
+                return say::number(1);
+            }
+            say::number(0)
         }
         Compact::Refused(r) => say::refusal(r),
     }

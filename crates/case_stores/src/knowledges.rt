@@ -2,6 +2,7 @@
 ghost use Prim.Native.Nat.{_*_, _≤_};
 ghost use lib.ListN.{length};
 ghost use Rattle.talk.specs.Ranges.{Normal};
+ghost use Rattle.numbers.specs.Compact.{paddingRefused};
 ghost use Rattle.objects.specs.declared.reading.Reading.the-variants.{At};
 ghost use Rattle.ranges.specs.RangeTable.{rangeWidth, rangesAt};
 ghost use Rattle.store.specs.Knowledge.{mostSaid, knowledgeAt, ReadsKnowledge};
@@ -9,6 +10,7 @@ use crate::stores::UNTOUCHED;
 use crate::stores::untouched;
 use case_words::say;
 use case_words::words;
+use numbers::compact::PADDING_REFUSED;
 use numbers::guid::Guid;
 use numbers::refusal::Refusal;
 use objects::reading::Reading;
@@ -78,11 +80,19 @@ pub fn refused(s: &[u8], r: Refusal, t: &[u64; SAID_NUMBERS]) {
     say::refusal(r)
 }
 
-// The knowledge at the front of s.
+// The knowledge at the front of s, read as in a request: padding is refused.
 fn read(s: &[u8], t: &mut [u64; SAID_NUMBERS]) -> ReadKnowledge
-    ensures { λ r. ⌜ ReadsKnowledge (knowledgeAt mostSaid 12 0x42 (now (s .entry)) (now (t .entry)) (At 0 0)) r (now (t .exit)) ⌝ }
+    ensures { λ r. ⌜ ReadsKnowledge (knowledgeAt paddingRefused mostSaid 12 0x42 (now (s .entry)) (now (t .entry)) (At 0 0)) r (now (t .exit)) ⌝ }
 {
-    read_knowledge(s, Reading::At(0, 0), SUB_REQUEST, LEVELS, MOST_SAID, t)
+    read_knowledge(
+        s,
+        Reading::At(0, 0),
+        SUB_REQUEST,
+        LEVELS,
+        MOST_SAID,
+        t,
+        PADDING_REFUSED,
+    )
 }
 
 // `knowledge HEX`

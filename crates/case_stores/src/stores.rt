@@ -3,9 +3,13 @@ ghost use mathlib.Core.Bool.{true};
 ghost use mathlib.Core.Path.{_≡_};
 ghost use Prim.Native.Nat.{ℕ, _≤_, _<_};
 ghost use lib.ListN.{length, getD};
+ghost use Rattle.store.specs.Tables.{mostElements};
 use case_words::say;
 use case_words::words;
 use numbers::refusal::Refusal;
+use order::rows::RANKED_NUMBERS;
+use order::rows::RANKED_WIDTH;
+use order::rows::put_rows;
 use store::accessor::Found;
 use store::accessor::element_bytes;
 use store::accessor::find_element;
@@ -39,7 +43,7 @@ const LEAST_ELEMENT: usize = 46;
 
 // At most so many elements stand in s.
 fn elements_in(s: &[u8]) -> usize
-    ensures { λ r. ⌜ r ≤ 256 ⌝ }
+    ensures { λ r. ⌜ r ≤ mostElements ⌝ }
 {
     let n = s.len() / LEAST_ELEMENT;
     if MOST_ELEMENTS < n {
@@ -48,39 +52,44 @@ fn elements_in(s: &[u8]) -> usize
     n
 }
 
-// How many elements, and their rows; or that numbers behind the rows or the ids were changed. More elements than a store may
-// hold count as that.
-fn held(n: usize, rows: &[u64; ROW_NUMBERS], ids: &[u64; ID_NUMBERS]) {
-    if MOST_ELEMENTS < n {
-        return say::touched();
-    }
+// Whether no number was changed behind the rows and the ids of n elements.
+fn kept(n: usize, rows: &[u64; ROW_NUMBERS], ids: &[u64; ID_NUMBERS]) -> bool
+    requires { ⌜ n ≤ mostElements ⌝ }
+{
     let rows_end = n * ROW_WIDTH;
     let ids_end = n * ID_WIDTH;
     let all_rows = &rows[..];
     if !untouched(&all_rows[rows_end..]) {
-        return say::touched();
+        return false;
     }
     let all_ids = &ids[..];
-    if !untouched(&all_ids[ids_end..]) {
+    untouched(&all_ids[ids_end..])
+}
+
+// How many elements, and their rows as a lent table holds them; or that numbers behind the rows or the ids were changed, of the
+// working tables or of the lent one. More elements than a store may hold count as that.
+fn held(n: usize, rows: &[u64; ROW_NUMBERS], ids: &[u64; ID_NUMBERS]) {
+    if MOST_ELEMENTS < n {
+        return say::touched();
+    }
+    if !kept(n, rows, ids) {
+        return say::touched();
+    }
+    let mut lent = [UNTOUCHED; RANKED_NUMBERS];
+    put_rows(&mut lent, rows, ids, n);
+    let end = n * RANKED_WIDTH;
+    if !untouched(&lent[end..]) {
         return say::touched();
     }
     say::ok();
     say::number(n as u64);
-    say::table(rows, rows_end, 6, 0)
+    say::table(&lent, end, RANKED_WIDTH, 0)
 }
 
 // A refusal; or that numbers were changed behind the rows and the ids of as many elements as the store's bytes have room for. Before
 // that the tables may hold those of the elements before the fault.
 fn refused(s: &[u8], r: Refusal, rows: &[u64; ROW_NUMBERS], ids: &[u64; ID_NUMBERS]) {
-    let n = elements_in(s);
-    let rows_end = n * ROW_WIDTH;
-    let ids_end = n * ID_WIDTH;
-    let all_rows = &rows[..];
-    if !untouched(&all_rows[rows_end..]) {
-        return say::touched();
-    }
-    let all_ids = &ids[..];
-    if !untouched(&all_ids[ids_end..]) {
+    if !kept(elements_in(s), rows, ids) {
         return say::touched();
     }
     say::refusal(r)

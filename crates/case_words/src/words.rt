@@ -75,18 +75,20 @@ pub fn word(line: &[u8], k: usize) -> &[u8] {
     &line[at..end]
 }
 
-// A letter's place in the alphabet, from 1; 0 if the byte is no small letter.
+// A letter's place in the alphabet, from 1, and behind them the low line, which stands between two words of a mode; 0 if the byte
+// is neither.
 fn letter(b: u8) -> u8
-    ensures { λ r. ⌜ r ≤ 26 ⌝ }
+    ensures { λ r. ⌜ r ≤ 27 ⌝ }
 {
     match b {
         b'a'..=b'z' => b - b'a' + 1,
+        b'_' => 27,
         _ => 0,
     }
 }
 
-// A word of small letters as a number, its letters' places as digits to the base 32, so that no two words have one number; 0 for
-// an empty word, for any that has another byte, and for one that is too long. One number is compared where a word would be.
+// A word of small letters and low lines as a number, their places as digits to the base 32, so that no two words have one number;
+// 0 for an empty word, for any that has another byte, and for one that is too long. One number is compared where a word would be.
 fn code(text: &[u8]) -> u64 {
     let mut value: u64 = 0;
     let mut i = 0;

@@ -15,7 +15,7 @@ use numbers::guid::Guid;
 use store::accessor::Found;
 
 // Room for the longest request that is lent. It comes from a call as the large arrays of main.rt do.
-fn output_space() -> [u8; 65536] {
+pub(crate) fn output_space() -> [u8; 65536] {
     [say::UNTOUCHED; 65536]
 }
 

@@ -1,10 +1,13 @@
 // A filter for tests: each line of the input is one case, and gives one line of output (README.md says which). It shows the
 // calls of the libraries from outside, so that a run can be compared with what another program makes of the same cases.
+mod bench_puts;
 mod benches;
 
 use case_answers::answers;
+use case_answers::lengths;
 use case_items::headers;
 use case_items::items;
+use case_puts::changes;
 use case_requests::requests;
 use case_stores::knowledges;
 use case_stores::stores;
@@ -49,6 +52,8 @@ fn item(mode: u64, s: &[u8]) {
         19513644660 => requests::message(s),
         // read
         594980 => benches::read(s),
+        // read_put
+        623882650292 => bench_puts::read(s),
         _ => say::bad(),
     }
 }
@@ -105,13 +110,27 @@ fn five_words(line: &[u8], out: &mut [u8]) {
     }
 }
 
-// `answer STOREHEX REQUESTHEX OUTLEN STORETABLELEN KNOWTABLELEN` or `ask ID LIMIT FILTERHEX KNOWLEDGEHEX OUTLEN`
+// `length STOREHEX REQUESTHEX OFFERED STORETABLELEN KNOWTABLELEN`, `write STOREHEX REQUESTHEX OUTLEN STORETABLELEN KNOWTABLELEN`,
+// `ask ID LIMIT FILTERHEX KNOWLEDGEHEX OUTLEN` or `put STOREHEX REQUESTHEX HUBGUIDHEX NEWSTORELEN OUTLEN`
 fn six_words(line: &[u8], space: &mut [u8]) {
     match words::mode(line) {
-        // answer
-        48880818 => answers::answered(line, space),
+        // length
+        408362632 => lengths::offered(line, space),
+        // write
+        24716933 => answers::written(line, space),
         // ask
         1643 => benches::asked(line, space),
+        // put
+        17076 => changes::handed(line, space),
+        _ => say::bad(),
+    }
+}
+
+// `ask_put ID NAMED GUIDHEX NUMBER ELEMENTSHEX OUTLEN`
+fn seven_words(line: &[u8], space: &mut [u8]) {
+    match words::mode(line) {
+        // ask_put
+        1723712180 => bench_puts::asked(line, space),
         _ => say::bad(),
     }
 }
@@ -124,6 +143,7 @@ fn one_case(line: &[u8], space: &mut [u8], out: &mut [u8]) {
         4 => four_words(line, space, out),
         5 => five_words(line, out),
         6 => six_words(line, space),
+        7 => seven_words(line, space),
         _ => say::bad(),
     }
 }

@@ -1,9 +1,9 @@
--- What the answering call writes reads back: an answer whose elements stand in a store is read with no refusal, as the same id,
--- mark and storage index, the same elements with the same bytes, and the same ranges.
+-- An answer that is written reads back: one whose elements stand in a store is read with no refusal, as the same id, mark and storage
+-- index, the same elements with the same bytes, and the same ranges.
 -- Assumes nothing.
 use mathlib.Core.Path.{_≡_, refl, sym, ap, subst, _∙_}
 use mathlib.Core.Bool.{Bool, true, false}
-use mathlib.Core.List.{List, [], _∷_, _++_, map, append-assoc, map-append, append-nil}
+use mathlib.Core.List.{List, [], _∷_, _++_, append-assoc, map-append, append-nil}
 use Prim.Native.Nat.{ℕ, zero, suc, _+_, _-_, _^_, _≤_, _<_}
 use native.Mathlib.Omega.{arith}
 use lib.ListN.{length, drop, getD, length-append}
@@ -27,58 +27,62 @@ use Rattle.talk.specs.declared.range.Range.{Range}
 use Rattle.store.specs.Knowledge.{mostSaid}
 use Rattle.store.specs.Accessor.{elementIn, bytesAt}
 use Rattle.store.specs.Chain.{Follows, Fresh}
-use Rattle.store.specs.Element.{sameKey, idsIn, serialsIn, elementAt}
+use Rattle.store.specs.Element.{sameKey, idsIn, elementAt}
 use Rattle.store.specs.KnowledgeWritten.{knowledgeBytes}
-use Rattle.store.specs.Store.{Walk, walked, packageStart}
+use Rattle.store.specs.Store.{Walk, walked, packageStart, storeStrictness}
 use Rattle.store.specs.Written.{packageFront}
-use Rattle.store.specs.declared.element.Key.{Key}
+use Rattle.store.specs.Held.{storedBytes, elementsBytes}
 use Rattle.store.specs.declared.element.Element.{Element}
 use Rattle.store.specs.declared.element.ReadElement.the-variants.{Is}
 use Rattle.store.proofs.Chains.{package-walked}
 use Rattle.store.proofs.ElementWritten.{compact-most}
-use Rattle.store.proofs.ElementCarry.{element-carry}
+use Rattle.store.proofs.ElementCarry.{Wider, wider-same, element-carry}
 use Rattle.store.proofs.Found.{found-none}
 use Rattle.store.proofs.KnowledgeBack.{knowledge-back}
 use Rattle.store.proofs.Taken.{element-some}
-use Rattle.request.specs.Message.{versions}
-use Rattle.pages.specs.Tables.{answerFront, answerMiddle}
-use Rattle.pages.specs.Written.{versionBytes, answerSignature, responseBytes, storedBytes, elementsBytes, subResponseData, subResponseBytes, partialByte, changesData, changesBytes, endsBytes, answerBytes}
-use Rattle.pages.proofs.Lengths.{answer-parts, length-front, length-back, length-middle, length-sub-data, extended-most, length-changes-data}
+use Rattle.request.specs.Message.{versions, queryChangesRequest, idIn}
+use Rattle.request.specs.Response.{versionBytes, answerSignature, responseBytes, subResponseData, subResponseBytes, endsBytes, answerFront}
+use Rattle.pages.specs.Tables.{answerMiddle}
+use Rattle.pages.specs.Written.{partialByte, changesData, changesBytes, answerBytes}
+use Rattle.request.proofs.ResponseLengths.{length-front, length-back, length-sub-data}
+use Rattle.pages.proofs.Lengths.{answer-parts, length-middle, extended-most, length-changes-data}
 use Rattle.client.specs.Back.{StandsIn, placedAt, setDown, knowledgePlace, ReadsBack}
-use Rattle.client.specs.Read.{longestAnswer, statusByte, responseFields, responseStart, packageIn, elementsStart, subResponseFields, subResponse, indexField, changesFields, changesStart, changes, idIn, knowledgeIn, endsOf, markAt, knowledgeEnd, markOf, receivedFrom, restOf, packageEnd, answerEnd, answerOn, answerIn}
+use Rattle.client.specs.Read.{longestAnswer, statusByte, responseFields, responseStart, packageIn, elementsStart, subResponseFields, subResponse, indexField, changesFields, changesStart, changes, knowledgeIn, endsOf, markAt, knowledgeEnd, markOf, receivedFrom, restOf, packageEnd, answerEnd, answerOn, answerIn, answerPadding, answerStrictness}
 use Rattle.client.specs.Accessor.{receivedAt, receivedBytes}
 
 -- ---- the elements, set down one behind the other
 
 -- an element that stands in a store lies within it
 stands-within : (s : List ℕ) (x : Element) → StandsIn s x → x .place + x .length ≤ length s
-stands-within s x h = element-some 14 (h .0) (h .1) s (x .place) 0 x (h .2) .2
+stands-within s x h = element-some storeStrictness (h .0) s (x .place) 0 x (h .1) .2
 
 stored-length : (s : List ℕ) (x : Element) → StandsIn s x → length (storedBytes s x) ≡ x .length
 unfolding storedBytes
 stored-length s x h = part-length (x .place) (x .length) s (stands-within s x h)
 
--- one key more, of the same element at two places
-keys-more : (key : Element → Key) (there done : List Element) (y x : Element) → map key there ≡ map key done → key y ≡ key x
-    → map key (there ++ (y ∷ [])) ≡ map key (done ++ (x ∷ []))
-keys-more key there done y x e f = rw (map-append key there (y ∷ []), map-append key done (x ∷ []), e, f)
+-- one id more, of the same element at two places
+ids-more : (there done : List Element) (y x : Element) → idsIn there ≡ idsIn done → y .id ≡ x .id → idsIn (there ++ (y ∷ [])) ≡ idsIn (done ++ (x ∷ []))
+ids-more there done y x e f = rw (map-append (λ (z : Element). z .id) there (y ∷ []), map-append (λ (z : Element). z .id) done (x ∷ []), e, f)
 
--- one of them, where its bytes stand, beside the keys of those before it
+-- a bench takes the elements that a store may have
+store-wider : Wider storeStrictness answerStrictness
+store-wider = wider-same storeStrictness
+
+-- one of them, where its bytes stand, beside the ids of those before it
 set-here : (s : List ℕ) (x : Element) (there done : List Element) (pre rest w : List ℕ) (at : ℕ) → w ≡ pre ++ (storedBytes s x ++ rest) → length pre ≡ at
-    → StandsIn s x → idsIn there ≡ idsIn done → serialsIn there ≡ serialsIn done → seen sameKey (x .id) (idsIn done) ≡ false
-    → seen sameKey (x .serial) (serialsIn done) ≡ false → elementAt 14 (idsIn there) (serialsIn there) w (At at 0) ≡ Is (placedAt at x)
+    → StandsIn s x → idsIn there ≡ idsIn done → seen sameKey (x .id) (idsIn done) ≡ false → elementAt answerStrictness (idsIn there) w (At at 0) ≡ Is (placedAt at x)
 unfolding storedBytes
-set-here s x there done pre rest w at e n h i j f g =
+set-here s x there done pre rest w at e n h i f =
     rw (e, ← n)
-    (element-carry s (x .place) 0 0 14 14 (h .0) (h .1) (idsIn there) (serialsIn there) x (h .2) pre rest (omega arith) (rw i f) (rw j g))
+    (element-carry storeStrictness answerStrictness store-wider s (x .place) 0 0 (h .0) (idsIn there) x (h .1) pre rest (rw i f))
 
 -- they are a chain
 chain-set : (s : List ℕ) (page there done : List Element) (pre post w : List ℕ) (at : ℕ) → w ≡ pre ++ (elementsBytes s page ++ post) → length pre ≡ at
-    → Each (StandsIn s) page → idsIn there ≡ idsIn done → serialsIn there ≡ serialsIn done → Fresh (λ x. x .id) done page → Fresh (λ x. x .serial) done page
-    → Follows w there at (setDown at page) (at + length (elementsBytes s page))
+    → Each (StandsIn s) page → idsIn there ≡ idsIn done → Fresh (λ x. x .id) done page
+    → Follows answerStrictness w there at (setDown at page) (at + length (elementsBytes s page))
 unfolding elementsBytes setDown
-chain-set s [] there done pre post w at e n h i j f g = omega arith
-chain-set s (x ∷ xs) there done pre post w at e n h i j f g =
+chain-set s [] there done pre post w at e n h i f = omega arith
+chain-set s (x ∷ xs) there done pre post w at e n h i f =
     let y = placedAt at x in
     let b = storedBytes s x in
     let rest = elementsBytes s xs ++ post in
@@ -86,11 +90,11 @@ chain-set s (x ∷ xs) there done pre post w at e n h i j f g =
     let a = length-append pre b in
     let d = length-append b (elementsBytes s xs) in
     let e′ : w ≡ pre ++ (b ++ rest) = e ∙ ap (λ (v : List ℕ). pre ++ v) (append-assoc b (elementsBytes s xs) post) in
-    let r : elementAt 14 (idsIn there) (serialsIn there) w (At at 0) ≡ Is y = set-here s x there done pre rest w at e′ n (h .0) i j (f .0) (g .0) in
+    let r : elementAt answerStrictness (idsIn there) w (At at 0) ≡ Is y = set-here s x there done pre rest w at e′ n (h .0) i (f .0) in
     let o = chain-set s xs (there ++ (y ∷ [])) (done ++ (x ∷ [])) (pre ++ b) post w (at + x .length) (e′ ∙ sym (append-assoc pre b rest)) (omega arith) (h .1)
-    (keys-more (λ z. z .id) there done y x i refl) (keys-more (λ z. z .serial) there done y x j refl) (f .1) (g .1) in
+    (ids-more there done y x i refl) (f .1) in
     let m : at + x .length + length (elementsBytes s xs) ≡ at + length (b ++ elementsBytes s xs) = omega arith in
-    (r, subst (λ (k : ℕ). Follows w (there ++ (y ∷ [])) (at + x .length) (setDown (at + x .length) xs) k) m o)
+    (r, subst (λ (k : ℕ). Follows answerStrictness w (there ++ (y ∷ [])) (at + x .length) (setDown (at + x .length) xs) k) m o)
 
 pub length-set-down : (at : ℕ) (page : List Element) → length (setDown at page) ≡ length page
 unfolding setDown
@@ -132,48 +136,48 @@ response-whole : responseFields (0 ∷ []) ≡ At 1 0
 unfolding responseFields
 response-whole = reads-status 0 .here (0 ∷ []) 0 [] refl
 
-reads-response : (u : ℕ) → Reads (λ s c. c ▹ startHere s nothingOpen 0x62 true true ▹ inRun s responseFields) u responseBytes 0
+reads-response : (u : ℕ) → Reads (λ s c. c ▹ startHere answerPadding s nothingOpen 0x62 true true ▹ inRun s responseFields) u responseBytes 0
 unfolding responseBytes
 reads-response u =
-    reads-then (reads-start u nothingOpen 0x62 true 1 (omega arith) (omega arith)) (reads-run responseFields (0 ∷ []) 0 response-whole)
+    reads-then (reads-start answerPadding u nothingOpen 0x62 true 1 (omega arith) (omega arith)) (reads-run responseFields (0 ∷ []) 0 response-whole)
 
-reads-package-start : (u : ℕ) → Reads (packageStart 0x62) u packageFront 0
+reads-package-start : (u : ℕ) → Reads (packageStart answerPadding 0x62) u packageFront 0
 unfolding packageStart packageFront
-reads-package-start u = reads-then (reads-start-of-length u 0x62 0x15 true 1 (omega arith) (omega arith)) (reads-skip 1 (0 ∷ []))
+reads-package-start u = reads-then (reads-start-of-length answerPadding u 0x62 0x15 true 1 (omega arith) (omega arith)) (reads-skip 1 (0 ∷ []))
 
-front-read : (w rest : List ℕ) → w ≡ answerFront ++ rest → elementsStart w ≡ At 20 0
+pub front-read : (w rest : List ℕ) → w ≡ answerFront ++ rest → elementsStart w ≡ At 20 0
 unfolding answerFront responseStart versions
 front-read w rest e =
     reads-then reads-versions (reads-then (reads-response answerSignature) (reads-package-start 0)) .here w 0 rest e
     ∙ ap (λ (n : ℕ). At n 0) (let f = length-front in omega arith)
 
--- the sub-response
-module _ (id : ℕ) (h : id < 2 ^ 64) where
+-- the sub-response, of any type
+module _ (kind id : ℕ) (k : kind < 2 ^ 64) (h : id < 2 ^ 64) where
   abbrev subData : List ℕ
-  subData = subResponseData id
+  subData = subResponseData kind id
 
-  id-read : number subData (At 0 0) ≡ At (0 + length (compactBytes id)) id
+  id-read : number answerPadding subData (At 0 0) ≡ At (0 + length (compactBytes id)) id
   unfolding subResponseData
-  id-read = reads-number 0 id h .here subData 0 (compactBytes 2 ++ (0 ∷ [])) refl
+  id-read = reads-number answerPadding 0 id h .here subData 0 (compactBytes kind ++ (0 ∷ [])) refl
 
-  type-read : statusByte subData (numberIs subData 2 8 (At (0 + length (compactBytes id)) id)) ≡ At (length subData) 0
+  type-read : statusByte subData (numberIs answerPadding subData kind 8 (At (0 + length (compactBytes id)) id)) ≡ At (length subData) 0
   unfolding subResponseData
   type-read =
-      let b : drop (0 + length (compactBytes id)) subData ≡ compactBytes 2 ++ (0 ∷ []) = behind subData 0 (compactBytes id) (compactBytes 2 ++ (0 ∷ [])) refl in
-      reads-then (reads-number-is id 2 8 (omega arith)) (reads-status 2) .here subData (0 + length (compactBytes id)) [] (b ∙ sym (append-nil _))
-      ∙ ap (λ (n : ℕ). At n 0) (let a = length-append (compactBytes id) (compactBytes 2 ++ (0 ∷ [])) in omega arith)
+      let b : drop (0 + length (compactBytes id)) subData ≡ compactBytes kind ++ (0 ∷ []) = behind subData 0 (compactBytes id) (compactBytes kind ++ (0 ∷ [])) refl in
+      reads-then (reads-number-is answerPadding id kind 8 k) (reads-status kind) .here subData (0 + length (compactBytes id)) [] (b ∙ sym (append-nil _))
+      ∙ ap (λ (n : ℕ). At n 0) (let a = length-append (compactBytes id) (compactBytes kind ++ (0 ∷ [])) in omega arith)
 
-  sub-response-whole : subResponseFields subData ≡ At (length subData) id
+  sub-response-whole : subResponseFields kind subData ≡ At (length subData) id
   unfolding subResponseFields valueOf valued
   sub-response-whole = rw (id-read, type-read)
 
   sub-short : length subData < 2 ^ 64
-  sub-short = let d = length-sub-data id in let m = compact-most id in omega arith
+  sub-short = let d = length-sub-data kind id in let m = compact-most id in let n = compact-most kind in omega arith
 
-  reads-sub-response : (u : ℕ) → Reads subResponse u (subResponseBytes id) id
+  pub reads-sub-response : (u : ℕ) → Reads (subResponse kind) u (subResponseBytes kind id) id
   unfolding subResponse subResponseBytes
   reads-sub-response u =
-      reads-then (reads-start u 0x62 0x41 true (length subData) (omega arith) sub-short) (reads-run subResponseFields subData id sub-response-whole)
+      reads-then (reads-start answerPadding u 0x62 0x41 true (length subData) (omega arith) sub-short) (reads-run (subResponseFields kind) subData id sub-response-whole)
 
 -- the storage index and the partial byte
 one-byte : (partial : Bool) → bytes 1 (partialByte partial) ≡ partialByte partial ∷ []
@@ -221,7 +225,7 @@ module _ (index : ExtendedGuid) (partial : Bool) (h : ExtendedGuidFits index) wh
     stands-apart = stands ∙ append-assoc (startBytes 0x5F false (length indexData)) indexData t
 
     changes-open : changesStart s (At at u) ≡ At (at + length (startBytes 0x5F false (length indexData))) (length indexData)
-    changes-open = reads-start u 0x41 0x5F false (length indexData) (omega arith) changes-short .here s at (indexData ++ t) stands-apart
+    changes-open = reads-start answerPadding u 0x41 0x5F false (length indexData) (omega arith) changes-short .here s at (indexData ++ t) stands-apart
 
     run-is : runHere s (changesStart s (At at u)) ≡ indexData
     unfolding runHere
@@ -230,7 +234,7 @@ module _ (index : ExtendedGuid) (partial : Bool) (h : ExtendedGuidFits index) wh
     changes-read : changes s (At at u) ≡ At (at + length (changesBytes index partial)) (partialByte partial)
     unfolding changes changesBytes
     changes-read =
-        reads-then (reads-start u 0x41 0x5F false (length indexData) (omega arith) changes-short) (reads-run changesFields indexData (partialByte partial) changes-whole)
+        reads-then (reads-start answerPadding u 0x41 0x5F false (length indexData) (omega arith) changes-short) (reads-run changesFields indexData (partialByte partial) changes-whole)
         .here s at t stands
 
     index-back : idIn (indexField (runHere s (changesStart s (At at u)))) ≡ index
@@ -242,7 +246,7 @@ reads-ends : (u : ℕ) → Reads (λ s c. c ▹ endHere s 0x41 ▹ endHere s 0x6
 unfolding endsBytes
 reads-ends u = reads-then (reads-end u 0x41 (omega arith)) (reads-end 0 0x62 (omega arith))
 
-ends-read : (w : List ℕ) (at u : ℕ) → drop at w ≡ endsBytes → endsOf w (At at u) ≡ At (at + length endsBytes) 0
+pub ends-read : (w : List ℕ) (at u : ℕ) → drop at w ≡ endsBytes → endsOf w (At at u) ≡ At (at + length endsBytes) 0
 unfolding endsOf
 ends-read w at u h =
     let h′ : drop at w ≡ endsBytes ++ [] = h ∙ sym (append-nil endsBytes) in
@@ -252,14 +256,14 @@ ends-read w at u h =
 
 module _ (s : List ℕ) (id : ℕ) (index : ExtendedGuid) (page : List Element) (partial : Bool) (l : List Range) (w : List ℕ)
     (is : w ≡ answerBytes s id index page partial l) (stand : Each (StandsIn s) page) (ids : Fresh (λ x. x .id) [] page)
-    (serials : Fresh (λ x. x .serial) [] page) (few : length page ≤ 256) (id-fits : id < 2 ^ 64) (index-fits : ExtendedGuidFits index)
+    (few : length page ≤ 256) (id-fits : id < 2 ^ 64) (index-fits : ExtendedGuidFits index)
     (normal : Normal l) (fit : AllFit l) (most : length l ≤ mostSaid) (short : length w ≤ longestAnswer) where
   -- the parts, one behind the other
   abbrev elementsPart : List ℕ
   elementsPart = elementsBytes s page
 
   abbrev subPart : List ℕ
-  subPart = subResponseBytes id
+  subPart = subResponseBytes queryChangesRequest id
 
   abbrev indexPart : List ℕ
   indexPart = changesBytes index partial
@@ -311,8 +315,8 @@ module _ (s : List ℕ) (id : ℕ) (index : ExtendedGuid) (page : List Element) 
 
   walk-is : packageIn w ≡ walked (setDown 20 page) (At past 0)
   walk-is =
-      package-walked 0x62 w (responseStart w) 20 0 (setDown 20 page) last past 0 begins
-      (chain-set s page [] [] answerFront _ w 20 w-apart (length-front .3) stand refl refl ids serials)
+      package-walked answerStrictness 0x62 w (responseStart w) 20 0 (setDown 20 page) last past 0 begins
+      (chain-set s page [] [] answerFront _ w 20 w-apart (length-front .3) stand refl ids)
       (let n = length-set-down 20 page in omega arith) (reads-end 0 0x15 (omega arith) .here w last _ end-stands)
 
   elements-back : packageIn w .elements ≡ setDown 20 page
@@ -323,15 +327,15 @@ module _ (s : List ℕ) (id : ℕ) (index : ExtendedGuid) (page : List Element) 
   package-past = rw (ap (λ (x : Walk). x .last) walk-is)
 
   -- behind it
-  sub-is : subResponse w (At past 0) ≡ At marked id
-  sub-is = reads-sub-response id id-fits 0 .here w past _ sub-stands
+  sub-is : subResponse queryChangesRequest w (At past 0) ≡ At marked id
+  sub-is = reads-sub-response queryChangesRequest id (omega arith) id-fits 0 .here w past _ sub-stands
 
   mark-is : markAt w (At past 0) ≡ At place (partialByte partial)
   mark-is = rw sub-is (changes-read index partial index-fits w marked id _ index-stands ∙ rw place-is)
 
   ranges-back : (knowledgeIn w (At place (partialByte partial)) .ranges ≡ l) × (knowledgeIn w (At place (partialByte partial)) .last ≡ At (place + length knowledgePart) 0)
   unfolding knowledgeIn
-  ranges-back = knowledge-back mostSaid 13 0x41 l w [] place (partialByte partial) endsBytes normal fit most knowledge-stands
+  ranges-back = knowledge-back answerPadding mostSaid 13 0x41 l w [] place (partialByte partial) endsBytes normal fit most knowledge-stands
 
   known-end : knowledgeEnd w (At past 0) ≡ At (place + length knowledgePart) 0
   unfolding valued

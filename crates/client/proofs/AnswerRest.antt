@@ -1,5 +1,5 @@
--- An answer from behind its package on: after a fault nothing is read, and the knowledge lies before the end. And what reading an
--- answer says of its end and of its elements.
+-- An answer from behind its package on, and the answer to a put: after a fault nothing is read, and the knowledge lies before the end.
+-- And what reading an answer says of its end and of its elements.
 -- Assumes nothing.
 use mathlib.Core.Path.{_≡_, refl, ap, subst}
 use mathlib.Core.List.{List, []}
@@ -21,8 +21,9 @@ use Rattle.store.specs.declared.accessor.Found.the-variants as found
 use Rattle.store.specs.declared.package.Packaged.the-variants as packaged
 use Rattle.store.proofs.KnowledgeCarry.{carries-knowledge}
 use Rattle.store.proofs.KnowledgeHeld.{onward-knowledge}
-use Rattle.client.specs.Read.{longestAnswer, packageIn, subResponse, changes, knowledgeIn, endsOf, markAt, knowledgeEnd, receivedFrom, restOf, answerEnd, answerOn, answerIn}
+use Rattle.client.specs.Read.{longestAnswer, packageIn, subResponse, changes, knowledgeIn, behindKnowledge, endsOf, markAt, knowledgeEnd, receivedFrom, restOf, answerEnd, answerOn, answerIn, answerPadding}
 use Rattle.client.specs.Accessor.{receivedAt, rowsReceived, idsReceived}
+use Rattle.client.specs.ReadPut.{putKnown, putRestOf}
 use Rattle.client.specs.declared.answer.Received.{Received}
 use Rattle.client.specs.declared.answer.ReadAnswer.the-variants as answer
 
@@ -30,7 +31,11 @@ use Rattle.client.specs.declared.answer.ReadAnswer.the-variants as answe
 
 pub rest-fault : (s : List ℕ) (r : Refusal) → restOf s (Refused r) ≡ Refused r
 unfolding restOf endsOf endHere finish subResponse changes startHere runHere closedAt knowledgeIn valued
-rest-fault s r = rw (carries-knowledge mostSaid 13 0x41 [] .fault s r)
+rest-fault s r = rw (carries-knowledge answerPadding mostSaid 13 0x41 [] .fault s r)
+
+pub put-rest-fault : (s : List ℕ) (r : Refusal) → putRestOf s (Refused r) ≡ Refused r
+unfolding putRestOf endsOf endHere finish subResponse startHere runHere closedAt knowledgeIn valued
+put-rest-fault s r = rw (carries-knowledge answerPadding mostSaid 13 0x41 [] .fault s r)
 
 -- ---- the knowledge's length
 
@@ -44,15 +49,24 @@ unfolding valued
 valued-reached (At p v) q u h = (v, cc)
 valued-reached (Refused r) q u h = impossible (cc)
 
--- where the end is reached, the knowledge ends behind its start
-pub knowledge-forward : (s : List ℕ) (c : Reading) (e v : ℕ) → restOf s c ≡ At e v → placeOf (markAt s c) ≤ placeOf (knowledgeEnd s c)
-unfolding restOf knowledgeIn placeOf
-knowledge-forward s c e v h =
-    let a = ends-reached s (knowledgeEnd s c) e v h in
-    let b = valued-reached (knowledgeIn s (markAt s c) .last) (a .0) (a .1) (a .2) in
-    let p = onward-knowledge mostSaid 13 0x41 s [] (markAt s c) .behind (placeOf (markAt s c)) (behind-place (markAt s c)) in
-    let q : Behind (placeOf (markAt s c)) (At (a .0) (b .0)) = subst (Behind (placeOf (markAt s c))) (b .1) p in
+-- where the end is reached, the knowledge that begins at c ends behind its start
+known-forward : (s : List ℕ) (c : Reading) (e v : ℕ) → endsOf s (behindKnowledge s c) ≡ At e v → placeOf c ≤ placeOf (behindKnowledge s c)
+unfolding knowledgeIn placeOf
+known-forward s c e v h =
+    let a = ends-reached s (behindKnowledge s c) e v h in
+    let b = valued-reached (knowledgeIn s c .last) (a .0) (a .1) (a .2) in
+    let p = onward-knowledge answerPadding mostSaid 13 0x41 s [] c .behind (placeOf c) (behind-place c) in
+    let q : Behind (placeOf c) (At (a .0) (b .0)) = subst (Behind (placeOf c)) (b .1) p in
     rw (a .2) (omega arith)
+
+pub knowledge-forward : (s : List ℕ) (c : Reading) (e v : ℕ) → restOf s c ≡ At e v → placeOf (markAt s c) ≤ placeOf (knowledgeEnd s c)
+unfolding restOf
+knowledge-forward s c e v h = known-forward s (markAt s c) e v h
+
+-- and so in the answer to a put
+pub put-forward : (s : List ℕ) (c : Reading) (e v : ℕ) → putRestOf s c ≡ At e v → placeOf (putKnown s c) ≤ placeOf (behindKnowledge s (putKnown s c))
+unfolding putRestOf
+put-forward s c e v h = known-forward s (putKnown s c) e v h
 
 -- ---- the package
 

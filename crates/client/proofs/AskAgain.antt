@@ -9,6 +9,7 @@ use native.Mathlib.Omega.{arith}
 use lib.ListN.{length, length-append}
 use lib.Seq.{drop-length}
 use borrow.Author.Tests.{ne-eqb}
+use Rattle.request.specs.Filter.{requestPadding}
 use Rattle.numbers.specs.Refusals.{longestInput}
 use Rattle.objects.specs.Header.{startBytes, endBytes}
 use Rattle.objects.specs.Steps.{valued}
@@ -46,8 +47,8 @@ module _ (l : List Range) (n : Normal l) (f : AllFit l) (m : length l ≤ mostSa
   some : length sent ≡ 0 → ⊥
   some e = let z = knowledge-size l in omega arith
 
-  told : (knowledgeAt mostSaid 12 0x42 sent [] (At 0 0) .ranges ≡ l) × (knowledgeAt mostSaid 12 0x42 sent [] (At 0 0) .last ≡ At (length sent) 0)
-  told = rw zero-add at (knowledge-back mostSaid 12 0x42 l sent [] 0 0 [] n f m (sym (append-nil sent)))
+  told : (knowledgeAt requestPadding mostSaid 12 0x42 sent [] (At 0 0) .ranges ≡ l) × (knowledgeAt requestPadding mostSaid 12 0x42 sent [] (At 0 0) .last ≡ At (length sent) 0)
+  told = rw zero-add at (knowledge-back requestPadding mostSaid 12 0x42 l sent [] 0 0 [] n f m (sym (append-nil sent)))
 
   pub knowledge-sent-back : (knowledgeGiven sent ≡ At (length sent) 0) × (knowledgeOf sent .ranges ≡ l)
   unfolding knowledgeOf valued

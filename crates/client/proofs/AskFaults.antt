@@ -17,27 +17,27 @@ use Rattle.objects.proofs.Keep.{good-front, onward-valued, onward-start, onward
 use Rattle.objects.proofs.InputFaults.{InputFault, input-fault}
 use Rattle.store.specs.Knowledge.{mostSaid, Knowing}
 use Rattle.store.proofs.KnowledgeHeld.{onward-knowledge}
-use Rattle.request.specs.Filter.{filtersFrom}
+use Rattle.request.specs.Filter.{filtersFrom, requestPadding}
 use Rattle.request.proofs.Places.{good-filters}
 use Rattle.client.specs.Ask.{noMore, filtersGiven, knowledgeOf, knowledgeGiven}
 
-good-no-more : (s : List ℕ) (c : Reading) → Good s c → Good s (noMore s c)
+pub good-no-more : (outer kind : ℕ) (s : List ℕ) (c : Reading) → Good s c → Good s (noMore outer kind s c)
 unfolding noMore
-good-no-more s (At at v) g =
-    pick-all (Good s) (ltb at (length s)) _ _ (λ e. onward-start s 0x42 0x47 true true (At at v) .good g) (λ e. g)
-good-no-more s (Refused r) g = g
+good-no-more outer kind s (At at v) g =
+    pick-all (Good s) (ltb at (length s)) _ _ (λ e. onward-start requestPadding s outer kind true true (At at v) .good g) (λ e. g)
+good-no-more outer kind s (Refused r) g = g
 
 pub filters-fault : (f : List ℕ) (r : Refusal) → filtersGiven f ≡ Refused r → InputFault longestInput f r
 unfolding filtersGiven
 filters-fault f r h =
     let c = filtersFrom 16 f (At 0 0) in
-    input-fault longestInput f (filtersGiven f) (noMore f c) r (λ l. rw (lt-ltb longestInput (length f) l)) (λ l. rw (le-ltb longestInput (length f) l))
-    (good-no-more f c (good-filters 16 f (At 0 0) (good-front f 0))) h
+    input-fault longestInput f (filtersGiven f) (noMore 0x42 0x47 f c) r (λ l. rw (lt-ltb longestInput (length f) l)) (λ l. rw (le-ltb longestInput (length f) l))
+    (good-no-more 0x42 0x47 f c (good-filters 16 f (At 0 0) (good-front f 0))) h
 
 good-knowledge-of : (k : List ℕ) → Good k (knowledgeOf k .last)
 unfolding knowledgeOf
 good-knowledge-of k =
-    pick-all (λ (m : Knowing). Good k (m .last)) (eqb (length k) 0) _ _ (λ e. good-front k 0) (λ e. onward-knowledge mostSaid 12 0x42 k [] (At 0 0) .good (good-front k 0))
+    pick-all (λ (m : Knowing). Good k (m .last)) (eqb (length k) 0) _ _ (λ e. good-front k 0) (λ e. onward-knowledge requestPadding mostSaid 12 0x42 k [] (At 0 0) .good (good-front k 0))
 
 pub knowledge-fault : (k : List ℕ) (r : Refusal) → knowledgeGiven k ≡ Refused r → InputFault longestInput k r
 unfolding knowledgeGiven

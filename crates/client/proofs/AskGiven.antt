@@ -22,11 +22,11 @@ use Rattle.objects.proofs.Keep.{good-front}
 use Rattle.objects.proofs.StepsCarry.{opened-from}
 use Rattle.store.specs.Knowledge.{mostSaid, knowledgeAt}
 use Rattle.store.proofs.KnowledgeHeld.{onward-knowledge}
-use Rattle.request.specs.Filter.{filterAt, filtersFrom}
+use Rattle.request.specs.Filter.{filterAt, filtersFrom, requestPadding}
 use Rattle.request.specs.Message.{inRequest}
 use Rattle.request.proofs.Places.{good-filters}
 use Rattle.client.specs.AskWritten.{askBytes}
-use Rattle.client.specs.Ask.{noMore, filtersGiven, knowledgeOf, knowledgeGiven, writtenIn, judgedKnowledge, judgedFilters, askWrote, askOutput, WroteAs, WritesRequest}
+use Rattle.client.specs.Ask.{noMore, filtersGiven, knowledgeOf, knowledgeGiven, writtenIn, judgedSecond, judgedFirst, askWrote, askOutput, WroteAs, WritesRequest}
 
 -- ---- neither input is over-long
 
@@ -46,7 +46,7 @@ pub given-none : (k : List ℕ) → length k ≤ longestInput → length k ≡ 0
 unfolding knowledgeGiven knowledgeOf valued finish
 given-none k h e = let l : length k ≤ 0 = omega arith in rw (le-ltb _ _ h, eq-eqb _ _ e, le-ltb _ _ l)
 
-pub given-some : (k : List ℕ) → length k ≤ longestInput → (length k ≡ 0 → ⊥) → finish k (valued 0 (knowledgeAt mostSaid 12 0x42 k [] (At 0 0) .last)) ≡ knowledgeGiven k
+pub given-some : (k : List ℕ) → length k ≤ longestInput → (length k ≡ 0 → ⊥) → finish k (valued 0 (knowledgeAt requestPadding mostSaid 12 0x42 k [] (At 0 0) .last)) ≡ knowledgeGiven k
 unfolding knowledgeGiven knowledgeOf
 given-some k h n = rw (le-ltb _ _ h, ne-eqb _ _ n)
 
@@ -63,25 +63,26 @@ finished k (At e w) q v g h =
     (λ l. let z : e ≡ length k = omega arith in record { value = w; read = rw z })
 finished k (Refused r) q v g h = impossible (cc)
 
-pub knowledge-whole : (k : List ℕ) (q v : ℕ) → knowledgeGiven k ≡ At q v → (length k ≡ 0 → ⊥) → AllRead k (knowledgeAt mostSaid 12 0x42 k [] (At 0 0) .last)
+pub knowledge-whole : (k : List ℕ) (q v : ℕ) → knowledgeGiven k ≡ At q v → (length k ≡ 0 → ⊥) → AllRead k (knowledgeAt requestPadding mostSaid 12 0x42 k [] (At 0 0) .last)
 knowledge-whole k q v h n =
-    finished k (knowledgeAt mostSaid 12 0x42 k [] (At 0 0) .last) q v (onward-knowledge mostSaid 12 0x42 k [] (At 0 0) .good (good-front k 0))
+    finished k (knowledgeAt requestPadding mostSaid 12 0x42 k [] (At 0 0) .last) q v (onward-knowledge requestPadding mostSaid 12 0x42 k [] (At 0 0) .good (good-front k 0))
     (given-some k (knowledge-short k q v h) n ∙ h)
 
 -- ---- the filters
 
 -- where a start of a type is read, one stands next
-pub started : (s : List ℕ) (outer kind : ℕ) (compound room : Bool) (p u q v : ℕ) → startHere s outer kind compound room (At p u) ≡ At q v
+pub started : (s : List ℕ) (outer kind : ℕ) (compound room : Bool) (p u q v : ℕ) → startHere requestPadding s outer kind compound room (At p u) ≡ At q v
     → nextIs s kind (At p u) ≡ true
 unfolding nextIs
-started s outer kind compound room p u q v e = rw (opened-from s outer kind compound room p u q v e .start, eq-eqb kind kind refl)
+started s outer kind compound room p u q v e = rw (opened-from requestPadding s outer kind compound room p u q v e .start, eq-eqb kind kind refl)
 
-too-many : {P : Type 0} (s : List ℕ) (c : Reading) (q v : ℕ) → startHere s 0x42 0x47 true false c ≡ At q v → P
+-- with no room for one more none is read
+pub too-many : {P : Type 0} (s : List ℕ) (outer kind : ℕ) (c : Reading) (q v : ℕ) → startHere requestPadding s outer kind true false c ≡ At q v → P
 unfolding startHere
-too-many s (At p u) q v e = let z : false ≡ true = opened-from s 0x42 0x47 true false p u q v e .free in impossible (cc)
-too-many s (Refused r) q v e = impossible (cc)
+too-many s outer kind (At p u) q v e = let z : false ≡ true = opened-from requestPadding s outer kind true false p u q v e .free in impossible (cc)
+too-many s outer kind (Refused r) q v e = impossible (cc)
 
-valued-next : (s : List ℕ) (kind w : ℕ) (c : Reading) (q v : ℕ) → valued w c ≡ At q v → nextIs s kind c ≡ false → nextIs s kind (At q v) ≡ false
+pub valued-next : (s : List ℕ) (kind w : ℕ) (c : Reading) (q v : ℕ) → valued w c ≡ At q v → nextIs s kind c ≡ false → nextIs s kind (At q v) ≡ false
 unfolding valued nextIs
 valued-next s kind w (At p u) q v e h = let z : p ≡ q = cc in rw (← z) h
 valued-next s kind w (Refused r) q v e h = impossible (cc)
@@ -90,7 +91,7 @@ valued-next s kind w (Refused r) q v e h = impossible (cc)
 stopped : (left : ℕ) (s : List ℕ) (c : Reading) (q v : ℕ) → filtersFrom left s c ≡ At q v → nextIs s 0x47 (At q v) ≡ false
 unfolding filtersFrom
 stopped zero s c q v e =
-    by-bool (nextIs s 0x47 c) (λ b. too-many s c q v (rw b at e)) (λ b. valued-next s 0x47 16 c q v (rw b at e) b)
+    by-bool (nextIs s 0x47 c) (λ b. too-many s 0x42 0x47 c q v (rw b at e)) (λ b. valued-next s 0x47 16 c q v (rw b at e) b)
 stopped (suc left) s c q v e =
     by-bool (nextIs s 0x47 c) (λ b. stopped left s (filterAt s c) q v (rw b at e)) (λ b. valued-next s 0x47 (16 - suc left) c q v (rw b at e) b)
 
@@ -100,12 +101,12 @@ pub record AllFilters (f : List ℕ) (p n : ℕ) : Type 0 where
   pub place : p ≡ length f
   pub read : filtersFrom 16 f (At 0 0) ≡ At (length f) n
 
-no-byte-left : (f : List ℕ) (p n : ℕ) (c : Reading) → length f ≤ longestInput → filtersFrom 16 f (At 0 0) ≡ c → noMore f c ≡ At p n → AllFilters f p n
+no-byte-left : (f : List ℕ) (p n : ℕ) (c : Reading) → length f ≤ longestInput → filtersFrom 16 f (At 0 0) ≡ c → noMore 0x42 0x47 f c ≡ At p n → AllFilters f p n
 unfolding noMore
 no-byte-left f p n (At q m) s e h =
     by-lt q (length f)
     (λ l.
-    let z : startHere f 0x42 0x47 true true (At q m) ≡ At p n = rw (lt-ltb _ _ l) at h in
+    let z : startHere requestPadding f 0x42 0x47 true true (At q m) ≡ At p n = rw (lt-ltb _ _ l) at h in
     let a : nextIs f 0x47 (At q m) ≡ false = stopped 16 f (At 0 0) q m e in
     let b : nextIs f 0x47 (At q m) ≡ true = started f 0x42 0x47 true true q m p n z in
     impossible (cc))
@@ -142,14 +143,14 @@ sent-done room w out h l = rw (le-ltb _ _ h, le-ltb _ _ l) (refl, laid-front w o
 
 module _ (id limit : ℕ) (f k out : List ℕ) where
   pub filters-refused : (r : Refusal) → filtersGiven f ≡ Refused r → WritesRequest id limit f k (wrote.Refused r) out out
-  unfolding askWrote judgedFilters askOutput
+  unfolding askWrote judgedFirst askOutput
   filters-refused r e = rw e (refl, refl)
 
   pub knowledge-refused : (p n : ℕ) (r : Refusal) → filtersGiven f ≡ At p n → knowledgeGiven k ≡ Refused r → WritesRequest id limit f k (wrote.Refused (inRequest r)) out out
-  unfolding askWrote judgedFilters judgedKnowledge askOutput
+  unfolding askWrote judgedFirst judgedSecond askOutput
   knowledge-refused p n r e g = rw (e, g) (refl, refl)
 
   pub both-judged : (p n q v : ℕ) (r : Wrote) (out′ : List ℕ) → filtersGiven f ≡ At p n → knowledgeGiven k ≡ At q v
       → WroteAs (writtenIn (length out) (askBytes id limit f k)) (askBytes id limit f k) r out out′ → WritesRequest id limit f k r out out′
-  unfolding askWrote judgedFilters judgedKnowledge
+  unfolding askWrote judgedFirst judgedSecond
   both-judged p n q v r out′ e g h = rw (e, g) h

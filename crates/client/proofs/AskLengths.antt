@@ -14,9 +14,9 @@ use Rattle.objects.specs.Header.{startBytes, longStart, endBytes}
 use Rattle.objects.proofs.HeaderForms.{length-own}
 use Rattle.store.proofs.ElementWritten.{compact-most}
 use Rattle.request.specs.Message.{requestSignature}
-use Rattle.pages.specs.Written.{versionBytes}
-use Rattle.pages.proofs.Lengths.{length-versions, length-two}
-use Rattle.client.specs.AskWritten.{userAgentBytes, subRequestData, subRequestBytes, queryBytes, argumentData, argumentBytes, constraintBytes, askFront, askEnds, askBytes}
+use Rattle.request.specs.Response.{versionBytes}
+use Rattle.request.proofs.ResponseLengths.{length-versions, length-two}
+use Rattle.client.specs.AskWritten.{userAgentBytes, subRequestData, subRequestBytes, identifiedBytes, queryBytes, argumentData, argumentBytes, constraintBytes, askFront, askEnds, askBytes}
 
 -- ---- what is the same in each request
 
@@ -42,33 +42,42 @@ pub length-zero : length (compactBytes 0) ≡ 1
 unfolding compactBytes sizeOf formOf formFrom bytes
 length-zero = refl
 
-pub length-sub-data : (id : ℕ) → length (subRequestData id) ≡ length (compactBytes id) + 2
+pub length-sub-data : (kind id : ℕ) → length (subRequestData kind id) ≡ length (compactBytes id) + length (compactBytes kind) + 1
 unfolding subRequestData
-length-sub-data id =
-    length-append (compactBytes id) (compactBytes 2 ++ compactBytes 0)
-    ∙ (let a = length-append (compactBytes 2) (compactBytes 0) in let b = length-two in let d = length-zero in omega arith)
+length-sub-data kind id =
+    length-append (compactBytes id) (compactBytes kind ++ compactBytes 0)
+    ∙ (let a = length-append (compactBytes kind) (compactBytes 0) in let d = length-zero in omega arith)
 
 -- where its data is as long as was told
-pub length-sub-start : (id n : ℕ) → n ≡ length (compactBytes id) → length (startBytes 0x42 true (n + 2)) ≡ 4
-length-sub-start id n e = length-own 0x42 true (n + 2) refl (let m = compact-most id in omega arith)
+pub length-sub-start : (kind id n m : ℕ) → n ≡ length (compactBytes id) → m ≡ length (compactBytes kind) → length (startBytes 0x42 true (n + m + 1)) ≡ 4
+length-sub-start kind id n m e f = length-own 0x42 true (n + m + 1) refl (let i = compact-most id in let k = compact-most kind in omega arith)
 
-pub length-sub : (id : ℕ) → length (subRequestBytes id) ≡ 6 + length (compactBytes id)
+pub length-sub : (kind id : ℕ) → length (subRequestBytes kind id) ≡ 5 + length (compactBytes id) + length (compactBytes kind)
 unfolding subRequestBytes
-length-sub id =
-    length-append (startBytes 0x42 true (length (subRequestData id))) (subRequestData id)
-    ∙ (let d = length-sub-data id in let m = compact-most id in let a = length-own 0x42 true (length (subRequestData id)) refl (omega arith) in omega arith)
+length-sub kind id =
+    length-append (startBytes 0x42 true (length (subRequestData kind id))) (subRequestData kind id)
+    ∙ (let d = length-sub-data kind id in
+    let m = compact-most id in
+    let k = compact-most kind in
+    let a = length-own 0x42 true (length (subRequestData kind id)) refl (omega arith) in
+    omega arith)
+
+pub length-identified : (kind id : ℕ) → length (identifiedBytes kind id) ≡ 27 + length (compactBytes id) + length (compactBytes kind)
+unfolding identifiedBytes
+length-identified kind id =
+    let s = subRequestBytes kind id in
+    let a = length-append (versionBytes requestSignature) (userAgentBytes ++ s) in
+    let b = length-append userAgentBytes s in
+    omega (arith, a, b, length-versions requestSignature, length-agent, length-sub kind id)
 
 -- ---- up to the constraint
 
 pub length-front : (id : ℕ) → length (askFront id) ≡ 40 + length (compactBytes id)
 unfolding askFront
 length-front id =
-    let s = subRequestBytes id in
-    let a = length-append (versionBytes requestSignature) (userAgentBytes ++ (s ++ (queryBytes ++ argumentBytes))) in
-    let b = length-append userAgentBytes (s ++ (queryBytes ++ argumentBytes)) in
-    let d = length-append s (queryBytes ++ argumentBytes) in
-    let e = length-append queryBytes argumentBytes in
-    omega (arith, a, b, d, e, length-versions requestSignature, length-agent, length-sub id, length-query, length-arguments)
+    let a = length-append (identifiedBytes 2 id) (queryBytes ++ argumentBytes) in
+    let b = length-append queryBytes argumentBytes in
+    omega (arith, a, b, length-identified 2 id, length-two, length-query, length-arguments)
 
 -- ---- the constraint
 

@@ -31,13 +31,13 @@ use Rattle.store.specs.Knowledge.{mostSaid, Knowing, knowing, knowledgeFrom, kn
 use Rattle.store.proofs.ElementWritten.{compact-most}
 use Rattle.store.proofs.KnowledgeForward.{knowledge-end}
 use Rattle.store.proofs.KnowledgeCarry.{knowledge-carry}
-use Rattle.request.specs.Filter.{oneNumber, filtersFrom}
+use Rattle.request.specs.Filter.{oneNumber, filtersFrom, requestPadding}
 use Rattle.request.specs.Meaning.{filtersRead}
-use Rattle.request.specs.Message.{versions, requestSignature, userAgent, subRequestFields, subRequest, queryChanges, argumentFields, arguments, constraint, knowledgePart, packagePart, identified, constrainedFrom, constrained, filtered, requestEnd, requestKnowing, requestAnswer, requestIn}
+use Rattle.request.specs.Message.{versions, requestSignature, userAgent, subRequestFields, subRequest, queryChanges, argumentFields, arguments, constraint, knowledgePart, packagePart, queryChangesRequest, identified, constrainedFrom, constrained, filtered, requestEnd, requestKnowing, requestAnswer, requestIn}
+use Rattle.request.specs.Response.{versionBytes}
 use Rattle.request.proofs.Turns.{filters-end}
 use Rattle.request.proofs.FiltersCarry.{filters-between}
-use Rattle.pages.specs.Written.{versionBytes}
-use Rattle.client.specs.AskWritten.{userAgentBytes, subRequestData, subRequestBytes, queryBytes, argumentData, argumentBytes, constraintBytes, askFront, askEnds, askBytes}
+use Rattle.client.specs.AskWritten.{userAgentBytes, subRequestData, subRequestBytes, identifiedBytes, queryBytes, argumentData, argumentBytes, constraintBytes, askFront, askEnds, askBytes}
 use Rattle.client.specs.Ask.{filtersGiven, knowledgeOf, knowledgeGiven}
 use Rattle.client.specs.Back.{ReadBack}
 use Rattle.client.proofs.AskLengths.{length-sub-data, length-arguments, no-constraint, a-constraint}
@@ -56,35 +56,46 @@ versions-read =
     (reads-fixed 11 8 requestSignature requestSignature 7 requestSignature (omega arith) (omega arith) (omega arith)))
 
 -- an empty user agent has only its end inside
-nothing-inside : runAt (endBytes 0x5D) 0 14 0x5D ≡ passed.To (length (endBytes 0x5D))
+nothing-inside : runAt requestPadding (endBytes 0x5D) 0 14 0x5D ≡ passed.To (length (endBytes 0x5D))
 nothing-inside =
     let w = endBytes 0x5D in
-    run-end w 0 14 0x5D (length w) (end-written w 0 0x5D [] (omega arith) (sym (append-nil w))) ∙ ap passed.To (zero-add (length w))
+    run-end requestPadding w 0 14 0x5D (length w) (end-written w 0 0x5D [] (omega arith) (sym (append-nil w))) ∙ ap passed.To (zero-add (length w))
 
 agent-read : (u : ℕ) → Reads userAgent u userAgentBytes 0
 unfolding userAgent userAgentBytes
 agent-read u =
-    reads-then (reads-start-of-length u nothingOpen 0x40 true 0 (omega arith) (omega arith))
-    (reads-then (reads-start-of-length 0 0x40 0x5D true 0 (omega arith) (omega arith)) (reads-inside 0 14 0x5D (endBytes 0x5D) nothing-inside))
+    reads-then (reads-start-of-length requestPadding u nothingOpen 0x40 true 0 (omega arith) (omega arith))
+    (reads-then (reads-start-of-length requestPadding 0 0x40 0x5D true 0 (omega arith) (omega arith)) (reads-inside requestPadding 0 14 0x5D (endBytes 0x5D) nothing-inside))
 
-sub-fields : (id : ℕ) → id < 2 ^ 64 → subRequestFields (subRequestData id) ≡ At (length (subRequestData id)) id
-unfolding subRequestFields subRequestData valueOf
-sub-fields id h =
+-- the fields of a sub-request of any type
+sub-fields : (kind id : ℕ) → kind < 2 ^ 64 → id < 2 ^ 64
+    → subRequestFields kind (compactBytes id ++ (compactBytes kind ++ compactBytes 0)) ≡ At (length (compactBytes id ++ (compactBytes kind ++ compactBytes 0))) id
+unfolding subRequestFields valueOf
+sub-fields kind id k h =
     let a = compactBytes id in
-    let b = compactBytes 2 ++ compactBytes 0 in
-    let x : number (a ++ b) (At 0 0) ≡ At (0 + length a) id = reads-number 0 id h .here (a ++ b) 0 b refl in
-    let y = reads-valued id (reads-then (reads-number-is id 2 8 (omega arith)) (reads-number 2 0 (omega arith))) .here (a ++ b) (0 + length a) [] (behind (a ++ b) 0 a b refl ∙ sym (append-nil b)) in
+    let b = compactBytes kind ++ compactBytes 0 in
+    let x : number requestPadding (a ++ b) (At 0 0) ≡ At (0 + length a) id = reads-number requestPadding 0 id h .here (a ++ b) 0 b refl in
+    let y = reads-valued id (reads-then (reads-number-is requestPadding id kind 8 k) (reads-number requestPadding kind 0 (omega arith))) .here (a ++ b) (0 + length a) [] (behind (a ++ b) 0 a b refl ∙ sym (append-nil b)) in
     rw x (y ∙ ap (λ (n : ℕ). At n id) (let l = length-append a b in omega arith))
 
-sub-read : (u id : ℕ) → id < 2 ^ 64 → Reads subRequest u (subRequestBytes id) id
-unfolding subRequest subRequestBytes
-sub-read u id h =
-    reads-then (reads-start u 0x40 0x42 true (length (subRequestData id)) (omega arith) (omega (arith, length-sub-data id, compact-most id)))
-    (reads-run subRequestFields (subRequestData id) id (sub-fields id h))
+sub-read : (kind u id : ℕ) → kind < 2 ^ 64 → id < 2 ^ 64 → Reads (subRequest kind) u (subRequestBytes kind id) id
+unfolding subRequest subRequestBytes subRequestData
+sub-read kind u id k h =
+    reads-then
+    (reads-start requestPadding u 0x40 0x42 true (length (subRequestData kind id)) (omega arith) (omega (arith, length-sub-data kind id, compact-most id, compact-most kind)))
+    (reads-run (subRequestFields kind) (subRequestData kind id) id (sub-fields kind id k h))
+
+-- the front of a message of any type
+pub front-identified : (kind id : ℕ) → kind < 2 ^ 64 → id < 2 ^ 64 → (s rest : List ℕ) → s ≡ identifiedBytes kind id ++ rest
+    → identified kind s ≡ At (length (identifiedBytes kind id)) id
+unfolding identified versions identifiedBytes
+front-identified kind id k h s rest e =
+    reads-then versions-read (reads-then (agent-read requestSignature) (sub-read kind 0 id k h)) .here s 0 rest e
+    ∙ ap (λ (n : ℕ). At n id) (zero-add (length (identifiedBytes kind id)))
 
 query-read : (u : ℕ) → Reads queryChanges u queryBytes 0
 unfolding queryChanges queryBytes
-query-read u = reads-then (reads-start-of-length u 0x42 0x51 false 1 (omega arith) (omega arith)) (reads-skip 1 (0 ∷ []))
+query-read u = reads-then (reads-start-of-length requestPadding u 0x42 0x51 false 1 (omega arith) (omega arith)) (reads-skip 1 (0 ∷ []))
 
 argument-fields : argumentFields argumentData ≡ At (length argumentData) 0
 unfolding argumentFields argumentData fixedIn need nullId valueOf extendedGuidBytes readExtendedGuid formOfId trailingZeros le
@@ -93,14 +104,14 @@ argument-fields = refl
 arguments-read : (u : ℕ) → Reads arguments u argumentBytes 0
 unfolding arguments argumentBytes
 arguments-read u =
-    reads-then (reads-start u 0x42 0x5B false (length argumentData) (omega arith) (omega (arith, length-arguments)))
+    reads-then (reads-start requestPadding u 0x42 0x5B false (length argumentData) (omega arith) (omega (arith, length-arguments)))
     (reads-run argumentFields argumentData 0 argument-fields)
 
 -- ---- a constraint, wherever it stands
 
 one-number : (v : ℕ) → v < 2 ^ 64 → oneNumber (compactBytes v) ≡ At (length (compactBytes v)) v
 unfolding oneNumber
-one-number v h = whole (reads-number 0 v h)
+one-number v h = whole (reads-number requestPadding 0 v h)
 
 constraint-read : (u limit : ℕ) → limit < 2 ^ 64 → (limit ≡ 0xFFFFFFFFFFFFFFFF → ⊥) → Reads constraint u (constraintBytes limit) limit
 unfolding constraint
@@ -113,7 +124,7 @@ constraint-read u limit h n =
           λ s at t e.
           let e′ : drop at s ≡ (w ++ d) ++ t = e ∙ ap (λ (x : List ℕ). x ++ t) (a-constraint limit n) in
           rw (next-start s at u 0x59 false (length d) (d ++ t) (omega arith) l (e′ ∙ append-assoc w d t), a-constraint limit n)
-          (reads-then (reads-start u 0x42 0x59 false (length d) (omega arith) l) (reads-run oneNumber d limit (one-number limit h)) .here s at t e′);
+          (reads-then (reads-start requestPadding u 0x42 0x59 false (length d) (omega arith) l) (reads-run oneNumber d limit (one-number limit h)) .here s at t e′);
     }
 
 -- ---- what stands next
@@ -139,29 +150,29 @@ filters-started s p u q v l e =
     absurd (omega arith))
 
 -- where a knowledge was read, one stands next
-opened-of-length : (s : List ℕ) (outer kind n p u q v : ℕ) (c : Reading) → startHere s outer kind true true (At p u) ≡ c → lengthIs n p c ≡ At q v
+opened-of-length : (s : List ℕ) (outer kind n p u q v : ℕ) (c : Reading) → startHere requestPadding s outer kind true true (At p u) ≡ c → lengthIs n p c ≡ At q v
     → nextIs s kind (At p u) ≡ true
 unfolding lengthIs
 opened-of-length s outer kind n p u q v (At i w) e h = started s outer kind true true p u i w e
 opened-of-length s outer kind n p u q v (Refused r) e h = impossible (cc)
 
-knowledge-opened : (allowed depth : ℕ) (s t : List ℕ) (c : Reading) (q v : ℕ) → knowledgeFrom depth s (knowing [] t allowed c) .last ≡ At q v
+knowledge-opened : (allowed depth : ℕ) (s t : List ℕ) (c : Reading) (q v : ℕ) → knowledgeFrom requestPadding depth s (knowing [] t allowed c) .last ≡ At q v
     → {P : Type 0} → ((i w : ℕ) → c ≡ At i w → P) → P
 unfolding nextIs endHere
 knowledge-opened allowed depth s t (At i w) q v e f = f i w refl
 knowledge-opened allowed depth s t (Refused r) q v e f =
-    let z : Refused r ≡ At q v = sym (ap (λ (k : Knowing). k .last) (knowledge-end depth s (knowing [] t allowed (Refused r)) refl)) ∙ e in
+    let z : Refused r ≡ At q v = sym (ap (λ (k : Knowing). k .last) (knowledge-end requestPadding depth s (knowing [] t allowed (Refused r)) refl)) ∙ e in
     impossible (cc)
 
-knowledge-started : (allowed depth outer : ℕ) (s t : List ℕ) (p u q v : ℕ) → knowledgeAt allowed depth outer s t (At p u) .last ≡ At q v → nextIs s 0x10 (At p u) ≡ true
+knowledge-started : (allowed depth outer : ℕ) (s t : List ℕ) (p u q v : ℕ) → knowledgeAt requestPadding allowed depth outer s t (At p u) .last ≡ At q v → nextIs s 0x10 (At p u) ≡ true
 unfolding knowledgeAt startOfLength placeOf
 knowledge-started allowed depth outer s t p u q v e =
-    knowledge-opened allowed depth s t (startOfLength s outer 0x10 true true 0 (At p u)) q v e
-    (λ i w h. opened-of-length s outer 0x10 0 p u i w (startHere s outer 0x10 true true (At p u)) refl h)
+    knowledge-opened allowed depth s t (startOfLength requestPadding s outer 0x10 true true 0 (At p u)) q v e
+    (λ i w h. opened-of-length s outer 0x10 0 p u i w (startHere requestPadding s outer 0x10 true true (At p u)) refl h)
 
 -- ---- the knowledge, and the ends behind it
 
-knowledge-any : (allowed depth outer : ℕ) (s t : List ℕ) (p u v : ℕ) → knowledgeAt allowed depth outer s t (At p u) ≡ knowledgeAt allowed depth outer s t (At p v)
+knowledge-any : (allowed depth outer : ℕ) (s t : List ℕ) (p u v : ℕ) → knowledgeAt requestPadding allowed depth outer s t (At p u) ≡ knowledgeAt requestPadding allowed depth outer s t (At p v)
 unfolding knowledgeAt startOfLength startHere placeOf
 knowledge-any allowed depth outer s t p u v = refl
 
@@ -195,8 +206,8 @@ module _ (k s t : List ℕ) (at u : ℕ) (stands : drop at s ≡ k ++ askEnds) w
       let a : take (length k - 0) (drop at s) ≡ take (length k - 0) (drop 0 k) =
       rw (z, stands) (take-append-seam k askEnds ∙ sym (take-all (length k) k (omega arith))) in
       let l : at + (length k - 0) ≤ length s = omega (arith, length-drop at s, ap length stands, length-append k askEnds) in
-      let c = knowledge-carry mostSaid 12 0x42 k [] t 0 0 (length k) (w .value) (w .read) s at a l in
-      let y : knowledgeAt mostSaid 12 0x42 s t (At at u) .last ≡ At (at + length k) (w .value) =
+      let c = knowledge-carry requestPadding mostSaid 12 0x42 k [] t 0 0 (length k) (w .value) (w .read) s at a l in
+      let y : knowledgeAt requestPadding mostSaid 12 0x42 s t (At at u) .last ≡ At (at + length k) (w .value) =
       ap (λ (m : Knowing). m .last) (knowledge-any mostSaid 12 0x42 s t at u 0) ∙ c .0 ∙ ap (λ (m : ℕ). At (at + m) (w .value)) z in
       let o : nextIs s 0x10 (At at u) ≡ true = knowledge-started mostSaid 12 0x42 s t at u _ _ y in
       record {
@@ -224,7 +235,7 @@ ended-there s x u h =
 module _ (id : ℕ) (fits : id < 2 ^ 64) where
   -- to the sub-request's fields, and from there to the constraint
   abbrev naming : List ℕ
-  naming = versionBytes requestSignature ++ (userAgentBytes ++ subRequestBytes id)
+  naming = identifiedBytes queryChangesRequest id
 
   abbrev asking : List ℕ
   asking = queryBytes ++ argumentBytes
@@ -239,11 +250,8 @@ module _ (id : ℕ) (fits : id < 2 ^ 64) where
       ∙ ap (λ (w : List ℕ). length naming + length w) (append-nil asking)
 
   module _ (s rest : List ℕ) (stands : s ≡ askFront id ++ rest) where
-    named : identified s ≡ At (length naming) id
-    unfolding identified versions
-    named =
-        reads-then versions-read (reads-then (agent-read requestSignature) (sub-read 0 id fits)) .here s 0 (asking ++ rest) (stands ∙ front-apart rest)
-        ∙ ap (λ (n : ℕ). At n id) (zero-add (length naming))
+    named : identified queryChangesRequest s ≡ At (length naming) id
+    named = front-identified queryChangesRequest id (omega arith) fits s (asking ++ rest) (stands ∙ front-apart rest)
 
     to-constraint : constrained s ≡ constraint s (At (length (askFront id)) 0)
     unfolding constrainedFrom
@@ -323,7 +331,7 @@ module _ (id limit : ℕ) (f k : List ℕ) (p n q v : ℕ) (fits : id < 2 ^ 64) 
   all-read l =
       let r : requestKnowing s t .ranges ≡ knowledgeOf k .ranges = ap (λ (m : Knowing). m .ranges) (knowing-is l) ∙ there .ranges in
       let e : requestKnowing s t .last ≡ At (from + length f + length k) (there .value) = ap (λ (m : Knowing). m .last) (knowing-is l) ∙ there .last in
-      let i : identified s ≡ At (length (naming id fits)) id = named id fits s (constraintBytes limit ++ (f ++ (k ++ askEnds))) is in
+      let i : identified queryChangesRequest s ≡ At (length (naming id fits)) id = named id fits s (constraintBytes limit ++ (f ++ (k ++ askEnds))) is in
       let d = ended-there s (from + length f + length k) (there .value) (behind s (from + length f) k askEnds knowledge-stands) in
       record {
         answer = rw (e, d, r, filtered-is, constrained-is, i);

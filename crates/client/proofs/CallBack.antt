@@ -1,17 +1,17 @@
--- What the answering call answers reads back: for any store and request bytes and any room, an answer that is given is read with no
+-- What the answering calls answer reads back: for any store and request bytes and any room, an answer that is given is read with no
 -- refusal, as the page that was sent, with the knowledge that it was sent with.
 -- Assumes nothing.
-use mathlib.Core.Path.{_≡_, refl, sym, subst, _∙_}
-use mathlib.Core.Bool.{Bool, false}
-use mathlib.Core.List.{List, [], _∷_, _++_, map, map-append}
+use mathlib.Core.Path.{_≡_, refl, sym, ap, subst, _∙_}
+use mathlib.Core.Bool.{Bool, true}
+use mathlib.Core.List.{List, [], _∷_, _++_, map, map-append, append-assoc}
 use Prim.Native.Nat.{ℕ, zero, suc, _+_, _^_, _≤_, _<_}
 use native.Mathlib.Omega.{arith}
-use lib.ListN.{length, take, length-take}
+use lib.ListN.{length, take, drop, length-append, take-append-drop}
 use lib.Dec.{ltb, eqb}
 use Rattle.laws.specs.Bytes.{AllBytes}
-use Rattle.laws.specs.Once.{seen}
-use Rattle.laws.proofs.Cases.{by-bool, by-lt, pick-all, neither}
-use Rattle.laws.proofs.Twice.{seen-append}
+use Rattle.laws.specs.Once.{once}
+use Rattle.laws.proofs.Cases.{by-bool, by-lt, pick-all}
+use Rattle.laws.proofs.Twice.{once-before}
 use Rattle.numbers.specs.ExtendedGuid.{ExtendedGuidFits}
 use Rattle.numbers.specs.Refusals.{longestInput}
 use Rattle.numbers.specs.declared.extended_guid.ExtendedGuid.{ExtendedGuid}
@@ -20,34 +20,42 @@ use Rattle.objects.specs.declared.reading.Reading.the-variants.{At}
 use Rattle.talk.specs.Each.{Each}
 use Rattle.talk.specs.Page.{Greatest}
 use Rattle.talk.specs.Ranges.{Normal, AllFit}
-use Rattle.talk.specs.Wanted.{keep, wanted}
+use Rattle.talk.specs.Wanted.{keep, isWanted, wanted}
 use Rattle.talk.specs.declared.range.Range.{Range}
-use Rattle.talk.proofs.Delivery.{length-wanted}
-use Rattle.talk.proofs.Things.{each-first, each-kept, each-so}
+use Rattle.talk.proofs.Things.{each-first, each-so}
 use Rattle.store.specs.Chain.{Follows, Fresh, Tiles}
-use Rattle.store.specs.Element.{sameKey, idsIn, serialsIn, elementAt}
+use Rattle.store.specs.Element.{sameKey, idsIn, elementAt}
 use Rattle.store.specs.Knowledge.{mostSaid}
 use Rattle.store.specs.KnowledgeWritten.{rangesBytes}
-use Rattle.store.specs.Store.{storeWalk, Stands}
+use Rattle.store.specs.Store.{storeWalk, Stands, storeStrictness}
+use Rattle.store.specs.Held.{rangesWith, storageIndex}
 use Rattle.store.specs.declared.element.Key.{Key}
 use Rattle.store.specs.declared.element.Element.{Element}
 use Rattle.store.specs.declared.element.ReadElement.the-variants.{Is}
-use Rattle.store.proofs.Chains.{store-read, store-tiles, over-long, chain-ids, chain-serials}
+use Rattle.store.proofs.Chains.{store-read, store-tiles, over-long, same-turn, ids-once}
 use Rattle.store.proofs.ElementFits.{KeysFit, elements-fit, keys-fit, store-front}
 use Rattle.store.proofs.ElementWritten.{compact-most}
 use Rattle.store.proofs.Fields.{element-parts}
 use Rattle.store.proofs.Found.{store-most}
-use Rattle.request.specs.Meaning.{Filter}
+use Rattle.store.proofs.StoreHeld.{normal-with, fit-with}
+use Rattle.order.specs.Order.{ordered}
+use Rattle.order.specs.Groups.{Group, members, membersOf, groupSerial, groups, firsts, storedLength}
+use Rattle.order.proofs.GroupMembers.{members-append, each-members}
+use Rattle.order.proofs.Grouping.{members-rearranged, length-members, once-grouped}
+use Rattle.order.proofs.Rearranged.{once-rearranged}
+use Rattle.order.proofs.Ordering.{rearranged, length-ordered}
 use Rattle.request.specs.Message.{filtersOf, requestIn}
 use Rattle.request.specs.declared.message.Request.the-variants as request
 use Rattle.request.proofs.RequestFits.{id-fits, known-fit, known-normal}
 use Rattle.pages.specs.Answer.{Ask, answered, pageRanges, pageBytes, pageMeasure, knownIn, askOf, outcome}
-use Rattle.pages.specs.Choice.{wantedIn, rangesWith, storedLength, storageIndex}
+use Rattle.pages.specs.Choice.{wantedIn, letsGroup, knowsKey}
 use Rattle.pages.specs.Decision.{sendable}
 use Rattle.pages.specs.Tables.{wholeOf, fixedLength}
 use Rattle.pages.specs.Cases.{Asks, Sends}
-use Rattle.pages.proofs.Lengths.{AllWithin, extended-most, answer-length}
-use Rattle.pages.proofs.Pricing.{bytes-most, normal-with, fit-with}
+use Rattle.pages.proofs.AnyOrder.{stored-rearranged}
+use Rattle.pages.proofs.Growing.{wanted-each}
+use Rattle.pages.proofs.Lengths.{AllWithin, extended-most, answer-length, stored-append}
+use Rattle.pages.proofs.Pricing.{bytes-most}
 use Rattle.pages.proofs.Refusing.{call-sends, answered-asks}
 use Rattle.pages.proofs.Stops.{sendable-ranges}
 use Rattle.client.specs.Back.{StandsIn, ReadsBack}
@@ -57,12 +65,12 @@ use Rattle.client.proofs.AnswerBack.{answer-back}
 -- ---- the elements of a store
 
 -- each stands in it
-chain-stands : (s : List ℕ) (done xs : List Element) (at e : ℕ) → Follows s done at xs e → Each (StandsIn s) xs
+chain-stands : (s : List ℕ) (done xs : List Element) (at e : ℕ) → Follows storeStrictness s done at xs e → Each (StandsIn s) xs
 unfolding placeOf
 chain-stands s done [] at e c = tt
 chain-stands s done (x ∷ xs) at e c =
-    let q : x .place ≡ at = element-parts 14 (idsIn done) (serialsIn done) s (At at 0) x (c .0) .place in
-    ((idsIn done, serialsIn done, subst (λ (p : ℕ). elementAt 14 (idsIn done) (serialsIn done) s (At p 0) ≡ Is x) (sym q) (c .0)), chain-stands s (done ++ (x ∷ [])) xs (x .place + x .length) e (c .1))
+    let q : x .place ≡ at = element-parts storeStrictness (idsIn done) s (At at 0) x (c .0) .place in
+    ((idsIn done, subst (λ (p : ℕ). elementAt storeStrictness (idsIn done) s (At p 0) ≡ Is x) (sym q) (c .0)), chain-stands s (done ++ (x ∷ [])) xs (x .place + x .length) e (c .1))
 
 -- together they are not longer than the store
 tiles-length : (s : List ℕ) (xs : List Element) (at e : ℕ) → at ≤ length s → Tiles at xs e → AllWithin s xs → at + storedLength xs ≤ length s
@@ -81,57 +89,37 @@ index-fits [] h = tt
 index-fits (x ∷ xs) h =
     pick-all ExtendedGuidFits (eqb (x .kind) 1) _ _ (λ e. h .0 .0) (λ e. index-fits xs (h .1))
 
--- ---- fewer of them
+-- ---- some groups of them
 
--- a key that is new to some, and to one more
-unseen-parts : (key : Element → Key) (k : Key) (done : List Element) (x : Element) → seen sameKey k (map key (done ++ (x ∷ []))) ≡ false
-    → (seen sameKey k (map key done) ≡ false) × (seen sameKey k (key x ∷ []) ≡ false)
-unseen-parts key k done x h =
-    neither (seen sameKey k (map key done)) (seen sameKey k (key x ∷ [])) (sym (seen-append sameKey k (map key done) (key x ∷ [])) ∙ rw (map-append key done (x ∷ [])) at h)
+-- where no key stands twice, each is new to those before it
+once-fresh : (key : Element → Key) (xs done : List Element) → once sameKey (map key (done ++ xs)) ≡ true → Fresh key done xs
+once-fresh key [] done h = tt
+once-fresh key (x ∷ xs) done h = (
+  once-before sameKey same-turn (key x) (map key done) (map key xs) (rw (map-append key done (x ∷ xs)) at h),
+  once-fresh key xs (done ++ (x ∷ [])) (rw (append-assoc done (x ∷ []) xs) h),
+)
 
-unseen-both : (key : Element → Key) (k : Key) (done : List Element) (x : Element) → seen sameKey k (map key done) ≡ false → seen sameKey k (key x ∷ []) ≡ false
-    → seen sameKey k (map key (done ++ (x ∷ []))) ≡ false
-unseen-both key k done x h g = rw (map-append key done (x ∷ [])) (seen-append sameKey k (map key done) (key x ∷ []) ∙ rw (h, g))
+-- of groups that are kept the first ones are not longer than all of them, however long some elements are
+module _ (size : List Element → ℕ) (both : (xs ys : List Element) → size (xs ++ ys) ≡ size xs + size ys) where
+  kept-size : (test : Group → Bool) (gs : List Group) → size (membersOf (keep test gs)) ≤ size (membersOf gs)
+  unfolding keep membersOf
+  kept-size test [] = omega arith
+  kept-size test (g ∷ gs) =
+      let r = kept-size test gs in
+      let whole = both (members g) (membersOf gs) in
+      let kept = both (members g) (membersOf (keep test gs)) in
+      by-bool (test g) (λ e. rw e (omega arith)) (λ e. rw e (omega arith))
 
--- what is new to all before it is new to those of them that are kept
-fresh-kept : (key : Element → Key) (test : Element → Bool) (xs done kept : List Element)
-    → ((k : Key) → seen sameKey k (map key done) ≡ false → seen sameKey k (map key kept) ≡ false) → Fresh key done xs → Fresh key kept (keep test xs)
-unfolding keep
-fresh-kept key test [] done kept h f = tt
-fresh-kept key test (x ∷ xs) done kept h f =
-    by-bool (test x)
-    (λ e.
-    rw e (
-      h (key x) (f .0),
-      fresh-kept key test xs (done ++ (x ∷ [])) (kept ++ (x ∷ []))
-          (λ k u. let p = unseen-parts key k done x u in unseen-both key k kept x (h k (p .0)) (p .1)) (f .1),
-    ))
-    (λ e. rw e (fresh-kept key test xs (done ++ (x ∷ [])) kept (λ k u. h k (unseen-parts key k done x u .0)) (f .1)))
+  first-size : (k : ℕ) (gs : List Group) → size (membersOf (take k gs)) ≤ size (membersOf gs)
+  first-size k gs =
+      let e = ap size (ap membersOf (sym (take-append-drop k gs)) ∙ members-append (take k gs) (drop k gs)) in
+      let f = both (membersOf (take k gs)) (membersOf (drop k gs)) in
+      omega arith
 
-fresh-first : (key : Element → Key) (n : ℕ) (xs done : List Element) → Fresh key done xs → Fresh key done (take n xs)
-fresh-first key zero xs done f = tt
-fresh-first key (suc n) [] done f = tt
-fresh-first key (suc n) (x ∷ xs) done f = (f .0, fresh-first key n xs (done ++ (x ∷ [])) (f .1))
-
-stored-kept : (test : Element → Bool) (xs : List Element) → storedLength (keep test xs) ≤ storedLength xs
-unfolding keep storedLength
-stored-kept test [] = omega arith
-stored-kept test (x ∷ xs) = let r = stored-kept test xs in by-bool (test x) (λ e. rw e (omega arith)) (λ e. rw e (omega arith))
-
-stored-first : (n : ℕ) (xs : List Element) → storedLength (take n xs) ≤ storedLength xs
-unfolding storedLength
-stored-first zero xs = omega arith
-stored-first (suc n) [] = omega arith
-stored-first (suc n) (x ∷ xs) = let r = stored-first n xs in omega arith
-
--- those that are wanted
-wanted-length : (fs : List Filter) (l : List Range) (all : List Element) → length (wantedIn fs l all) ≤ length all
-unfolding wantedIn
-wanted-length fs l all = length-wanted _ _ _ all
-
-wanted-stored : (fs : List Filter) (l : List Range) (all : List Element) → storedLength (wantedIn fs l all) ≤ storedLength all
-unfolding wantedIn wanted
-wanted-stored fs l all = stored-kept _ all
+-- what holds of the members holds of the first ones
+firsts-each : (P : Element → Type 0) (gs : List Group) → Each (λ (g : Group). Each P (members g)) gs → Each P (firsts gs)
+firsts-each P [] h = tt
+firsts-each P (g ∷ gs) h = (h .0 .0, firsts-each P gs (h .1))
 
 -- ---- what is sent
 
@@ -165,7 +153,7 @@ module _ (s q : List ℕ) (room : ℕ) (b : AllBytes s) (d : AllBytes q) (h : St
   ask = askOf s all q id limit
 
   abbrev page : List Element
-  page = take k (ask .wanted)
+  page = membersOf (take k (ask .wanted))
 
   abbrev ranges : List Range
   ranges = pageRanges ask k
@@ -173,26 +161,38 @@ module _ (s q : List ℕ) (room : ℕ) (b : AllBytes s) (d : AllBytes q) (h : St
   all-within : AllWithin s all
   all-within = each-so _ _ all (λ x f. f .0) (elements-fit s b (store-read s h))
 
-  page-each : (P : Element → Type 0) → Each P all → Each P page
-  unfolding wantedIn wanted
-  page-each P f = each-first P k (ask .wanted) (each-kept P _ all f)
+  groups-each : (P : Element → Type 0) → Each P all → Each (λ (g : Group). Each P (members g)) (take k (ask .wanted))
+  groups-each P f = each-first (λ (g : Group). Each P (members g)) k (ask .wanted) (wanted-each P (filtersOf q) (knownIn q) all f)
 
-  page-fresh : (key : Element → Key) → Fresh key [] all → Fresh key [] page
+  page-each : (P : Element → Type 0) → Each P all → Each P page
+  page-each P f = each-members P (take k (ask .wanted)) (groups-each P f)
+
+  page-fresh : (key : Element → Key) → once sameKey (map key all) ≡ true → Fresh key [] page
   unfolding wantedIn wanted
-  page-fresh key f = fresh-first key k (ask .wanted) [] (fresh-kept key _ all [] [] (λ n u. u) f)
+  page-fresh key o = once-fresh key page [] (once-grouped sameKey key same-turn _ k (ordered all) (once-rearranged sameKey key same-turn (rearranged all) o))
+
+  -- no longer than all elements
+  page-fewer : (size : List Element → ℕ) → ((xs ys : List Element) → size (xs ++ ys) ≡ size xs + size ys) → size page ≤ size (membersOf (groups (ordered all)))
+  unfolding wantedIn wanted
+  page-fewer size both =
+      let a = first-size size both k (ask .wanted) in
+      let c = kept-size size both (isWanted groupSerial (letsGroup (filtersOf q) all) (knowsKey (knownIn q))) (groups (ordered all)) in
+      omega arith
 
   page-few : length page ≤ 256
   page-few =
-      let a = length-take k (ask .wanted) in
-      let c = wanted-length (filtersOf q) (knownIn q) all in
+      let a = page-fewer length length-append in
+      let c = length-members (ordered all) in
+      let f = length-ordered all in
       let e = store-most s in
       omega arith
 
   page-stored : storedLength page ≤ length s
   page-stored =
       let o = store-read s h in
-      let a = stored-first k (ask .wanted) in
-      let c = wanted-stored (filtersOf q) (knownIn q) all in
+      let a = page-fewer storedLength stored-append in
+      let c = stored-rearranged (members-rearranged (ordered all)) in
+      let f = stored-rearranged (rearranged all) in
       let e = tiles-length s all (o .first) (o .end) (store-front s o) (store-tiles s o) all-within in
       omega arith
 
@@ -201,13 +201,13 @@ module _ (s q : List ℕ) (room : ℕ) (b : AllBytes s) (d : AllBytes q) (h : St
 
   ranges-normal : Normal ranges
   unfolding pageRanges
-  ranges-normal = normal-with page (knownIn q) (known-normal q [] .0)
+  ranges-normal = normal-with (firsts (take k (ask .wanted))) (knownIn q) (known-normal q [] .0)
 
   ranges-fit : AllFit ranges
   unfolding pageRanges
   ranges-fit =
-      fit-with page (knownIn q)
-      (page-each (λ (x : Element). x .serial .number < 2 ^ 64) (each-so KeysFit _ all (λ x f. f .1 .1) (keys-fit s b (store-read s h)))) (known-fit q [] d)
+      fit-with (firsts (take k (ask .wanted))) (knownIn q)
+      (firsts-each (λ (x : Element). x .serial .number < 2 ^ 64) (take k (ask .wanted)) (groups-each (λ (x : Element). x .serial .number < 2 ^ 64) (each-so KeysFit _ all (λ x f. f .1 .1) (keys-fit s b (store-read s h))))) (known-fit q [] d)
 
   page-size : length ranges ≤ mostSaid → length (pageBytes ask k) ≤ length s + 65536
   unfolding pageBytes
@@ -233,15 +233,14 @@ module _ (s q : List ℕ) (room : ℕ) (b : AllBytes s) (d : AllBytes q) (h : St
       let m : length ranges ≤ mostSaid = few-ranges ask room k g (known-normal q [] .1) (omega arith) in
       answer-back s id (storageIndex all) page (ltb k (length (ask .wanted))) ranges (pageBytes ask k) refl
       (page-each (StandsIn s) (chain-stands s [] all (o .first) (o .end) (o .chain)))
-      (page-fresh (λ x. x .id) (chain-ids s [] all (o .first) (o .end) (o .chain)))
-      (page-fresh (λ x. x .serial) (chain-serials s [] all (o .first) (o .end) (o .chain))) page-few
+      (page-fresh (λ x. x .id) (ids-once s o)) page-few
       (id-fits q [] id limit place count known d r) (index-fits all (keys-fit s b o)) ranges-normal ranges-fit
       m (page-length m)
 
 -- the same, of an ask that is this one
 asked-back : (s q : List ℕ) (room : ℕ) → AllBytes s → AllBytes q → (a : Ask) → Asks s q a → (k : ℕ)
     → Greatest (sendable (a .most) (a .limit) room (pageMeasure a)) (length (a .wanted)) k → (w : List ℕ) (l : List Range) → w ≡ pageBytes a k → l ≡ pageRanges a k
-    → ReadsBack s (a .id) (storageIndex (a .elements)) (take k (a .wanted)) (ltb k (length (a .wanted))) l w
+    → ReadsBack s (a .id) (storageIndex (a .elements)) (membersOf (take k (a .wanted))) (ltb k (length (a .wanted))) l w
 asked-back s q room b d a x k g w l u v =
     rw (u, v, x .asked)
     (page-back s q room b d (x .store-reads) (x .id) (x .limit) (x .place) (x .count) (x .known) (x .request-reads) k (rw (x .asked) at g))
@@ -255,13 +254,13 @@ asked-size s q b d a x k m =
 
 -- ---- the call
 
--- this was asked, so many of its wanted elements were sent, and what was answered reads back as their page: with the id that was
+-- this was asked, so many of its wanted groups were sent, and what was answered reads back as their page: with the id that was
 -- asked, the mark that says whether a wanted element remains, the store's index, and the ranges l
 pub record CallReadsBack (s q : List ℕ) (room : ℕ) (w : List ℕ) (all : List Element) (l : List Range) : Type 0 where
   pub ask : Ask
   pub asks : Asks s q ask
   pub sends : Sends ask room w all l
-  pub back : ReadsBack s (ask .id) (storageIndex (ask .elements)) (take (sends .count) (ask .wanted)) (ltb (sends .count) (length (ask .wanted))) l w
+  pub back : ReadsBack s (ask .id) (storageIndex (ask .elements)) (membersOf (take (sends .count) (ask .wanted))) (ltb (sends .count) (length (ask .wanted))) l w
 
 pub call-back : (s q : List ℕ) (room : ℕ) → AllBytes s → AllBytes q → (w : List ℕ) (all : List Element) (l : List Range) → outcome s q room ≡ answered w all l
     → CallReadsBack s q room w all l

@@ -1,6 +1,7 @@
 -- On from a knowledge that was read, in a request that is written and in an answer that is read: what stood in the working table
 -- does not matter.
 -- Assumes nothing.
+use mathlib.Core.Bool.{Bool}
 use mathlib.Core.Path.{_≡_, refl, ap, _∙_}
 use mathlib.Core.List.{List, []}
 use Prim.Native.Nat.{ℕ}
@@ -18,8 +19,8 @@ unfolding onKnowledge knowledgeAnswer valued
 on-answer n (At e v) = refl
 on-answer n (Refused r) = refl
 
-pub knowledge-on : (allowed depth outer : ℕ) (s t t′ : List ℕ) (c : Reading) (r : ReadKnowledge) → ReadsKnowledge (knowledgeAt allowed depth outer s t c) r t′
-    → onKnowledge r ≡ valued 0 (knowledgeAt allowed depth outer s [] c .last)
-knowledge-on allowed depth outer s t t′ c r h =
-    ap onKnowledge (h .0) ∙ on-answer (length (knowledgeAt allowed depth outer s t c .ranges)) (knowledgeAt allowed depth outer s t c .last)
-    ∙ ap (valued 0) (table-free allowed depth outer s t [] c .last)
+pub knowledge-on : (padding : Bool) (allowed depth outer : ℕ) (s t t′ : List ℕ) (c : Reading) (r : ReadKnowledge) → ReadsKnowledge (knowledgeAt padding allowed depth outer s t c) r t′
+    → onKnowledge r ≡ valued 0 (knowledgeAt padding allowed depth outer s [] c .last)
+knowledge-on padding allowed depth outer s t t′ c r h =
+    ap onKnowledge (h .0) ∙ on-answer (length (knowledgeAt padding allowed depth outer s t c .ranges)) (knowledgeAt padding allowed depth outer s t c .last)
+    ∙ ap (valued 0) (table-free padding allowed depth outer s t [] c .last)

@@ -3,10 +3,14 @@ pub mod AskLengths
 pub mod AskGiven
 pub mod AskRead
 pub mod AskAgain
+pub mod PutLengths
+pub mod PutGiven
 pub mod AnswerWithin
 pub mod AnswerRest
 pub mod AnswerBack
 pub mod CallBack
+pub mod PutRead
+pub mod PutAnswerBack
 pub mod NextAsk
 pub mod AskFaults
 pub mod OneAnswers

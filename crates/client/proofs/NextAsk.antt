@@ -19,7 +19,7 @@ use Rattle.store.specs.declared.element.Element.{Element}
 use Rattle.talk.specs.declared.range.Range.{Range}
 use Rattle.request.specs.Message.{requestKnowing}
 use Rattle.client.specs.AskWritten.{askBytes}
-use Rattle.client.specs.Ask.{filtersGiven, knowledgeGiven, writtenIn, judgedKnowledge, judgedFilters, askWrote, askOutput, WritesRequest}
+use Rattle.client.specs.Ask.{filtersGiven, knowledgeGiven, writtenIn, judgedSecond, judgedFirst, askWrote, askOutput, WritesRequest}
 use Rattle.client.specs.Read.{answerIn}
 use Rattle.client.specs.Back.{ReadBack}
 use Rattle.client.specs.declared.answer.Received.{Received}
@@ -31,13 +31,13 @@ use Rattle.client.proofs.CallBack.{CallReadsBack}
 
 -- ---- what was judged, where something is written
 
-pub filters-fine : (c : Reading) (o : Wrote) (n : ℕ) → judgedFilters c o ≡ wrote.Done n → (p : ℕ) × (m : ℕ) × (c ≡ At p m) × (o ≡ wrote.Done n)
-unfolding judgedFilters
+pub filters-fine : (c : Reading) (o : Wrote) (n : ℕ) → judgedFirst c o ≡ wrote.Done n → (p : ℕ) × (m : ℕ) × (c ≡ At p m) × (o ≡ wrote.Done n)
+unfolding judgedFirst
 filters-fine (At p m) o n h = (p, m, refl, h)
 filters-fine (Refused r) o n h = impossible (cc)
 
-pub knowledge-fine : (c : Reading) (o : Wrote) (n : ℕ) → judgedKnowledge c o ≡ wrote.Done n → (q : ℕ) × (v : ℕ) × (c ≡ At q v) × (o ≡ wrote.Done n)
-unfolding judgedKnowledge
+pub knowledge-fine : (c : Reading) (o : Wrote) (n : ℕ) → judgedSecond c o ≡ wrote.Done n → (q : ℕ) × (v : ℕ) × (c ≡ At q v) × (o ≡ wrote.Done n)
+unfolding judgedSecond
 knowledge-fine (At q v) o n h = (q, v, refl, h)
 knowledge-fine (Refused r) o n h = impossible (cc)
 

@@ -1,5 +1,5 @@
--- Writing a request determines its answer and the output, and reading an answer, finding one of its elements and giving that
--- element's bytes determine theirs: any two that a promise allows are equal.
+-- Writing a request or a put determines its answer and the output, and reading an answer or that to a put, finding an answer's element
+-- and giving that element's bytes determine theirs: any two that a promise allows are equal.
 -- Assumes nothing.
 use mathlib.Core.Path.{_≡_, refl, sym, ap, _∙_}
 use mathlib.Core.Bool.{Bool}
@@ -19,9 +19,14 @@ use Rattle.pages.proofs.OneAnswers.{mark-telling}
 use Rattle.client.specs.Ask.{WritesRequest}
 use Rattle.client.specs.Read.{idNumbers, receivedNumbers, tellReadAnswer, ReadsAnswer}
 use Rattle.client.specs.Accessor.{FindsReceived, receivedBytes}
+use Rattle.client.specs.PutWritten.{WritesPut}
+use Rattle.client.specs.ReadPut.{receivedPutNumbers, tellReadPutAnswer, ReadsPutAnswer}
 use Rattle.client.specs.declared.answer.Received.{Received}
 use Rattle.client.specs.declared.answer.ReadAnswer.{ReadAnswer}
 use Rattle.client.specs.declared.answer.ReadAnswer.the-variants as answer
+use Rattle.client.specs.declared.put_answer.ReceivedPut.{ReceivedPut}
+use Rattle.client.specs.declared.put_answer.ReadPutAnswer.{ReadPutAnswer}
+use Rattle.client.specs.declared.put_answer.ReadPutAnswer.the-variants as putAnswer
 
 -- ---- an answer that is read is known by what it tells
 
@@ -72,3 +77,29 @@ find-received-one s i r t a b = one-answer found-telling a b
 
 pub received-bytes-one : (s : List ℕ) (i : ℕ) (r t : List ℕ) → r ≡ receivedBytes s i → t ≡ receivedBytes s i → r ≡ t
 received-bytes-one s i r t a b = a ∙ sym b
+
+-- ---- a put, and the answer to it
+
+abbrev received-put-of : ℕ → ℕ → ℕ → ReceivedPut
+received-put-of i k l = record { id = i; knowledge = k; length = l }
+
+same-received-put : {i i′ k k′ l l′ : ℕ} → i ≡ i′ → k ≡ k′ → l ≡ l′ → received-put-of i k l ≡ received-put-of i′ k′ l′
+same-received-put a b c = cc
+
+received-put-telling : (x y : ReceivedPut) → receivedPutNumbers x ≡ receivedPutNumbers y → x ≡ y
+received-put-telling x y v =
+    let at : (i : ℕ) → getD (receivedPutNumbers x) i 0 ≡ getD (receivedPutNumbers y) i 0 = λ i. ap (λ (l : List ℕ). getD l i 0) v in
+    same-received-put (at 2) (at 0) (at 1)
+
+pub read-put-answer-telling : Telling tellReadPutAnswer
+read-put-answer-telling (putAnswer.Is x) (putAnswer.Is y) e = ap putAnswer.Is (received-put-telling x y (values-of _ _ e))
+read-put-answer-telling (putAnswer.Is x) (putAnswer.Refused q) e = let v = values-of _ _ e in impossible (cc)
+read-put-answer-telling (putAnswer.Refused r) (putAnswer.Is y) e = let v = values-of _ _ e in impossible (cc)
+read-put-answer-telling (putAnswer.Refused r) (putAnswer.Refused q) e = ap putAnswer.Refused (refuses-telling r q e)
+
+pub writes-put-one : (id : ℕ) (x : ExtendedGuid) (s : List ℕ) (r t : Wrote) (out out′ out″ : List ℕ) → WritesPut id x s r out out′ → WritesPut id x s t out out″
+    → (r ≡ t) × (out′ ≡ out″)
+writes-put-one id x s r t out out′ out″ a b = one-outcome wrote-telling a b
+
+pub read-put-answer-one : (s : List ℕ) (r t : ReadPutAnswer) → ReadsPutAnswer s r → ReadsPutAnswer s t → r ≡ t
+read-put-answer-one s r t a b = one-answer read-put-answer-telling a b

@@ -1,5 +1,5 @@
 -- A request written: what a bench hands in is judged as it would be in a request, the filters as the first input and the knowledge
--- as the second; then come 1 where the request itself would be over-long, and 14.
+-- as the second, and padding is refused in both (`requestPadding`); then come 1 where the request itself would be over-long, and 14.
 -- Assumes nothing.
 use mathlib.Core.Path.{_≡_}
 use Prim.Native.Nat.{ℕ}
@@ -15,24 +15,24 @@ use Rattle.objects.specs.Steps.{_▹_, then, valued, startHere, finish}
 use Rattle.objects.specs.declared.reading.Reading.{Reading}
 use Rattle.objects.specs.declared.reading.Reading.the-variants.{At, Refused}
 use Rattle.store.specs.Knowledge.{mostSaid, Knowing, knowing, knowledgeAt}
-use Rattle.request.specs.Filter.{filtersFrom}
+use Rattle.request.specs.Filter.{filtersFrom, requestPadding}
 use Rattle.request.specs.Message.{inRequest}
 use Rattle.client.specs.AskWritten.{askBytes}
 
 -- ---- the filters, which are all of the first input
 
--- bytes left behind the last filter are at fault, as a filter's start would be (D-65)
-unfoldable pub noMore : List ℕ → Reading → Reading
-noMore s c = then c (λ at. pick (ltb at (length s)) (startHere s subRequestType filterType compoundBit withRoom c) c)
+-- bytes left behind the last object of this type are at fault, as the start of one more would be there (D-65, and of elements D-87)
+unfoldable pub noMore : ℕ → ℕ → List ℕ → Reading → Reading
+noMore outer kind s c = then c (λ at. pick (ltb at (length s)) (startHere requestPadding s outer kind compoundBit withRoom c) c)
 
 -- the number is how many
 unfoldable pub filtersGiven : List ℕ → Reading
-filtersGiven f = pick (ltb longestInput (length f)) (Refused overLong) (At 0 0 ▹ filtersFrom 16 f ▹ noMore f)
+filtersGiven f = pick (ltb longestInput (length f)) (Refused overLong) (At 0 0 ▹ filtersFrom 16 f ▹ noMore subRequestType filterType f)
 
 -- ---- the knowledge, which is all of the second input: one object, or no byte
 
 unfoldable pub knowledgeOf : List ℕ → Knowing
-knowledgeOf k = pick (eqb (length k) 0) (knowing [] [] mostSaid (At 0 0)) (knowledgeAt mostSaid 12 subRequestType k [] (At 0 0))
+knowledgeOf k = pick (eqb (length k) 0) (knowing [] [] mostSaid (At 0 0)) (knowledgeAt requestPadding mostSaid 12 subRequestType k [] (At 0 0))
 
 -- "After the last end any byte is 5"
 unfoldable pub knowledgeGiven : List ℕ → Reading
@@ -47,18 +47,18 @@ writtenIn room w =
     pick (ltb longestInput (length w)) (wrote.Refused (faultAt 1 0))
     (pick (ltb room (length w)) (wrote.Refused (tooShort (length w))) (wrote.Done (length w)))
 
--- the filters' fault, then the knowledge's, which is one of the second input
-unfoldable pub judgedKnowledge : Reading → Wrote → Wrote
-judgedKnowledge (At e v) w = w
-judgedKnowledge (Refused r) w = wrote.Refused (inRequest r)
+-- a fault of the first input, then one of the second
+unfoldable pub judgedSecond : Reading → Wrote → Wrote
+judgedSecond (At e v) w = w
+judgedSecond (Refused r) w = wrote.Refused (inRequest r)
 
-unfoldable pub judgedFilters : Reading → Wrote → Wrote
-judgedFilters (At e n) w = w
-judgedFilters (Refused r) w = wrote.Refused r
+unfoldable pub judgedFirst : Reading → Wrote → Wrote
+judgedFirst (At e n) w = w
+judgedFirst (Refused r) w = wrote.Refused r
 
 unfoldable pub askWrote : ℕ → ℕ → List ℕ → List ℕ → ℕ → Wrote
 askWrote id limit f k room =
-    judgedFilters (filtersGiven f) (judgedKnowledge (knowledgeGiven k) (writtenIn room (askBytes id limit f k)))
+    judgedFirst (filtersGiven f) (judgedSecond (knowledgeGiven k) (writtenIn room (askBytes id limit f k)))
 
 -- the output then: "output past the answer, keep their contents"; on a refusal it stays as it was
 unfoldable pub askOutput : Wrote → List ℕ → List ℕ → List ℕ

@@ -11,19 +11,23 @@ use Rattle.numbers.specs.ExtendedGuid.{extendedGuidBytes}
 use Rattle.numbers.specs.declared.extended_guid.ExtendedGuid.the-variants.{Null}
 use Rattle.objects.specs.Types.{requestType, userAgentType, compoundBit, subRequestType, queryChangesType, plainBit, argumentsType, constraintType}
 use Rattle.objects.specs.Header.{startBytes, endBytes}
-use Rattle.request.specs.Message.{requestSignature}
-use Rattle.pages.specs.Written.{versionBytes}
+use Rattle.request.specs.Message.{requestSignature, queryChangesRequest}
+use Rattle.request.specs.Response.{versionBytes}
 
 -- "request start; user agent": the user agent is empty
 unfoldable pub userAgentBytes : List ℕ
 userAgentBytes = startBytes requestType compoundBit 0 ++ (startBytes userAgentType compoundBit 0 ++ endBytes userAgentType)
 
--- "sub-request (id, type 2, priority)": the priority is 0
-unfoldable pub subRequestData : ℕ → List ℕ
-subRequestData id = compactBytes id ++ (compactBytes 2 ++ compactBytes 0)
+-- "sub-request (id, type 2, priority)", of this type: the priority is 0
+unfoldable pub subRequestData : ℕ → ℕ → List ℕ
+subRequestData kind id = compactBytes id ++ (compactBytes kind ++ compactBytes 0)
 
-unfoldable pub subRequestBytes : ℕ → List ℕ
-subRequestBytes id = startBytes subRequestType compoundBit (length (subRequestData id)) ++ subRequestData id
+unfoldable pub subRequestBytes : ℕ → ℕ → List ℕ
+subRequestBytes kind id = startBytes subRequestType compoundBit (length (subRequestData kind id)) ++ subRequestData kind id
+
+-- up to the fields of a sub-request of this type, as `identified` reads them: the same in each message that a bench sends
+unfoldable pub identifiedBytes : ℕ → ℕ → List ℕ
+identifiedBytes kind id = versionBytes requestSignature ++ (userAgentBytes ++ subRequestBytes kind id)
 
 -- "0x51 with one byte, ignored": a zero byte
 unfoldable pub queryBytes : List ℕ
@@ -43,7 +47,7 @@ constraintBytes limit =
 
 -- up to the constraint
 unfoldable pub askFront : ℕ → List ℕ
-askFront id = versionBytes requestSignature ++ (userAgentBytes ++ (subRequestBytes id ++ (queryBytes ++ argumentBytes)))
+askFront id = identifiedBytes queryChangesRequest id ++ (queryBytes ++ argumentBytes)
 
 -- "ends": of the sub-request, and of the request
 unfoldable pub askEnds : List ℕ

@@ -1,14 +1,15 @@
 -- "An answer: one response message." Its parts in the order of document 01's answer bytes, a line for each, read with "17 in an answer
--- that is read" for the depth. Nothing may be absent.
+-- that is read" for the depth. Nothing may be absent. Padding is taken in every part (`answerPadding`).
 -- Assumes nothing.
 use mathlib.Core.Path.{_≡_}
 use Prim.Native.Nat.{ℕ, _-_, _%_}
-use mathlib.Core.Bool.{Bool}
+use mathlib.Core.Bool.{Bool, true}
 use mathlib.Core.List.{List, [], _∷_}
 use lib.ListN.{length}
 use lib.Dec.{ltb, eqb}
 use Rattle.laws.specs.Pick.{pick}
 use Rattle.numbers.specs.Refusals.{Told, gives, refuses, faultAt}
+use Rattle.numbers.specs.Compact.{paddingTaken}
 use Rattle.numbers.specs.declared.extended_guid.ExtendedGuid.{ExtendedGuid}
 use Rattle.numbers.specs.declared.extended_guid.ExtendedGuid.the-variants as id
 use Rattle.objects.specs.Types.{responseType, compoundBit, withRoom, subResponseType, changesType, plainBit}
@@ -16,11 +17,11 @@ use Rattle.objects.specs.Steps.{_▹_, nothingOpen, placeOf, valueOf, valued, n
 use Rattle.objects.specs.declared.reading.Reading.{Reading}
 use Rattle.objects.specs.declared.reading.Reading.the-variants.{At, Refused}
 use Rattle.objects.specs.declared.reading.ReadingId.{ReadingId}
-use Rattle.objects.specs.declared.reading.ReadingId.the-variants as id′
 use Rattle.store.specs.Knowledge.{mostSaid, Knowing, knowledgeAt}
 use Rattle.store.specs.Store.{Walk, packageStart, packageWalk}
-use Rattle.request.specs.Message.{versions}
-use Rattle.pages.specs.Written.{answerSignature}
+use Rattle.store.specs.declared.element.Strictness.{Strictness}
+use Rattle.request.specs.Message.{versions, idIn, queryChangesRequest}
+use Rattle.request.specs.Response.{answerSignature}
 use Rattle.client.specs.declared.answer.Received.{Received}
 use Rattle.client.specs.declared.answer.ReadAnswer.{ReadAnswer}
 use Rattle.client.specs.declared.answer.ReadAnswer.the-variants as answer
@@ -28,6 +29,14 @@ use Rattle.client.specs.declared.answer.ReadAnswer.the-variants as answe
 -- 1: "(an answer read: 16,842,752)"
 abbrev pub longestAnswer : ℕ
 longestAnswer = 16842752
+
+-- padded numbers are taken in an answer that is read: another maker's hub may write them
+abbrev pub answerPadding : Bool
+answerPadding = paddingTaken
+
+-- its elements are judged as those of a store, so 11 is for ids only here, too; fourteen levels are left inside one (17 less 3)
+abbrev pub answerStrictness : Strictness
+answerStrictness = record { padding = answerPadding; levels = 14; serials = true }
 
 -- ---- up to the elements
 
@@ -42,24 +51,24 @@ responseFields d = At 0 0 ▹ statusByte d
 
 -- "version .. minimum .. the signature of 000, 2.2.3; response start"
 unfoldable pub responseStart : List ℕ → Reading
-responseStart s = versions answerSignature s ▹ startHere s nothingOpen responseType compoundBit withRoom ▹ inRun s responseFields
+responseStart s = versions answerSignature s ▹ startHere answerPadding s nothingOpen responseType compoundBit withRoom ▹ inRun s responseFields
 
--- "package of the k elements", inside the response; fourteen levels are left inside an element
+-- "package of the k elements", inside the response
 abbrev pub packageIn : List ℕ → Walk
-packageIn s = packageWalk responseType s (responseStart s)
+packageIn s = packageWalk answerStrictness responseType s (responseStart s)
 
 -- where the elements begin
 abbrev pub elementsStart : List ℕ → Reading
-elementsStart s = packageStart responseType s (responseStart s)
+elementsStart s = packageStart answerPadding responseType s (responseStart s)
 
 -- ---- from behind the package
 
--- "sub-response (id as asked, type 2, zero byte)": the id is carried on
-unfoldable pub subResponseFields : List ℕ → Reading
-subResponseFields d = At 0 0 ▹ number d ▹ λ id. id ▹ numberIs d 2 8 ▹ statusByte d ▹ valued (valueOf id)
+-- "sub-response (id as asked, type 2, zero byte)"; the type is the caller's, 2 or, for a put, 5: the id is carried on
+unfoldable pub subResponseFields : ℕ → List ℕ → Reading
+subResponseFields kind d = At 0 0 ▹ number answerPadding d ▹ λ id. id ▹ numberIs answerPadding d kind 8 ▹ statusByte d ▹ valued (valueOf id)
 
-unfoldable pub subResponse : List ℕ → Reading → Reading
-subResponse s c = c ▹ startHere s responseType subResponseType compoundBit withRoom ▹ inRun s subResponseFields
+unfoldable pub subResponse : ℕ → List ℕ → Reading → Reading
+subResponse kind s c = c ▹ startHere answerPadding s responseType subResponseType compoundBit withRoom ▹ inRun s (subResponseFields kind)
 
 -- "0x5F with the extended GUID .. and the partial byte": the byte is carried on
 abbrev pub indexField : List ℕ → ReadingId
@@ -69,19 +78,18 @@ unfoldable pub changesFields : List ℕ → Reading
 changesFields d = onId (indexField d) ▹ fixedIn d 1 0 255 5
 
 abbrev pub changesStart : List ℕ → Reading → Reading
-changesStart s c = startHere s subResponseType changesType plainBit withRoom c
+changesStart s c = startHere answerPadding s subResponseType changesType plainBit withRoom c
 
 unfoldable pub changes : List ℕ → Reading → Reading
 changes s c = changesStart s c ▹ inRun s changesFields
 
--- the extended GUID that was read (null after a fault)
-unfoldable pub idIn : ReadingId → ExtendedGuid
-idIn (id′.At p x) = x
-idIn (id′.Refused r) = id.Null
-
 -- "knowledge": thirteen levels are left inside a specialized knowledge of another kind
 unfoldable pub knowledgeIn : List ℕ → Reading → Knowing
-knowledgeIn s c = knowledgeAt mostSaid 13 subResponseType s [] c
+knowledgeIn s c = knowledgeAt answerPadding mostSaid 13 subResponseType s [] c
+
+-- on from behind it
+abbrev pub behindKnowledge : List ℕ → Reading → Reading
+behindKnowledge s c = knowledgeIn s c .last ▹ valued 0
 
 -- "ends": "After the last end any byte is 5"
 unfoldable pub endsOf : List ℕ → Reading → Reading
@@ -90,11 +98,11 @@ endsOf s c = c ▹ endHere s subResponseType ▹ endHere s responseType ▹ fini
 -- ---- what the parts are, in an answer from behind its package at c
 
 abbrev pub markAt : List ℕ → Reading → Reading
-markAt s c = subResponse s c ▹ changes s
+markAt s c = subResponse queryChangesRequest s c ▹ changes s
 
 -- behind the knowledge
 abbrev pub knowledgeEnd : List ℕ → Reading → Reading
-knowledgeEnd s c = knowledgeIn s (markAt s c) .last ▹ valued 0
+knowledgeEnd s c = markAt s c ▹ behindKnowledge s
 
 -- the low bit of the partial byte is the mark; the other bits are ignored (D-67)
 abbrev pub markOf : ℕ → Bool
@@ -104,9 +112,9 @@ markOf b = eqb (b % 2) 1
 unfoldable pub receivedFrom : List ℕ → Reading → ℕ → ℕ → Received
 receivedFrom s c elements count =
     record {
-      id = valueOf (subResponse s c);
+      id = valueOf (subResponse queryChangesRequest s c);
       partial = markOf (valueOf (markAt s c));
-      index = idIn (indexField (runHere s (changesStart s (subResponse s c))));
+      index = idIn (indexField (runHere s (changesStart s (subResponse queryChangesRequest s c))));
       elements = elements;
       count = count;
       knowledge = placeOf (markAt s c);

@@ -1,10 +1,10 @@
-// A request written from an id, a limit, filters and knowledge: what is handed in is judged first, and the exact length is known
-// before a byte is written.
+// A request written from an id, a limit, filters and knowledge: what is handed in is judged first, as in a request, so that padding
+// is refused, and the exact length is known before a byte is written.
 ghost use mathlib.Core.Path.{_≡_};
 ghost use Prim.Native.Nat.{_+_, _≤_};
 ghost use lib.ListN.{length};
 ghost use Rattle.laws.specs.Placed.{Lays};
-ghost use Rattle.client.specs.AskWritten.{userAgentBytes, subRequestBytes, queryBytes, argumentBytes, constraintBytes, askFront, askEnds, askBytes};
+ghost use Rattle.client.specs.AskWritten.{userAgentBytes, subRequestBytes, identifiedBytes, queryBytes, argumentBytes, constraintBytes, askFront, askEnds, askBytes};
 ghost use Rattle.client.specs.Ask.{noMore, filtersGiven, knowledgeGiven, writtenIn, WroteAs, WritesRequest};
 use numbers::compact::compact_length;
 use numbers::refusal::LONGEST_INPUT;
@@ -16,8 +16,8 @@ use objects::layout::COMPOUND;
 use objects::layout::PLAIN;
 use objects::layout::ROOM;
 use objects::reading::Reading;
-use pages::write::lay_versions;
 use request::filter::FILTER;
+use request::filter::REQUEST_PADDING;
 use request::filter::SUB_REQUEST;
 use request::filter::read_filters;
 use request::message::ARGUMENTS;
@@ -25,11 +25,13 @@ use request::message::CONSTRAINT;
 use request::message::KNOWLEDGE_LEVELS;
 use request::message::NO_LIMIT;
 use request::message::QUERY_CHANGES;
+use request::message::QUERY_CHANGES_REQUEST;
 use request::message::REQUEST;
 use request::message::SIGNATURE;
 use request::message::USER_AGENT;
 use request::message::in_request;
 use request::message::on_knowledge;
+use request::response::lay_versions;
 use store::knowledge::MOST_SAID;
 use store::knowledge::SAID_NUMBERS;
 use store::knowledge::read_knowledge;
@@ -45,15 +47,15 @@ const FIXED_BYTES: usize = 44;
 // The header of a constraint.
 const CONSTRAINT_HEADER: usize = 4;
 
-// Bytes left behind the last filter are at fault, as a filter's start would be.
-fn no_more(s: &[u8], c: Reading) -> Reading
-    ensures { λ r. ⌜ r ≡ noMore (now (s .entry)) c ⌝ }
+// Bytes left behind the last object of a type are at fault, as the start of one more would be.
+pub(crate) fn no_more(s: &[u8], c: Reading, outer: u64, kind: u64) -> Reading
+    ensures { λ r. ⌜ r ≡ noMore outer kind (now (s .entry)) c ⌝ }
 {
     match c {
         Reading::Refused(r) => Reading::Refused(r),
         Reading::At(at, n) => {
             if at < s.len() {
-                return c.start(s, SUB_REQUEST, FILTER, COMPOUND, ROOM);
+                return c.start(s, outer, kind, COMPOUND, ROOM, REQUEST_PADDING);
             }
             Reading::At(at, n)
         }
@@ -67,7 +69,7 @@ fn filters_given(f: &[u8]) -> Reading
     if LONGEST_INPUT < f.len() {
         return Reading::Refused(over_long());
     }
-    no_more(f, read_filters(f, Reading::At(0, 0)))
+    no_more(f, read_filters(f, Reading::At(0, 0)), SUB_REQUEST, FILTER)
 }
 
 // The knowledge handed in.
@@ -88,6 +90,7 @@ fn knowledge_given(k: &[u8]) -> Reading
         KNOWLEDGE_LEVELS,
         MOST_SAID,
         &mut table,
+        REQUEST_PADDING,
     );
     on_knowledge(read).finish(k)
 }
@@ -102,16 +105,26 @@ fn lay_user_agent(out: &mut [u8], at: usize) -> usize
     lay_end(out, behind_start, USER_AGENT)
 }
 
-// The id, the type 2 and the priority 0.
-fn lay_sub_request(out: &mut [u8], at: usize, id: u64) -> usize
-    requires { ⌜ at + length (subRequestBytes id) ≤ length (now out) ⌝ }
-    ensures { λ r. ⌜ Lays at (subRequestBytes id) (now (out .entry)) r (now (out .exit)) ⌝ }
+// The id, this type and the priority 0.
+fn lay_sub_request(out: &mut [u8], at: usize, id: u64, kind: u64) -> usize
+    requires { ⌜ at + length (subRequestBytes kind id) ≤ length (now out) ⌝ }
+    ensures { λ r. ⌜ Lays at (subRequestBytes kind id) (now (out .entry)) r (now (out .exit)) ⌝ }
 {
-    let n = compact_length(id) + 2;
+    let n = compact_length(id) + compact_length(kind) + 1;
     let behind_start = lay_start(out, at, SUB_REQUEST, COMPOUND, n as u64);
     let behind_id = lay_number(out, behind_start, id);
-    let behind_type = lay_number(out, behind_id, 2);
+    let behind_type = lay_number(out, behind_id, kind);
     lay_number(out, behind_type, 0)
+}
+
+// Up to the fields of a sub-request of this type.
+pub(crate) fn lay_identified(out: &mut [u8], at: usize, id: u64, kind: u64) -> usize
+    requires { ⌜ at + length (identifiedBytes kind id) ≤ length (now out) ⌝ }
+    ensures { λ r. ⌜ Lays at (identifiedBytes kind id) (now (out .entry)) r (now (out .exit)) ⌝ }
+{
+    let behind_versions = lay_versions(out, at, SIGNATURE);
+    let behind_agent = lay_user_agent(out, behind_versions);
+    lay_sub_request(out, behind_agent, id, kind)
 }
 
 fn lay_query(out: &mut [u8], at: usize) -> usize
@@ -138,9 +151,7 @@ fn lay_front(out: &mut [u8], at: usize, id: u64) -> usize
     requires { ⌜ at + length (askFront id) ≤ length (now out) ⌝ }
     ensures { λ r. ⌜ Lays at (askFront id) (now (out .entry)) r (now (out .exit)) ⌝ }
 {
-    let behind_versions = lay_versions(out, at, SIGNATURE);
-    let behind_agent = lay_user_agent(out, behind_versions);
-    let behind_sub_request = lay_sub_request(out, behind_agent, id);
+    let behind_sub_request = lay_identified(out, at, id, QUERY_CHANGES_REQUEST);
     let behind_query = lay_query(out, behind_sub_request);
     lay_arguments(out, behind_query)
 }
@@ -213,7 +224,7 @@ fn write_judged(out: &mut [u8], id: u64, limit: u64, filters: &[u8], knowledge: 
 
 // The request that a bench sends; the limit 2^64-1 is no constraint. Nothing is asked of the caller. Ruled out
 // (proofs/WrongAnswers), without filters, limit and room: of the knowledge `00`, a fault of the first input; of no knowledge and
-// the id 1, a needed length of 44.
+// the id 1, a needed length of 44; of a knowledge with a padded number, a request.
 pub fn write_request(out: &mut [u8], id: u64, limit: u64, filters: &[u8], knowledge: &[u8]) -> Wrote
     ensures { λ r. ⌜ WritesRequest id limit (now (filters .entry)) (now (knowledge .entry)) r (now (out .entry)) (now (out .exit)) ⌝ }
 {

@@ -8,7 +8,7 @@ use lib.Dec.{ltb, eqb, lit<}
 use Rattle.laws.specs.Bytes.{AllBytes, bytes}
 use Rattle.laws.proofs.Cases.{pick-all}
 use Rattle.laws.proofs.Numbers.{bytes-bytes}
-use Rattle.numbers.specs.Compact.{sizeOf, formOf, marked, compactBytes}
+use Rattle.numbers.specs.Compact.{sizeOf, formOf, withForm, compactBytes}
 use Rattle.numbers.specs.Guid.{guidBytes, taggedBytes}
 use Rattle.numbers.specs.ExtendedGuid.{shortBytes, namedBytes, extendedGuidBytes}
 use Rattle.numbers.specs.declared.guid.Guid.{Guid}
@@ -19,8 +19,8 @@ use Rattle.talk.specs.declared.range.Range.{Range}
 use Rattle.store.specs.Knowledge.{cellGuid}
 use Rattle.store.specs.KnowledgeWritten.{rangeGuid, rangeData, rangeBytes, rangesBytes, cellFront, cellBack, knowledgeBytes}
 use Rattle.request.specs.Message.{requestSignature}
-use Rattle.pages.specs.Written.{versionBytes}
-use Rattle.client.specs.AskWritten.{userAgentBytes, subRequestData, subRequestBytes, queryBytes, argumentData, argumentBytes, constraintBytes, askFront, askEnds, askBytes}
+use Rattle.request.specs.Response.{versionBytes}
+use Rattle.client.specs.AskWritten.{userAgentBytes, subRequestData, subRequestBytes, identifiedBytes, queryBytes, argumentData, argumentBytes, constraintBytes, askFront, askEnds, askBytes}
 
 -- ---- runs of bytes
 
@@ -43,7 +43,7 @@ one-byte x h = cons-bytes x [] h no-bytes
 compact-bytes : (v : ℕ) → AllBytes (compactBytes v)
 unfolding compactBytes
 compact-bytes v =
-    pick-all (λ (l : List ℕ). AllBytes l) (eqb v 0) _ _ (λ e. one-byte 0 (lit< tt)) (λ e. bytes-bytes (sizeOf (formOf v)) (marked (formOf v) v))
+    pick-all (λ (l : List ℕ). AllBytes l) (eqb v 0) _ _ (λ e. one-byte 0 (lit< tt)) (λ e. bytes-bytes (sizeOf (formOf v)) (withForm (formOf v) v))
 
 guid-bytes : (g : Guid) → AllBytes (guidBytes g)
 unfolding guidBytes
@@ -51,7 +51,7 @@ guid-bytes g = append-bytes (bytes 8 (g .low)) (bytes 8 (g .high)) (bytes-bytes 
 
 short-bytes : (k m : ℕ) (g : Guid) (x : ℕ) → AllBytes (shortBytes k m g x)
 unfolding shortBytes
-short-bytes k m g x = append-bytes (bytes m (marked k x)) (guidBytes g) (bytes-bytes m (marked k x)) (guid-bytes g)
+short-bytes k m g x = append-bytes (bytes m (withForm k x)) (guidBytes g) (bytes-bytes m (withForm k x)) (guid-bytes g)
 
 tagged-bytes : (n : ℕ) (g : Guid) (x : ℕ) → AllBytes (taggedBytes n g x)
 unfolding taggedBytes
@@ -140,12 +140,18 @@ agent-bytes : AllBytes userAgentBytes
 unfolding userAgentBytes
 agent-bytes = headed-bytes 0x40 true 0 _ (headed-bytes 0x5D true 0 (endBytes 0x5D) (end-bytes 0x5D))
 
-sub-request-bytes : (id : ℕ) → AllBytes (subRequestBytes id)
+sub-request-bytes : (kind id : ℕ) → AllBytes (subRequestBytes kind id)
 unfolding subRequestBytes subRequestData
-sub-request-bytes id =
+sub-request-bytes kind id =
     headed-bytes 0x42 true _ _
-    (append-bytes (compactBytes id) (compactBytes 2 ++ compactBytes 0) (compact-bytes id)
-    (append-bytes (compactBytes 2) (compactBytes 0) (compact-bytes 2) (compact-bytes 0)))
+    (append-bytes (compactBytes id) (compactBytes kind ++ compactBytes 0) (compact-bytes id)
+    (append-bytes (compactBytes kind) (compactBytes 0) (compact-bytes kind) (compact-bytes 0)))
+
+identified-bytes : (kind id : ℕ) → AllBytes (identifiedBytes kind id)
+unfolding identifiedBytes
+identified-bytes kind id =
+    append-bytes (versionBytes requestSignature) _ (version-bytes requestSignature)
+    (append-bytes userAgentBytes (subRequestBytes kind id) agent-bytes (sub-request-bytes kind id))
 
 query-bytes : AllBytes queryBytes
 unfolding queryBytes
@@ -167,9 +173,7 @@ constraint-bytes limit =
 front-bytes : (id : ℕ) → AllBytes (askFront id)
 unfolding askFront
 front-bytes id =
-    append-bytes (versionBytes requestSignature) _ (version-bytes requestSignature)
-    (append-bytes userAgentBytes _ agent-bytes
-    (append-bytes (subRequestBytes id) _ (sub-request-bytes id) (append-bytes queryBytes argumentBytes query-bytes argument-bytes)))
+    append-bytes (identifiedBytes 2 id) _ (identified-bytes 2 id) (append-bytes queryBytes argumentBytes query-bytes argument-bytes)
 
 ask-ends-bytes : AllBytes askEnds
 unfolding askEnds

@@ -9,14 +9,14 @@ use mathlib.Core.Bool.{Bool, true, false}
 use mathlib.Core.List.{List, [], _∷_, _++_, map}
 use Prim.Native.Nat.{ℕ, zero, suc, _+_, _*_, _^_, _<_}
 use native.Mathlib.Omega.{arith}
-use lib.ListN.{length, take, drop, replicate}
+use lib.ListN.{length, take, drop, replicate, length-replicate}
 use lib.Count.{trailingZeros}
 use Rattle.laws.specs.Bytes.{le, bytes, be}
 use Rattle.laws.specs.Loop.{turns, iterate}
 use Rattle.laws.specs.Once.{seen}
 use Rattle.laws.specs.Pick.{pick}
 use Rattle.laws.specs.Placed.{placed}
-use Rattle.numbers.specs.Compact.{compactBytes, sizeOf, formOf, formFrom, marked, readForm, formAt, readCompact}
+use Rattle.numbers.specs.Compact.{compactBytes, sizeOf, formOf, formFrom, withForm, readForm, compactFor, readCompact}
 use Rattle.numbers.specs.Compact as compact
 use Rattle.numbers.specs.Guid.{guidAt, guidBytes, taggedBytes, swapped}
 use Rattle.numbers.specs.ExtendedGuid.{extendedGuidBytes, namedBytes, shortBytes, readExtendedGuid, formOfId, shortForm, namedOf}
@@ -38,19 +38,23 @@ use Rattle.store.specs.KnowledgeWritten as knowledge
 use Rattle.store.specs.KnowledgeWritten.{rangeData, rangeBytes, rangesBytes, cellFront, cellBack, knowledgeBytes}
 use Rattle.store.specs.Store.{walked, packageStart, walkFrom, storeWalk}
 use Rattle.store.specs.Written.{Content, keyGuid, fieldBytes, writtenElement, writtenElements, packageFront, packageBytes}
+use Rattle.store.specs.Held.{keyRange, serialRange, rangesWith, storageIndex, storedBytes, elementsBytes, packageOf}
 use Rattle.store.specs.declared.element.Key.{Key}
 use Rattle.store.specs.declared.element.Element.{Element}
 use Rattle.request.specs.Filter.{oneNumber, filtersFrom}
 use Rattle.request.specs.Meaning.{leftIn, filtersRead}
-use Rattle.request.specs.Message.{versions, userAgent, subRequestFields, subRequest, queryChanges, argumentFields, arguments, constraint, knowledgePart, packagePart, identified, constrainedFrom, requestEnd, requestKnowing, requestAnswer, requestIn}
-use Rattle.pages.specs.Choice.{wantedIn, serialRange, rangesWith, storedLength, storageIndex}
+use Rattle.request.specs.Message.{versions, userAgent, subRequestFields, subRequest, queryChanges, argumentFields, arguments, constraint, knowledgePart, packagePart, identified, constrainedFrom, requestEnd, requestKnowing, requestAnswer, requestIn, idIn}
+use Rattle.request.specs.Response.{versionBytes, responseBytes, subResponseData, subResponseBytes, endsBytes}
+use Rattle.order.specs.Order.{rankOf, ordered}
+use Rattle.order.specs.Groups.{membersOf, groupsBehind, someOf, storedLength}
+use Rattle.pages.specs.Choice.{letsGroup, wantedIn}
 use Rattle.pages.specs.Decision.{isSendable, decision}
-use Rattle.pages.specs.Written.{versionBytes, responseBytes, storedBytes, elementsBytes, packageOf, subResponseData, subResponseBytes, partialByte, changesData, changesBytes, endsBytes, answerBytes}
+use Rattle.pages.specs.Written.{partialByte, changesData, changesBytes, answerBytes}
 use Rattle.pages.specs.Answer as answer
 use Rattle.pages.specs.Answer.{Outcome, refused, answered, numberIn, pageRanges, pageBytes, pageMeasure, onDecided, pageDecided, pageOutcome, onRequest, onStore, outcome}
-use Rattle.client.specs.Ask.{noMore, filtersGiven, knowledgeOf, knowledgeGiven, writtenIn, judgedKnowledge, judgedFilters, askWrote, askOutput}
-use Rattle.client.specs.AskWritten.{userAgentBytes, subRequestData, subRequestBytes, queryBytes, argumentData, argumentBytes, constraintBytes, askFront, askEnds, askBytes}
-use Rattle.client.specs.Read.{statusByte, responseFields, responseStart, packageIn, subResponseFields, subResponse, changesFields, changes, idIn, knowledgeIn, endsOf, receivedFrom, restOf, answerEnd, answerOn, answerIn, receivedNumbers, idNumbers, tellReadAnswer}
+use Rattle.client.specs.Ask.{noMore, filtersGiven, knowledgeOf, knowledgeGiven, writtenIn, judgedSecond, judgedFirst, askWrote, askOutput}
+use Rattle.client.specs.AskWritten.{userAgentBytes, subRequestData, subRequestBytes, identifiedBytes, queryBytes, argumentData, argumentBytes, constraintBytes, askFront, askEnds, askBytes}
+use Rattle.client.specs.Read.{statusByte, responseFields, responseStart, packageIn, subResponseFields, subResponse, changesFields, changes, knowledgeIn, endsOf, receivedFrom, restOf, answerEnd, answerOn, answerIn, receivedNumbers, idNumbers, tellReadAnswer}
 use Rattle.client.specs.declared.answer.Received.{Received}
 use Rattle.client.specs.declared.answer.ReadAnswer.{ReadAnswer}
 use Rattle.client.specs.declared.answer.ReadAnswer.the-variants as read
@@ -66,7 +70,7 @@ use Rattle.evidence.specs.Bench.{Exchange, BenchTalk}
 
 -- numbers and names
 numbers : Unit {0}
-unfolding le bytes be compactBytes sizeOf formOf formFrom marked readForm formAt readCompact compact.compactValue trailingZeros guidAt guidBytes taggedBytes swapped extendedGuidBytes namedBytes shortBytes readExtendedGuid formOfId shortForm namedOf serialBytes readSerial numbered
+unfolding le bytes be compactBytes sizeOf formOf formFrom withForm readForm compactFor readCompact compact.compactValue trailingZeros guidAt guidBytes taggedBytes swapped extendedGuidBytes namedBytes shortBytes readExtendedGuid formOfId shortForm namedOf serialBytes readSerial numbered
 numbers = tt
 
 -- headers, and the steps of a layout
@@ -85,12 +89,12 @@ knowledges = tt
 
 -- requests, written and read
 requests : Unit {0}
-unfolding knowledges versionBytes userAgentBytes subRequestData subRequestBytes queryBytes argumentData argumentBytes constraintBytes askFront askEnds askBytes versions userAgent subRequestFields subRequest queryChanges argumentFields arguments constraint knowledgePart packagePart identified constrainedFrom requestEnd requestKnowing requestAnswer requestIn oneNumber filtersFrom filtersRead leftIn
+unfolding knowledges versionBytes userAgentBytes subRequestData subRequestBytes identifiedBytes queryBytes argumentData argumentBytes constraintBytes askFront askEnds askBytes versions userAgent subRequestFields subRequest queryChanges argumentFields arguments constraint knowledgePart packagePart identified constrainedFrom requestEnd requestKnowing requestAnswer requestIn oneNumber filtersFrom filtersRead leftIn
 requests = tt
 
--- the answering call
+-- the answering calls
 answering : Unit {0}
-unfolding stores requests keep isWanted wanted wantedIn serialRange rangesWith storedLength storageIndex grow pageCount isSendable decision responseBytes storedBytes elementsBytes packageOf subResponseData subResponseBytes partialByte changesData changesBytes endsBytes answerBytes pageRanges pageBytes pageMeasure onDecided pageDecided pageOutcome onRequest onStore outcome
+unfolding stores requests keep isWanted wanted rankOf ordered groupsBehind someOf membersOf letsGroup wantedIn serialRange keyRange rangesWith storedLength storageIndex grow pageCount isSendable decision responseBytes storedBytes elementsBytes packageOf subResponseData subResponseBytes partialByte changesData changesBytes endsBytes answerBytes pageRanges pageBytes pageMeasure onDecided pageDecided pageOutcome onRequest onStore outcome
 answering = tt
 
 -- an answer read
@@ -100,7 +104,7 @@ reading = tt
 
 -- the exported calls
 unfoldable pub exporting : Unit {0}
-unfolding reading noMore filtersGiven knowledgeOf knowledgeGiven writtenIn judgedKnowledge judgedFilters askWrote askOutput placed wroteReport numbersBytes reportBytes numberIn answer.answerOf answer.outputAfter reportAfter receivedNumbers idNumbers
+unfolding reading noMore filtersGiven knowledgeOf knowledgeGiven writtenIn judgedSecond judgedFirst askWrote askOutput placed wroteReport numbersBytes reportBytes numberIn answer.answerOf answer.outputAfter reportAfter receivedNumbers idNumbers
 exporting = tt
 
 -- ---- the stores
@@ -199,6 +203,19 @@ pub one-refused : outcome one (asking 0 []) 131 ≡ refused (tooShort 132)
 unfolding answering
 one-refused = refl
 
+-- the same element with its type padded (document 02, Q-10): 16 00, in place of 0B. Its row has the value, and it goes out as it is stored
+abbrev pub padded : List ℕ
+padded =
+    0x0C ∷ 0x58 ∷ 0x0C ∷ 0x01 ∷ 0x02 ∷ 0x03 ∷ 0x04 ∷ 0x05 ∷ 0x06 ∷ 0x07 ∷ 0x08 ∷ 0x09 ∷ 0x0A ∷ 0x0B ∷ 0x0C ∷ 0x0D ∷ 0x0E ∷ 0x0F ∷ 0x10
+    ∷ 0x80 ∷ 0x01 ∷ 0x02 ∷ 0x03 ∷ 0x04 ∷ 0x05 ∷ 0x06 ∷ 0x07 ∷ 0x08 ∷ 0x09 ∷ 0x0A ∷ 0x0B ∷ 0x0C ∷ 0x0D ∷ 0x0E ∷ 0x0F ∷ 0x10
+    ∷ 0x07 ∷ 0x00 ∷ 0x00 ∷ 0x00 ∷ 0x00 ∷ 0x00 ∷ 0x00 ∷ 0x00 ∷ 0x16 ∷ 0x00 ∷ 0x05 ∷ []
+
+pub padded-answered :
+    outcome (0xAC ∷ 0x02 ∷ 0x00 ∷ (padded ++ (0x55 ∷ []))) (asking 0 []) 133
+    ≡ answered (answerWith padded 0 7) (record { place = 3; length = 47; kind = 5; id = key 1; serial = key 7 } ∷ []) (numbersTo 7 7 ∷ [])
+unfolding answering
+padded-answered = refl
+
 -- "Empty store, empty knowledge, id 1: 41 bytes; a buffer of 40 is refused, needed 41"
 pub none-answered :
     (outcome (0xAC ∷ 0x02 ∷ 0x00 ∷ 0x55 ∷ []) (asking 0 []) 41 ≡ answered (answerTelling [] 0 (0x84 ∷ 0x00 ∷ 0x41 ∷ [])) [] [])
@@ -225,6 +242,11 @@ receivedIn (read.Refused r) = record { id = 0; partial = false; index = Null; el
 
 unfoldable pub received : List ℕ → Received
 received w = receivedIn (answerIn w)
+
+-- the answer with the padded element it reads, with one element at 20
+pub padded-received : (received (answerWith padded 0 7) .count ≡ 1) × (received (answerWith padded 0 7) .elements ≡ 20)
+unfolding reading received
+padded-received = (refl, refl)
 
 -- the knowledge in it, to be sent back
 unfoldable pub sentBack : List ℕ → List ℕ
@@ -304,7 +326,7 @@ page serials marked n = record { serials = serials; marked = marked; length = n 
 abbrev pub pageIn : List ℕ → Page
 pageIn w = page (map (λ (x : Element). x .serial .number) (packageIn w .elements)) (received w .partial) (length w)
 
--- 7, 8 and 9 come in store order, each once; all but the last answer are marked; an element more is 46 bytes more
+-- 7, 8 and 9, all of one rank, come in store order, each once; all but the last answer are marked; an element more is 46 bytes more
 pub answers-read :
     (map pageIn (first ∷ second ∷ third ∷ []) ≡ page (7 ∷ []) true 132 ∷ page (8 ∷ []) true 132 ∷ page (9 ∷ []) false 132 ∷ [])
     × (map pageIn (firstTwo ∷ third ∷ []) ≡ page (7 ∷ 8 ∷ []) true 178 ∷ page (9 ∷ []) false 132 ∷ [])
@@ -321,7 +343,11 @@ output = replicate 1000 0
 abbrev pub report : List ℕ
 report = replicate 24 0
 
--- what hub_ask, hub_answer and hub_read promise to leave in them: the request and its report, ..
+-- the block that is allocated for an answer
+abbrev block : ℕ → List ℕ
+block n = replicate n 0
+
+-- what hub_ask, hub_length, hub_write and hub_read promise to leave in them: the request and its report, ..
 abbrev askedOutput : List ℕ → ℕ → List ℕ → List ℕ
 askedOutput f limit k = askOutput (askWrote 1 limit f k (length output)) (askingWith f limit k) output
 
@@ -331,26 +357,34 @@ askReport f limit k = placed (wroteReport (askWrote 1 limit f k (length output))
 abbrev requestUnder : List ℕ → ℕ → List ℕ → List ℕ
 requestUnder f limit k = take (reportNumber 2 (askReport f limit k)) (askedOutput f limit k)
 
--- .. the answer and its report, ..
-abbrev hubOutcomeUnder : List ℕ → ℕ → List ℕ → Outcome
-hubOutcomeUnder f limit k = hubOutcome three (requestUnder f limit k) (length output)
+-- .. the report with the answer's length, where 1,000 bytes are offered, ..
+abbrev offeredRoom : ℕ
+offeredRoom = 1000
 
-abbrev answerOutput : List ℕ → ℕ → List ℕ → List ℕ
-answerOutput f limit k = answer.outputAfter (hubOutcomeUnder f limit k) output
+abbrev lengthReport : List ℕ → ℕ → List ℕ → List ℕ
+lengthReport f limit k = placed (reportBytes (hubOutcome three (requestUnder f limit k) offeredRoom)) report
+
+-- .. the answer, in exactly so many bytes, and its report, ..
+abbrev answerBlock : List ℕ → ℕ → List ℕ → List ℕ
+answerBlock f limit k = block (reportNumber 2 (lengthReport f limit k))
+
+abbrev hubOutcomeUnder : List ℕ → ℕ → List ℕ → Outcome
+hubOutcomeUnder f limit k = hubOutcome three (requestUnder f limit k) (length (answerBlock f limit k))
+
+abbrev answerUnder : List ℕ → ℕ → List ℕ → List ℕ
+answerUnder f limit k = answer.outputAfter (hubOutcomeUnder f limit k) (answerBlock f limit k)
 
 abbrev answerReport : List ℕ → ℕ → List ℕ → List ℕ
 answerReport f limit k = placed (reportBytes (hubOutcomeUnder f limit k)) report
-
-abbrev answerUnder : List ℕ → ℕ → List ℕ → List ℕ
-answerUnder f limit k = take (reportNumber 2 (answerReport f limit k)) (answerOutput f limit k)
 
 -- .. and the place and length of the knowledge in it
 abbrev readReport : List ℕ → List ℕ
 readReport w = reportAfter (answerIn w) report
 
--- what the three calls return, and the bytes that come of them
+-- what the four calls return, and the bytes that come of them
 pub record Returned : Type 0 where
   pub asked : ℕ
+  pub told : ℕ
   pub answered : ℕ
   pub read : ℕ
   pub answer : List ℕ
@@ -360,6 +394,7 @@ unfoldable pub returned : List ℕ → ℕ → List ℕ → List ℕ → Returne
 returned f limit k w =
     record {
       asked = tellWrote (askWrote 1 limit f k (length output)) .number;
+      told = numberIn (hubOutcome three (requestUnder f limit k) offeredRoom);
       answered = numberIn (hubOutcomeUnder f limit k);
       read = tellReadAnswer (answerIn w) .number;
       answer = answerUnder f limit k;
@@ -368,7 +403,7 @@ returned f limit k w =
 
 -- each returns 0, the answer is w, and k′ is the knowledge in it
 abbrev pub TurnFine : List ℕ → ℕ → List ℕ → List ℕ → List ℕ → Type 0
-TurnFine f limit k w k′ = returned f limit k w ≡ record { asked = 0; answered = 0; read = 0; answer = w; knowledge = k′ }
+TurnFine f limit k w k′ = returned f limit k w ≡ record { asked = 0; told = 0; answered = 0; read = 0; answer = w; knowledge = k′ }
 
 -- a turn with some filters under a limit, and with none
 abbrev pub TurnWith : List ℕ → ℕ → List ℕ → List ℕ → List ℕ → Type 0
@@ -377,27 +412,41 @@ TurnWith f limit k w k′ = (t : Exchange three f k w k′) × (t .choice .limit
 abbrev pub TurnUnder : ℕ → List ℕ → List ℕ → List ℕ → Type 0
 TurnUnder limit k w k′ = TurnWith [] limit k w k′
 
--- where the three calls return so, it is one
+-- where the four calls return so, it is one
 pub turn-with : (f : List ℕ) (limit : ℕ) (k w k′ : List ℕ) → limit < 2 ^ 64 → TurnFine f limit k w k′ → TurnWith f limit k w k′
 unfolding returned
 turn-with f limit k w k′ h e = (
   record {
-    choice = record { id = 1; limit = limit; ask-out = output; ask-report = report; out = output; report = report; read-report = report };
+    choice =
+        record {
+          id = 1;
+          limit = limit;
+          ask-out = output;
+          ask-report = report;
+          offered = offeredRoom;
+          length-report = report;
+          block = block;
+          report = report;
+          read-report = report;
+        };
     lends =
         record {
           id = omega arith;
           limit = h;
+          offered = omega arith;
           ask-report = omega arith;
+          length-report = omega arith;
+          block = λ n. length-replicate {A = ℕ} n 0;
           report = omega arith;
           read-report = omega arith;
         };
     ask-out = askedOutput f limit k;
     ask-report = askReport f limit k;
     asks = (sym (ap (λ (t : Returned). t .asked) e), refl, refl);
-    out = answerOutput f limit k;
+    length-report = lengthReport f limit k;
+    tells = (sym (ap (λ (t : Returned). t .told) e), refl);
     report = answerReport f limit k;
-    answers = (sym (ap (λ (t : Returned). t .answered) e), refl, refl);
-    answer-is = sym (ap (λ (t : Returned). t .answer) e);
+    writes = (sym (ap (λ (t : Returned). t .answered) e), sym (ap (λ (t : Returned). t .answer) e), refl);
     read-report = readReport w;
     reads = (sym (ap (λ (t : Returned). t .read) e), refl);
     next = sym (ap (λ (t : Returned). t .knowledge) e);
@@ -422,7 +471,8 @@ two-and-one limit h f = next (turn-with [] limit [] firstTwo (known 8) h (f .0))
 all-at-once : (limit : ℕ) → limit < 2 ^ 64 → TurnFine [] limit [] allThree (known 9) → TalkUnder limit (allThree ∷ [])
 all-at-once limit h f = next (turn-with [] limit [] allThree (known 9) h f) done
 
--- under each of document 01's limits a bench gets these answers by hub_ask, hub_answer and hub_read, handing on the knowledge that it read
+-- under each of document 01's limits a bench gets these answers by hub_ask, hub_length, hub_write and hub_read, handing on the knowledge
+-- that it read
 pub bench-talks :
     TalkUnder 0 (first ∷ second ∷ third ∷ [])
     × TalkUnder 46 (first ∷ second ∷ third ∷ [])

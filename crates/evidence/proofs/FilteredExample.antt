@@ -22,12 +22,13 @@ use Rattle.request.specs.declared.message.Request.the-variants.{Asked}
 use Rattle.pages.specs.Answer.{Outcome, answered, outcome}
 use Rattle.client.specs.Ask.{filtersGiven}
 use Rattle.evidence.specs.Bench.{filtersIn, knowsBy, BenchTalk}
+use Rattle.order.specs.Groups.{single}
 use Rattle.evidence.specs.Talk.{wantedOf, rangesIn}
 use Rattle.evidence.proofs.Example.{knowledges, exporting, element, three, key, stored, askingWith, numbersTo, rangeWritten, knownRanges, known, answerTelling, answerTo, received, sentBack, answersFrom, answersWith, pagesOf, first, second, third, allThree, page, pageIn, returned, TurnWith, turn-with, bench-talk-with}
 
 -- ---- what the prover looks through: a definition computes where it is named, and to name this one is to name all of its line
 
-filtering : Unit {0}
+unfoldable pub filtering : Unit {0}
 unfolding exporting kindTaken filterFields typePart idsFrom idsField idsPart kindPart filterOpened filterAt keyIn keysFrom keysIn filterRead matches setBy
 filtering = tt
 
@@ -92,17 +93,17 @@ pub filters-say :
 unfolding filtering
 filters-say = (refl, refl, refl, refl)
 
--- ---- which elements are wanted
+-- ---- which elements are wanted, each a group by itself
 
 -- "Wanted = filters leave it in, and the knowledge lacks its serial number". With nothing known: the elements 1 and 3, where the one with id
 -- 2 is set out; none, where those of type 5 are; the one with id 2 alone, where all are set out and it is set in; all three, where it is set
 -- out and those of type 5 are set in. With 7 known and the one with id 2 set out: the third alone
 pub filters-leave :
-    (wantedOf three (filtersIn secondOut) (knowsBy []) ≡ stored 3 1 7 ∷ stored 95 3 9 ∷ [])
+    (wantedOf three (filtersIn secondOut) (knowsBy []) ≡ single (stored 3 1 7) ∷ single (stored 95 3 9) ∷ [])
     × (wantedOf three (filtersIn typeOut) (knowsBy []) ≡ [])
-    × (wantedOf three (filtersIn secondOnly) (knowsBy []) ≡ stored 49 2 8 ∷ [])
-    × (wantedOf three (filtersIn inAgain) (knowsBy []) ≡ stored 3 1 7 ∷ stored 49 2 8 ∷ stored 95 3 9 ∷ [])
-    × (wantedOf three (filtersIn secondOut) (knowsBy (known 7)) ≡ stored 95 3 9 ∷ [])
+    × (wantedOf three (filtersIn secondOnly) (knowsBy []) ≡ single (stored 49 2 8) ∷ [])
+    × (wantedOf three (filtersIn inAgain) (knowsBy []) ≡ single (stored 3 1 7) ∷ single (stored 49 2 8) ∷ single (stored 95 3 9) ∷ [])
+    × (wantedOf three (filtersIn secondOut) (knowsBy (known 7)) ≡ single (stored 95 3 9) ∷ [])
 unfolding filtering
 filters-leave = (refl, refl, refl, refl, refl)
 
@@ -146,7 +147,7 @@ noneSent = answerTelling [] 0 nothingKnown
 abbrev pub secondSent : List ℕ
 secondSent = answerTelling (element 2 8) 0 eightOnly
 
--- what the answering call answers in 1,000 bytes: these bytes, the store's three elements, and the ranges of the knowledge
+-- what is answered in 1,000 bytes: these bytes, the store's three elements, and the ranges of the knowledge
 abbrev pub answeredWith : List ℕ → List Range → Outcome
 answeredWith w ranges = answered w (stored 3 1 7 ∷ stored 49 2 8 ∷ stored 95 3 9 ∷ []) ranges
 
@@ -198,7 +199,7 @@ pub filtered-answers :
 unfolding filtering answerTo received sentBack answersFrom
 filtered-answers = (refl, refl, refl, refl, refl, refl, refl)
 
--- what a bench reads in them: the serial numbers of the elements, the mark, and the length. 7 and 9 come in store order, each once, and 8
+-- what a bench reads in them: the serial numbers of the elements, the mark, and the length. 7 and 9, of one rank, come in store order, each once, and 8
 -- does not; all but the last answer are marked
 pub filtered-answers-read :
     (map pageIn (firstSent ∷ thirdSent ∷ []) ≡ page (7 ∷ []) true 132 ∷ page (9 ∷ []) false 152 ∷ [])
@@ -223,8 +224,8 @@ filtered-knowledge-read = (refl, refl, refl, refl)
 abbrev pub TalkWith : List ℕ → ℕ → List (List ℕ) → List ℕ → Type 0
 TalkWith filters limit answers knowledge = Chain (TurnWith filters limit) [] answers knowledge
 
--- a bench gets these answers by hub_ask, which takes the filters, hub_answer and hub_read, handing on the knowledge that it read; after the
--- first two talks this lacks 8, which was not sent
+-- a bench gets these answers by hub_ask, which takes the filters, hub_length, hub_write and hub_read, handing on the knowledge that it
+-- read; after the first two talks this lacks 8, which was not sent
 pub filtered-bench-talks :
     TalkWith secondOut 46 (firstSent ∷ thirdSent ∷ []) sevenAndNine
     × TalkWith secondOut 92 (bothSent ∷ []) sevenAndNine

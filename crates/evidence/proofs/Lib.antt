@@ -1,4 +1,5 @@
 pub mod Serials
+pub mod Kept
 pub mod ReportNumbers
 pub mod BytesWritten
 pub mod Said
@@ -11,6 +12,7 @@ pub mod Sending
 pub mod DemandTwo
 pub mod Sufficient
 pub mod Steps
+pub mod IndexFirst
 pub mod Series
 pub mod GoingOn
 pub mod DemandThree
@@ -20,6 +22,19 @@ pub mod BenchExists
 pub mod OneAnswers
 pub mod Example
 pub mod FilteredExample
+pub mod GroupExample
 pub mod NotAboutNothing
 pub mod WrongHubs
 pub mod Limits
+pub mod StoreBehind
+pub mod PutRefusals
+pub mod PutResults
+pub mod PutNumbers
+pub mod PutDemands
+pub mod PutSufficient
+pub mod PutAgain
+pub mod SerialsOverPuts
+pub mod OwnGroups
+pub mod Unshared
+pub mod BenchAfterPut
+pub mod KnowsAgain

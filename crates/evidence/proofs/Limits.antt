@@ -3,7 +3,8 @@
 use mathlib.Core.Path.{_≡_, refl}
 use Prim.Native.Nat.{ℕ}
 use Rattle.store.specs.Knowledge.{mostSaid}
-use Rattle.store.specs.Tables.{mostElements, rowNumbers}
+use Rattle.store.specs.Tables.{mostElements}
+use Rattle.order.specs.Order.{rankedNumbers}
 use Rattle.pages.specs.Decision.{mostCarried}
 use Rattle.pages.specs.Answer.{knowledgeNumbers}
 
@@ -19,8 +20,9 @@ said-most = refl
 pub carried-most : mostCarried ≡ 512
 carried-most = refl
 
--- 13: "store table under 1,536 numbers or knowledge table under 2,048"
-pub store-table : rowNumbers ≡ 1536
+-- 13: "store table under 1,536 numbers or knowledge table under 2,048", and with document 02, Q-14, "The store table grows to 1,792
+-- numbers, and 13 with it"
+pub store-table : rankedNumbers ≡ 1792
 store-table = refl
 
 pub knowledge-table : knowledgeNumbers ≡ 2048

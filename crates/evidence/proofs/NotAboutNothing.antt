@@ -1,7 +1,8 @@
 -- The demands are not about nothing: a bench that uses the exported calls alone is a client. For every store that is read, all filters
--- that are read, every first knowledge of at most 256 ranges and entries, and every list of limits and buffers that are large enough,
--- there is a talk with a turn for each; and if the list has an entry for each wanted element (one, if none is wanted), the talk has
--- delivered all of them. A reader needs the two records and the statement of `bench-ends`.
+-- that are read, every first knowledge of at most 256 ranges and entries, and every list of limits, offered lengths and buffers for the
+-- request that are large enough, there is a talk with a turn for each: the bench asks by hub_length, lends exactly so much, and writes,
+-- and no ask is refused for room. And if the list has an entry for each wanted group (one, if none is wanted), the talk has delivered
+-- all of them. A reader needs the two records and the statement of `bench-ends`.
 -- Assumes nothing.
 use mathlib.Core.Path.{_≡_, refl, ap}
 use mathlib.Core.List.{List, [], _∷_}
@@ -10,13 +11,12 @@ use native.Mathlib.Omega.{arith}
 use lib.ListN.{length}
 use Rattle.laws.specs.Bytes.{AllBytes}
 use Rattle.numbers.specs.Refusals.{longestInput}
-use Rattle.objects.specs.declared.reading.Reading.{Reading}
-use Rattle.objects.specs.declared.reading.Reading.the-variants.{At, Refused}
 use Rattle.talk.specs.Each.{Each}
 use Rattle.talk.specs.Series.{Answer, joinedPages, FirstUnmarked}
 use Rattle.talk.proofs.Series.{all-sent}
 use Rattle.store.specs.Store.{storeWalk, Stands}
-use Rattle.store.specs.declared.element.Element.{Element}
+use Rattle.order.specs.Groups.{Group}
+use Rattle.store.proofs.Contents.{place-value}
 use Rattle.client.specs.Ask.{filtersGiven, knowledgeGiven}
 use Rattle.evidence.specs.Bench.{filtersIn, knowsBy, saidBy, Choice, BenchTalk, choicesIn, Ample}
 use Rattle.evidence.specs.Talk.{wantedOf, AllReadAs}
@@ -49,22 +49,17 @@ pub record Ended (s f k : List ℕ) (choices : List Choice) : Type 0 where
   pub delivered : joinedPages (demand .answers) ≡ wantedOf s (filtersIn f) (knowsBy k)
 
 -- as many answers are read as came
-length-read : (s : List ℕ) (ws : List (List ℕ)) (answers : List (Answer Element)) → AllReadAs s ws answers → length answers ≡ length ws
+length-read : (s : List ℕ) (ws : List (List ℕ)) (answers : List (Answer Group)) → AllReadAs s ws answers → length answers ≡ length ws
 length-read s [] [] h = refl
 length-read s [] (a ∷ answers) h = absurd h
 length-read s (w ∷ ws) [] h = absurd h
 length-read s (w ∷ ws) (a ∷ answers) h = ap suc (length-read s ws answers (h .1))
 
--- what is read is read to a place
-at-place : (c : Reading) → Stands c → (p : ℕ) × (n : ℕ) × (c ≡ At p n)
-at-place (At p n) h = (p, n, refl)
-at-place (Refused r) h = absurd h
-
 pub bench-ends : (s f k : List ℕ) → Begins s f k → (choices : List Choice) → Each (Ample s f k) choices
     → max 1 (length (wantedOf s (filtersIn f) (knowsBy k))) ≤ length choices → Ended s f k choices
 bench-ends s f k b choices ample enough =
-    let (p, n, filters) = at-place (filtersGiven f) (b .filters-read) in
-    let (q, v, given) = at-place (knowledgeGiven k) (b .knowledge-reads) in
+    let (p, n, filters) = place-value (filtersGiven f) (b .filters-read) in
+    let (q, v, given) = place-value (knowledgeGiven k) (b .knowledge-reads) in
     let (ws, next, long, talk, made) =
     bench-chooses s f k (b .store-bytes) (b .filter-bytes) (b .knowledge-bytes) (b .store-reads) p n filters q v given (b .said) (b .short) choices ample in
     let d : DemandThree s (filtersIn f) (knowsBy k) ws =

@@ -1,7 +1,7 @@
 -- "that any two answers allowed are equal is itself proved": each call that a user makes, in one list: for single items, for one element,
--- the answering call, the bench's calls, and those exported to C. A line says of the call, for all that it is handed and lent, that its
--- promise allows at most one answer with its buffers. What a promise is, its crate's specs say. (Public functions that only the crates
--- above call have a law of the same kind in their own crate, or a promise that is an equation.)
+-- the answering calls, the call that applies a put, the bench's calls, and those exported to C. A line says of the call, for all that it is
+-- handed and lent, that its promise allows at most one answer with its buffers. What a promise is, its crate's specs say. (Public functions
+-- that only the crates above call have a law of the same kind in their own crate, or a promise that is an equation.)
 -- Assumes nothing.
 use mathlib.Core.Path.{_≡_}
 use mathlib.Core.Bool.{Bool}
@@ -14,6 +14,7 @@ use Rattle.numbers.specs.Serial.{serialBytes}
 use Rattle.numbers.specs.declared.compact.Compact.{Compact}
 use Rattle.numbers.specs.declared.extended_guid.ExtendedGuid.{ExtendedGuid}
 use Rattle.numbers.specs.declared.extended_guid.ReadExtendedGuid.{ReadExtendedGuid}
+use Rattle.numbers.specs.declared.guid.Guid.{Guid}
 use Rattle.numbers.specs.declared.refusal.Wrote.{Wrote}
 use Rattle.numbers.specs.declared.serial.Serial.{Serial}
 use Rattle.numbers.specs.declared.serial.ReadSerial.{ReadSerial}
@@ -25,17 +26,27 @@ use Rattle.objects.proofs.OneAnswers as objects
 use Rattle.store.specs.Accessor.{FindsElement, elementBytes}
 use Rattle.store.specs.declared.accessor.Found.{Found}
 use Rattle.store.proofs.OneAnswers as store
-use Rattle.pages.specs.Answer.{Answers}
+use Rattle.pages.specs.Answer.{TellsLength, WritesAnswer}
 use Rattle.pages.specs.declared.answer.Answered.{Answered}
 use Rattle.pages.proofs.OneAnswers as pages
+use Rattle.puts.specs.Applied.{Puts}
+use Rattle.puts.specs.declared.apply.Applied.{Applied}
+use Rattle.puts.proofs.OneAnswers as puts
 use Rattle.client.specs.Accessor.{FindsReceived, receivedBytes}
 use Rattle.client.specs.Ask.{WritesRequest}
 use Rattle.client.specs.Read.{ReadsAnswer}
+use Rattle.client.specs.PutWritten.{WritesPut}
+use Rattle.client.specs.ReadPut.{ReadsPutAnswer}
 use Rattle.client.specs.declared.answer.ReadAnswer.{ReadAnswer}
+use Rattle.client.specs.declared.put_answer.ReadPutAnswer.{ReadPutAnswer}
 use Rattle.client.proofs.OneAnswers as client
 use Rattle.hub.specs.Bench.{HubAsks, HubReads, HubFinds}
-use Rattle.hub.specs.Call.{HubAnswers}
+use Rattle.hub.specs.Call.{HubTellsLength, HubWritesAnswer}
+use Rattle.hub.specs.BenchPut.{HubAsksPut, HubReadsPut}
+use Rattle.hub.specs.Put.{HubPuts}
+use Rattle.hub.proofs.EnteredReports as hubPut
 use Rattle.hub.proofs.Laws as hub
+use Rattle.hub.proofs.PutReports as benchPut
 
 -- at most one is allowed
 abbrev pub One : {A : Type 0} → (A → Type 0) → Type 0
@@ -89,11 +100,19 @@ find-element s position x y a b = store.find-element-one s position x y a b
 pub element-bytes : (s : List ℕ) (position : ℕ) → One {A = List ℕ} (λ r. r ≡ elementBytes s position)
 element-bytes s position x y a b = store.element-bytes-one s position x y a b
 
--- ---- the answering call: its answer, both tables and the output
+-- ---- the answering calls: the answer, both tables, and of the one that writes the output
 
-pub answer : (s q rows ranges out : List ℕ) → One {A = Answered × List ℕ × List ℕ × List ℕ} (λ r. Answers s q (r .0) rows (r .1) ranges (r .2) out (r .3))
-answer s q rows ranges out x y a b =
-    quadruple (pages.answers-one s q (x .0) (y .0) rows (x .1) (y .1) ranges (x .2) (y .2) out (x .3) (y .3) a b)
+pub length-told : (s q : List ℕ) (offered : ℕ) (rows ranges : List ℕ) → One {A = Answered × List ℕ × List ℕ} (λ r. TellsLength s q offered (r .0) rows (r .1) ranges (r .2))
+length-told s q offered rows ranges x y a b = triple (pages.length-one s q offered (x .0) (y .0) rows (x .1) (y .1) ranges (x .2) (y .2) a b)
+
+pub answer-written : (s q rows ranges out : List ℕ) → One {A = Answered × List ℕ × List ℕ × List ℕ} (λ r. WritesAnswer s q (r .0) rows (r .1) ranges (r .2) out (r .3))
+answer-written s q rows ranges out x y a b =
+    quadruple (pages.writes-one s q (x .0) (y .0) rows (x .1) (y .1) ranges (x .2) (y .2) out (x .3) (y .3) a b)
+
+-- ---- the call that applies a put: its answer, the new store and the output
+
+pub put-changes : (s q : List ℕ) (g : Guid) (new out : List ℕ) → One {A = Applied × List ℕ × List ℕ} (λ r. Puts s q g (r .0) new (r .1) out (r .2))
+put-changes s q g new out x y a b = triple (puts.puts-one s q g (x .0) (y .0) new (x .1) (y .1) out (x .2) (y .2) a b)
 
 -- ---- the bench's calls
 
@@ -109,10 +128,19 @@ find-received w position x y a b = client.find-received-one w position x y a b
 pub received-bytes : (w : List ℕ) (position : ℕ) → One {A = List ℕ} (λ r. r ≡ receivedBytes w position)
 received-bytes w position x y a b = client.received-bytes-one w position x y a b
 
--- ---- the calls exported to C: the number, the output and the report
+pub write-put : (id : ℕ) (expected : ExtendedGuid) (elements out : List ℕ) → One {A = Wrote × List ℕ} (λ r. WritesPut id expected elements (r .0) out (r .1))
+write-put id expected elements out x y a b = pair (client.writes-put-one id expected elements (x .0) (y .0) out (x .1) (y .1) a b)
 
-pub hub-answer : (s q out report : List ℕ) → One {A = ℕ × List ℕ × List ℕ} (λ r. HubAnswers s q (r .0) out (r .1) report (r .2))
-hub-answer s q out report x y a b = triple (hub.hub-answers-one s q (x .0) (y .0) out (x .1) (y .1) report (x .2) (y .2) a b)
+pub read-put-answer : (w : List ℕ) → One {A = ReadPutAnswer} (λ r. ReadsPutAnswer w r)
+read-put-answer w x y a b = client.read-put-answer-one w x y a b
+
+-- ---- the calls exported to C: the number, the output and the report, of a put the new store too
+
+pub hub-length : (s q : List ℕ) (offered : ℕ) (report : List ℕ) → One {A = ℕ × List ℕ} (λ r. HubTellsLength s q offered (r .0) report (r .1))
+hub-length s q offered report x y a b = pair (hub.hub-tells-one s q offered (x .0) (y .0) report (x .1) (y .1) a b)
+
+pub hub-write : (s q out report : List ℕ) → One {A = ℕ × List ℕ × List ℕ} (λ r. HubWritesAnswer s q (r .0) out (r .1) report (r .2))
+hub-write s q out report x y a b = triple (hub.hub-writes-one s q (x .0) (y .0) out (x .1) (y .1) report (x .2) (y .2) a b)
 
 pub hub-ask : (id limit : ℕ) (filters knowledge out report : List ℕ)
     → One {A = ℕ × List ℕ × List ℕ} (λ r. HubAsks id limit filters knowledge (r .0) out (r .1) report (r .2))
@@ -124,3 +152,16 @@ hub-read w report x y a b = pair (hub.hub-reads-one w (x .0) (y .0) report (x .1
 
 pub hub-element : (kind : ℕ) (s : List ℕ) (position : ℕ) (report : List ℕ) → One {A = ℕ × List ℕ} (λ r. HubFinds kind s position (r .0) report (r .1))
 hub-element kind s position report x y a b = pair (hub.hub-finds-one kind s position (x .0) (y .0) report (x .1) (y .1) a b)
+
+pub hub-put : (s q : List ℕ) (low high : ℕ) (new out report : List ℕ)
+    → One {A = ℕ × List ℕ × List ℕ × List ℕ} (λ r. HubPuts s q low high (r .0) new (r .1) out (r .2) report (r .3))
+hub-put s q low high new out report x y a b =
+    quadruple (hubPut.hub-puts-one s q low high (x .0) (y .0) new (x .1) (y .1) out (x .2) (y .2) report (x .3) (y .3) a b)
+
+pub hub-ask-put : (id named low high number : ℕ) (elements out report : List ℕ)
+    → One {A = ℕ × List ℕ × List ℕ} (λ r. HubAsksPut id named low high number elements (r .0) out (r .1) report (r .2))
+hub-ask-put id named low high number elements out report x y a b =
+    triple (benchPut.hub-asks-put-one id named low high number elements (x .0) (y .0) out (x .1) (y .1) report (x .2) (y .2) a b)
+
+pub hub-read-put : (w report : List ℕ) → One {A = ℕ × List ℕ} (λ r. HubReadsPut w (r .0) report (r .1))
+hub-read-put w report x y a b = pair (benchPut.hub-reads-put-one w (x .0) (y .0) report (x .1) (y .1) a b)

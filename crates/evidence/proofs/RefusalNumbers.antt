@@ -8,7 +8,7 @@ use Prim.Native.Nat.{ℕ, _<_}
 use native.Mathlib.Omega.{arith}
 use lib.ListN.{length}
 use Rattle.numbers.specs.Refusals.{Told}
-use Rattle.store.specs.Tables.{rowNumbers}
+use Rattle.order.specs.Order.{rankedNumbers}
 use Rattle.pages.specs.Answer.{Ask, Outcome, refused, answered, numberIn, pageRanges, tellAnswered, answerTold, outcome, answerOf, knowledgeNumbers}
 use Rattle.pages.specs.Cases.{Asks, OverLong, TooShort}
 use Rattle.pages.specs.declared.answer.Answered.{Answered}
@@ -30,7 +30,7 @@ module _ (s q : List ℕ) (rows ranges room number : ℕ) (is : number ≡ numbe
   to-outcome : (n : ℕ) → (n ≡ 13 → ⊥) → number ≡ n → Tables rows ranges × (numberIn (outcome s q room) ≡ n)
   to-outcome n d h = number-outcome s q rows ranges room n d (sym is ∙ h)
 
-  pub thirteen-exactly : IfAndOnlyIf (number ≡ 13) ((rows < rowNumbers) ⊎ (ranges < knowledgeNumbers))
+  pub thirteen-exactly : IfAndOnlyIf (number ≡ 13) ((rows < rankedNumbers) ⊎ (ranges < knowledgeNumbers))
   unfolding numberIn
   thirteen-exactly = (λ h. thirteen-only-if s q rows ranges room (sym is ∙ h), λ h. is ∙ ap numberIn (thirteen-if s q rows ranges room h))
 
@@ -58,7 +58,7 @@ module _ (s q : List ℕ) (rows ranges room number : ℕ) (is : number ≡ numbe
 
 -- all four
 pub numbers-exactly : (s q : List ℕ) (rows ranges room number : ℕ) → number ≡ numberIn (answerOf s q rows ranges room)
-    → IfAndOnlyIf (number ≡ 13) ((rows < rowNumbers) ⊎ (ranges < knowledgeNumbers))
+    → IfAndOnlyIf (number ≡ 13) ((rows < rankedNumbers) ⊎ (ranges < knowledgeNumbers))
     × IfAndOnlyIf (number ≡ 1) (Tables rows ranges × OverLong s q)
     × ((a : Ask) → Asks s q a → IfAndOnlyIf (number ≡ 9) (Tables rows ranges × (0 < length (a .wanted)) × (a .most < length (pageRanges a 1))))
     × IfAndOnlyIf (number ≡ 14) (Tables rows ranges × (a : Ask) × TooShort s q room a)

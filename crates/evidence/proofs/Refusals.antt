@@ -16,7 +16,7 @@ use Rattle.numbers.specs.declared.refusal.Wrote.the-variants as wrote
 use Rattle.objects.specs.declared.reading.Reading.{Reading}
 use Rattle.objects.specs.declared.reading.Reading.the-variants as reading
 use Rattle.objects.proofs.InputFaults.{InputTold, input-told}
-use Rattle.store.specs.Tables.{rowNumbers}
+use Rattle.order.specs.Order.{rankedNumbers}
 use Rattle.store.specs.Store.{storeWalk, Stands}
 use Rattle.store.specs.Accessor.{elementIn, foundOn, foundIn}
 use Rattle.store.specs.declared.accessor.Found.the-variants as found
@@ -31,7 +31,7 @@ use Rattle.pages.specs.Cases.{smallest, Few, Asks}
 use Rattle.pages.proofs.PageCases.{nine-if, fourteen-if, page-answered}
 use Rattle.pages.proofs.Refusing.{Course, course, thirteen-if, tables-fine, call-of-fourteen, call-of-nine}
 use Rattle.client.specs.AskWritten.{askBytes}
-use Rattle.client.specs.Ask.{filtersGiven, knowledgeGiven, writtenIn, judgedKnowledge, judgedFilters, askWrote}
+use Rattle.client.specs.Ask.{filtersGiven, knowledgeGiven, writtenIn, judgedSecond, judgedFirst, askWrote}
 use Rattle.client.specs.Read.{longestAnswer, packageIn, answerEnd, answerOn, answerIn}
 use Rattle.client.specs.Accessor.{receivedAt}
 use Rattle.client.specs.declared.answer.ReadAnswer.the-variants as answer
@@ -45,13 +45,13 @@ use Rattle.evidence.specs.BenchRefusing.{WhyAsk, WhyRead, WhyElement}
 -- ---- the tables come first
 
 pub by-tables : (s q : List ℕ) (rows ranges room : ℕ)
-    → (((rows < rowNumbers) ⊎ (ranges < knowledgeNumbers)) × (answerOf s q rows ranges room ≡ refused (faultAt 13 0)))
+    → (((rows < rankedNumbers) ⊎ (ranges < knowledgeNumbers)) × (answerOf s q rows ranges room ≡ refused (faultAt 13 0)))
     ⊎ (Tables rows ranges × (answerOf s q rows ranges room ≡ outcome s q room))
 by-tables s q rows ranges room =
-    by-lt rows rowNumbers (λ l. inl (inl l, thirteen-if s q rows ranges room (inl l)))
+    by-lt rows rankedNumbers (λ l. inl (inl l, thirteen-if s q rows ranges room (inl l)))
     (λ l. by-lt ranges knowledgeNumbers (λ m. inl (inr m, thirteen-if s q rows ranges room (inr m))) (λ m. inr ((l, m), tables-fine s q rows ranges room l m)))
 
--- ---- the answering call: refused exactly when
+-- ---- the answering calls: refused exactly when
 
 module _ (s q : List ℕ) (rows ranges room : ℕ) (r : Refusal) where
   -- of what was asked, a page is refused for its ranges or for the room
@@ -104,7 +104,7 @@ module _ (s q : List ℕ) (rows ranges room : ℕ) (r : Refusal) where
 -- ---- its refusals are faults
 
 -- of the first input, or of the second
-first-fault : (x : List ℕ) (more : List (List ℕ)) (r : Refusal) → InputTold x r → Fault (x ∷ more) r
+pub first-fault : (x : List ℕ) (more : List (List ℕ)) (r : Refusal) → InputTold x r → Fault (x ∷ more) r
 first-fault x more r t =
     let m = t .most in
     record { least = t .least; most = omega arith; input = rw (t .input) (omega arith); place = rw (t .input) (t .place); needed = λ z. t .needed }
@@ -115,10 +115,10 @@ second-fault x y r t =
     record { least = t .least; most = omega arith; input = omega arith; place = t .place; needed = λ z. t .needed }
 
 -- at the front of the first: it falls on no item
-front-fault : (x : List ℕ) (more : List (List ℕ)) (k : ℕ) → 1 ≤ k → k ≤ 14 → Fault (x ∷ more) (faultAt k 0)
+pub front-fault : (x : List ℕ) (more : List (List ℕ)) (k : ℕ) → 1 ≤ k → k ≤ 14 → Fault (x ∷ more) (faultAt k 0)
 front-fault x more k a b = record { least = a; most = b; input = omega arith; place = omega arith; needed = λ z. refl }
 
-short-fault : (x : List ℕ) (more : List (List ℕ)) (n : ℕ) → Fault (x ∷ more) (tooShort n)
+pub short-fault : (x : List ℕ) (more : List (List ℕ)) (n : ℕ) → Fault (x ∷ more) (tooShort n)
 short-fault x more n = record { least = omega arith; most = omega arith; input = omega arith; place = omega arith; needed = λ z. absurd (z refl) }
 
 pub of-store : (s : List ℕ) (more : List (List ℕ)) (r : Refusal) → storeWalk s .last ≡ reading.Refused r → Fault (s ∷ more) r
@@ -146,6 +146,56 @@ only-pages s q rows ranges room r t g h (Why.request u w e) = absurd (h r e)
 only-pages s q rows ranges room r t g h (Why.crowded u a y p c e) = inl (ap (λ (z : Refusal). z .number) e)
 only-pages s q rows ranges room r t g h (Why.short u a y f l e) = inr (ap (λ (z : Refusal). z .number) e)
 
+-- ---- bytes written into an output, behind an input that is judged first
+
+-- an input that is read is passed over
+pub first-passed : (c : Reading) (o : Wrote) → Stands c → judgedFirst c o ≡ o
+unfolding judgedFirst
+first-passed (reading.At e v) o g = refl
+first-passed (reading.Refused x) o g = absurd g
+
+module _ (w : List ℕ) (room : ℕ) (r : Refusal) where
+  -- over-long, or too long for the output
+  abbrev NotWritten : Type 0
+  NotWritten =
+      ((longestInput < length w) × (r ≡ faultAt 1 0)) ⊎ ((length w ≤ longestInput) × (room < length w) × (r ≡ tooShort (length w)))
+
+  pub written-why : writtenIn room w ≡ wrote.Refused r → NotWritten
+  unfolding writtenIn
+  written-why h =
+      by-lt longestInput (length w)
+      (λ l. let z : wrote.Refused (faultAt 1 0) ≡ wrote.Refused r = rw (lt-ltb longestInput (length w) l) at h in inl (l, cc))
+      (λ l.
+      by-lt room (length w)
+      (λ m.
+      let z : wrote.Refused (tooShort (length w)) ≡ wrote.Refused r = rw (le-ltb longestInput (length w) l, lt-ltb room (length w) m) at h in
+      inr (l, m, cc))
+      (λ m.
+      let z : wrote.Done (length w) ≡ wrote.Refused r = rw (le-ltb longestInput (length w) l, le-ltb room (length w) m) at h in
+      impossible (cc)))
+
+  pub written-refused : NotWritten → writtenIn room w ≡ wrote.Refused r
+  unfolding writtenIn
+  written-refused (inl (l, e)) = rw (lt-ltb longestInput (length w) l, e)
+  written-refused (inr (l, m, e)) = rw (le-ltb longestInput (length w) l, lt-ltb room (length w) m, e)
+
+-- where nothing is refused, all of it was written
+module _ (w : List ℕ) (n : ℕ) where
+  pub written-done : (room : ℕ) → writtenIn room w ≡ wrote.Done n → (n ≡ length w) × (length w ≤ longestInput)
+  unfolding writtenIn
+  written-done room h =
+      by-lt longestInput (length w) (λ l. let z = rw (lt-ltb longestInput (length w) l) at h in impossible (cc))
+      (λ l.
+      by-lt room (length w) (λ m. let z = rw (le-ltb longestInput (length w) l, lt-ltb room (length w) m) at h in impossible (cc))
+      (λ m.
+      let z : wrote.Done (length w) ≡ wrote.Done n = rw (le-ltb longestInput (length w) l, le-ltb room (length w) m) at h in
+      (cc, l)))
+
+  pub first-done : (c : Reading) (o : Wrote) → judgedFirst c o ≡ wrote.Done n → Stands c × (o ≡ wrote.Done n)
+  unfolding judgedFirst
+  first-done (reading.At e v) o h = (tt, h)
+  first-done (reading.Refused x) o h = impossible (cc)
+
 -- ---- a request written
 
 module _ (id limit : ℕ) (f k : List ℕ) (room : ℕ) (r : Refusal) where
@@ -157,26 +207,15 @@ module _ (id limit : ℕ) (f k : List ℕ) (room : ℕ) (r : Refusal) where
 
   -- both inputs are read
   sent-why : Stands (filtersGiven f) → Stands (knowledgeGiven k) → writtenIn room sent ≡ wrote.Refused r → AskWhy
-  unfolding writtenIn
-  sent-why a b h =
-      by-lt longestInput (length sent)
-      (λ l. let z : wrote.Refused (faultAt 1 0) ≡ wrote.Refused r = rw (lt-ltb longestInput (length sent) l) at h in WhyAsk.long a b l (cc))
-      (λ l.
-      by-lt room (length sent)
-      (λ m.
-      let z : wrote.Refused (tooShort (length sent)) ≡ wrote.Refused r = rw (le-ltb longestInput (length sent) l, lt-ltb room (length sent) m) at h in
-      WhyAsk.short a b l m (cc))
-      (λ m.
-      let z : wrote.Done (length sent) ≡ wrote.Refused r = rw (le-ltb longestInput (length sent) l, le-ltb room (length sent) m) at h in
-      impossible (cc)))
+  sent-why a b h = ⊎-elim (λ z. WhyAsk.long a b (z .0) (z .1)) (λ z. WhyAsk.short a b (z .0) (z .1) (z .2)) (written-why sent room r h)
 
-  knowledge-why : (c : Reading) → Stands (filtersGiven f) → knowledgeGiven k ≡ c → judgedKnowledge c (writtenIn room sent) ≡ wrote.Refused r → AskWhy
-  unfolding judgedKnowledge
+  knowledge-why : (c : Reading) → Stands (filtersGiven f) → knowledgeGiven k ≡ c → judgedSecond c (writtenIn room sent) ≡ wrote.Refused r → AskWhy
+  unfolding judgedSecond
   knowledge-why (reading.At e v) a g h = sent-why a (subst Stands (sym g) tt) h
   knowledge-why (reading.Refused x) a g h = WhyAsk.knowledge x a g (cc)
 
-  filters-why : (c : Reading) → filtersGiven f ≡ c → judgedFilters c (judgedKnowledge (knowledgeGiven k) (writtenIn room sent)) ≡ wrote.Refused r → AskWhy
-  unfolding judgedFilters
+  filters-why : (c : Reading) → filtersGiven f ≡ c → judgedFirst c (judgedSecond (knowledgeGiven k) (writtenIn room sent)) ≡ wrote.Refused r → AskWhy
+  unfolding judgedFirst
   filters-why (reading.At e v) g h = knowledge-why (knowledgeGiven k) (subst Stands (sym g) tt) refl h
   filters-why (reading.Refused x) g h = let z : x ≡ r = cc in WhyAsk.filters (g ∙ ap reading.Refused z)
 
@@ -184,26 +223,19 @@ module _ (id limit : ℕ) (f k : List ℕ) (room : ℕ) (r : Refusal) where
   unfolding askWrote
   ask-why h = filters-why (filtersGiven f) refl h
 
-  -- an input that is read is passed over
-  filters-passed : (c : Reading) (o : Wrote) → Stands c → judgedFilters c o ≡ o
-  unfolding judgedFilters
-  filters-passed (reading.At e v) o g = refl
-  filters-passed (reading.Refused x) o g = absurd g
-
-  knowledge-passed : (c : Reading) (o : Wrote) → Stands c → judgedKnowledge c o ≡ o
-  unfolding judgedKnowledge
+  knowledge-passed : (c : Reading) (o : Wrote) → Stands c → judgedSecond c o ≡ o
+  unfolding judgedSecond
   knowledge-passed (reading.At e v) o g = refl
   knowledge-passed (reading.Refused x) o g = absurd g
 
   pub why-ask : AskWhy → askWrote id limit f k room ≡ wrote.Refused r
-  unfolding askWrote judgedFilters judgedKnowledge writtenIn
+  unfolding askWrote judgedFirst judgedSecond
   why-ask (WhyAsk.filters h) = rw h
-  why-ask (WhyAsk.knowledge x a h e) = filters-passed (filtersGiven f) _ a ∙ rw (h, e)
+  why-ask (WhyAsk.knowledge x a h e) = first-passed (filtersGiven f) _ a ∙ rw (h, e)
   why-ask (WhyAsk.long a b l e) =
-      filters-passed (filtersGiven f) _ a ∙ knowledge-passed (knowledgeGiven k) _ b ∙ rw (lt-ltb longestInput (length sent) l, e)
+      first-passed (filtersGiven f) _ a ∙ knowledge-passed (knowledgeGiven k) _ b ∙ written-refused sent room r (inl (l, e))
   why-ask (WhyAsk.short a b l m e) =
-      filters-passed (filtersGiven f) _ a ∙ knowledge-passed (knowledgeGiven k) _ b
-      ∙ rw (le-ltb longestInput (length sent) l, lt-ltb room (length sent) m, e)
+      first-passed (filtersGiven f) _ a ∙ knowledge-passed (knowledgeGiven k) _ b ∙ written-refused sent room r (inr (l, m, e))
 
   filters-told : filtersGiven f ≡ reading.Refused r → InputTold f r
   filters-told h = input-told longestInput f r (filters-fault f r h)
@@ -228,32 +260,16 @@ module _ (id limit : ℕ) (f k : List ℕ) (room : ℕ) (r : Refusal) where
   why-ask-short (WhyAsk.short a b l m e) z = (l, m)
 
 -- where nothing is refused, all of the request was written
-module _ (w : List ℕ) (n : ℕ) where
-  written-done : (room : ℕ) → writtenIn room w ≡ wrote.Done n → n ≡ length w
-  unfolding writtenIn
-  written-done room h =
-      by-lt longestInput (length w) (λ l. let z = rw (lt-ltb longestInput (length w) l) at h in impossible (cc))
-      (λ l.
-      by-lt room (length w) (λ m. let z = rw (le-ltb longestInput (length w) l, lt-ltb room (length w) m) at h in impossible (cc))
-      (λ m.
-      let z : wrote.Done (length w) ≡ wrote.Done n = rw (le-ltb longestInput (length w) l, le-ltb room (length w) m) at h in
-      cc))
-
-  knowledge-done : (c : Reading) (o : Wrote) → judgedKnowledge c o ≡ wrote.Done n → o ≡ wrote.Done n
-  unfolding judgedKnowledge
-  knowledge-done (reading.At e v) o h = h
-  knowledge-done (reading.Refused x) o h = impossible (cc)
-
-  filters-done : (c : Reading) (o : Wrote) → judgedFilters c o ≡ wrote.Done n → o ≡ wrote.Done n
-  unfolding judgedFilters
-  filters-done (reading.At e v) o h = h
-  filters-done (reading.Refused x) o h = impossible (cc)
+knowledge-done : (n : ℕ) (c : Reading) (o : Wrote) → judgedSecond c o ≡ wrote.Done n → o ≡ wrote.Done n
+unfolding judgedSecond
+knowledge-done n (reading.At e v) o h = h
+knowledge-done n (reading.Refused x) o h = impossible (cc)
 
 pub ask-done : (id limit : ℕ) (f k : List ℕ) (room n : ℕ) → askWrote id limit f k room ≡ wrote.Done n → n ≡ length (askBytes id limit f k)
 unfolding askWrote
 ask-done id limit f k room n h =
     let w = askBytes id limit f k in
-    written-done w n room (knowledge-done w n (knowledgeGiven k) _ (filters-done w n (filtersGiven f) _ h))
+    written-done w n room (knowledge-done n (knowledgeGiven k) _ (first-done w n (filtersGiven f) _ h .1)) .0
 
 -- and so it was by a call that tells 0, since a refusal's number is never 0
 pub request-written : (id limit : ℕ) (f k : List ℕ) (room : ℕ) (o : Wrote) → askWrote id limit f k room ≡ o → 0 ≡ tellWrote o .number → (n : ℕ) × (o ≡ wrote.Done n)

@@ -1,7 +1,6 @@
 -- Serial numbers as keys of a set: ranges of one number add exactly one key.
 -- Assumes nothing.
 use mathlib.Core.Path.{_≡_, refl, sym, ap, _∙_}
-use mathlib.Core.Bool.{true}
 use mathlib.Core.List.{List, [], _∷_, map}
 use Prim.Native.Nat.{ℕ, _^_, _<_}
 use native.Mathlib.Omega.{arith}
@@ -18,16 +17,13 @@ use Rattle.talk.specs.declared.range.Range.{Range}
 use Rattle.talk.proofs.Counts.{holds-insert-one, known-with}
 use Rattle.talk.proofs.OneForm.{one-form-fits}
 use Rattle.store.specs.Element.{sameKey}
+use Rattle.store.specs.Held.{keyRange, serialRange, rangesWith}
 use Rattle.ranges.specs.Ranged.{rangeOf, knows}
 use Rattle.store.specs.declared.element.Element.{Element}
 use Rattle.store.specs.declared.element.Key.{Key}
-use Rattle.pages.specs.Choice.{knowsKey, serialRange, rangesWith}
+use Rattle.order.specs.Groups.{Group, groupSerial, firsts}
+use Rattle.pages.specs.Choice.{knowsKey}
 use Rattle.evidence.specs.Talk.{KeyFits, serialOf}
-
--- a key is the same as itself
-pub same-itself : (k : Key) → sameKey k k ≡ true
-unfolding sameKey
-same-itself k = rw (eq-eqb (k .low) (k .low) refl, eq-eqb (k .high) (k .high) refl, eq-eqb (k .number) (k .number) refl)
 
 eqb-swapped : (a b : ℕ) → a < 2 ^ 64 → b < 2 ^ 64 → eqb (swapped a) (swapped b) ≡ eqb b a
 eqb-swapped a b h k =
@@ -35,7 +31,7 @@ eqb-swapped a b h k =
     (λ n. ne-eqb (swapped a) (swapped b) (λ e. n (sym (swapped-back a h) ∙ ap swapped e ∙ swapped-back b k)) ∙ sym (ne-eqb b a (λ e. n (sym e))))
 
 pub serial-keys : RangeOfKey serialOf serialRange knowsKey sameKey KeyFits
-unfolding serialRange rangeOf knows sameKey
+unfolding serialRange keyRange rangeOf knows sameKey
 serial-keys =
     record {
       some = λ x. omega arith;
@@ -54,6 +50,24 @@ with-same (x ∷ xs) l = with-same xs (insert (serialRange x) l)
 pub knows-with : (l : List Range) (page : List Element) → Normal l → Each (λ (x : Element). KeyFits (x .serial)) page → (k : Key) → KeyFits k
     → knowsKey (rangesWith l page) k ≡ withKeys sameKey (knowsKey l) (map serialOf page) k
 knows-with l page n f k g = rw (with-same page l) (known-with sameKey KeyFits serialOf serialRange knowsKey serial-keys l page n f k g)
+
+-- ---- a group has the serial number of its first member
+
+abbrev pub groupRange : Group → Range
+groupRange g = serialRange (g .first)
+
+pub group-keys : RangeOfKey groupSerial groupRange knowsKey sameKey KeyFits
+group-keys = record { some = λ g. serial-keys .some (g .first); adds-one = λ g f l o k h. serial-keys .adds-one (g .first) f l o k h }
+
+pub groups-with : (gs : List Group) (l : List Range) → rangesWith l (firsts gs) ≡ withRanges l (map groupRange gs)
+unfolding rangesWith withRanges
+groups-with [] l = refl
+groups-with (g ∷ gs) l = groups-with gs (insert (groupRange g) l)
+
+-- "with exactly those serial numbers added", of groups
+pub knows-groups : (l : List Range) (page : List Group) → Normal l → Each (λ (g : Group). KeyFits (groupSerial g)) page → (k : Key) → KeyFits k
+    → knowsKey (rangesWith l (firsts page)) k ≡ withKeys sameKey (knowsKey l) (map groupSerial page) k
+knows-groups l page n f k g = rw (groups-with page l) (known-with sameKey KeyFits groupSerial groupRange knowsKey group-keys l page n f k g)
 
 -- ---- two lists in normal form that are one set are one list
 

@@ -12,21 +12,21 @@ use Rattle.talk.specs.Series.{Answer, Chain, done, next, Judged, Delivers, over
 use Rattle.talk.proofs.Delivery.{judged-converges}
 use Rattle.talk.proofs.Series.{converges}
 use Rattle.store.specs.Element.{sameKey}
-use Rattle.store.specs.declared.element.Element.{Element}
+use Rattle.order.specs.Groups.{Group, groupSerial}
 use Rattle.store.specs.Store.{storeWalk, Stands}
 use Rattle.store.specs.declared.element.Key.{Key}
-use Rattle.store.proofs.Chains.{same-turn, serials-once, store-read}
+use Rattle.store.proofs.Chains.{same-turn}
 use Rattle.request.specs.Meaning.{Filter}
-use Rattle.evidence.specs.Talk.{KeyFits, serialOf, elementsOf, leavesIn, Talk, AllReadAs}
-use Rattle.evidence.proofs.Sending.{serials-fit}
-use Rattle.evidence.proofs.Serials.{same-itself}
+use Rattle.evidence.specs.Talk.{KeyFits, groupsOf, leavesIn, Talk, AllReadAs}
+use Rattle.evidence.proofs.Sending.{serials-fit, serials-differ}
+use Rattle.store.proofs.Rows.{same-itself}
 use Rattle.evidence.proofs.Steps.{held, read-as, answered-judged, answer}
 
 -- a store of which something was answered is read
 pub record Read (s : List ℕ) (fs : List Filter) (know : Key → Bool) (ws : List (List ℕ)) (know′ : Key → Bool) : Type 0 where
-  pub answers : List (Answer Element)
+  pub answers : List (Answer Group)
   pub read : AllReadAs s ws answers
-  pub chain : Chain (Judged sameKey KeyFits serialOf (elementsOf s) (leavesIn s fs)) know answers know′
+  pub chain : Chain (Judged sameKey KeyFits groupSerial (groupsOf s) (leavesIn s fs)) know answers know′
   pub stands : (answers ≡ []) ⊎ Stands (storeWalk s .last)
 
 pub all-read : (s : List ℕ) → AllBytes s → (fs : List Filter) {know know′ : Key → Bool} {ws : List (List ℕ)} → Talk s fs know ws know′ → Read s fs know ws know′
@@ -43,13 +43,13 @@ all-read s b fs (then {k = k} {m = m} {a = w} r t) =
 
 -- so it delivers: where nothing was answered there is nothing to show of the store
 pub delivered : (s : List ℕ) → AllBytes s → (fs : List Filter) {know know′ : Key → Bool} {ws : List (List ℕ)} → (r : Read s fs know ws know′)
-    → Delivers sameKey serialOf (elementsOf s) (leavesIn s fs) know (r .answers)
+    → Delivers sameKey groupSerial (groupsOf s) (leavesIn s fs) know (r .answers)
 unfolding once
 delivered s b fs {know} r =
-    ⊎-elim (λ e. subst (Delivers sameKey serialOf (elementsOf s) (leavesIn s fs) know) (sym e) none)
+    ⊎-elim (λ e. subst (Delivers sameKey groupSerial (groupsOf s) (leavesIn s fs) know) (sym e) none)
     (λ h.
-    judged-converges sameKey same-itself same-turn serialOf KeyFits (elementsOf s) (leavesIn s fs) (serials-fit s b h) (serials-once s (store-read s h)) (r .chain))
+    judged-converges sameKey same-itself same-turn groupSerial KeyFits (groupsOf s) (leavesIn s fs) (serials-fit s b h) (serials-differ s) (r .chain))
     (r .stands)
   where
-    none : Delivers sameKey serialOf (elementsOf s) (leavesIn s fs) know []
+    none : Delivers sameKey groupSerial (groupsOf s) (leavesIn s fs) know []
     none = record { converges = converges done; none-twice = refl }

@@ -16,29 +16,31 @@ use Rattle.talk.proofs.Counts.{ranged-room}
 use Rattle.talk.proofs.Delivery.{wanted-same}
 use Rattle.talk.proofs.Things.{each-so}
 use Rattle.store.specs.Element.{sameKey}
-use Rattle.store.specs.declared.element.Element.{Element}
+use Rattle.store.specs.Held.{storageIndex}
+use Rattle.order.specs.Groups.{Group, groupSerial}
 use Rattle.store.specs.declared.element.Key.{Key}
-use Rattle.store.proofs.Chains.{same-turn, serials-once, store-read}
+use Rattle.store.proofs.Chains.{same-turn}
 use Rattle.request.specs.Meaning.{Filter}
 use Rattle.request.specs.Message.{filtersOf}
 use Rattle.request.proofs.RequestFits.{known-normal}
 use Rattle.pages.specs.Answer.{knownIn}
-use Rattle.pages.specs.Choice.{knowsKey, serialRange, storageIndex}
-use Rattle.evidence.specs.Talk.{KeyFits, serialOf, elementsOf, leavesIn, wantedOf, rangesIn, AnsweredAsk, ReadAs}
+use Rattle.pages.specs.Choice.{knowsKey}
+use Rattle.evidence.specs.Talk.{KeyFits, elementsOf, groupsOf, leavesIn, wantedOf, rangesIn, AnsweredAsk, ReadAs}
 use Rattle.evidence.proofs.DemandTwo.{DemandTwo, demand-two}
-use Rattle.evidence.proofs.Sending.{serials-fit}
-use Rattle.evidence.proofs.Serials.{same-itself, serial-keys, with-same}
+use Rattle.evidence.proofs.Sending.{serials-fit, serials-differ}
+use Rattle.store.proofs.Rows.{same-itself}
+use Rattle.evidence.proofs.Serials.{groupRange, group-keys, groups-with}
 
 -- ---- by the request's ranges, as a list
 
 module _ (s q : List ℕ) (room : ℕ) (b : AllBytes s) (w : List ℕ) (h : DemandTwo s q room w) where
   -- the answer takes from what they lack, and tells them with those of its page
-  pub sent-ranged : Ranged serialOf serialRange knowsKey (elementsOf s) (leavesIn s (filtersOf q)) (knownIn q) (record { page = h .page; marked = h .marked }) (rangesIn w)
+  pub sent-ranged : Ranged groupSerial groupRange knowsKey (groupsOf s) (leavesIn s (filtersOf q)) (knownIn q) (record { page = h .page; marked = h .marked }) (rangesIn w)
   sent-ranged =
       record {
         rest = h .rest;
         takes = record { run = h .run; moves = h .some; mark = h .mark };
-        adds = h .ranges ∙ with-same (h .page) (knownIn q);
+        adds = h .ranges ∙ groups-with (h .page) (knownIn q);
       }
 
   -- ranges and wanted elements together do not become more
@@ -46,8 +48,8 @@ module _ (s q : List ℕ) (room : ℕ) (b : AllBytes s) (w : List ℕ) (h : Dema
       ≤ length (knownIn q) + length (wantedOf s (filtersOf q) (knowsKey (knownIn q)))
   sent-room =
       let stands = h .store-reads in
-      ranged-room sameKey KeyFits serialOf serialRange knowsKey serial-keys (elementsOf s) (leavesIn s (filtersOf q)) (serials-fit s b stands) same-itself same-turn
-      (serials-once s (store-read s stands)) (knownIn q) (rangesIn w) _ (known-normal q [] .0) sent-ranged
+      ranged-room sameKey KeyFits groupSerial groupRange knowsKey group-keys (groupsOf s) (leavesIn s (filtersOf q)) (serials-fit s b stands) same-itself same-turn
+      (serials-differ s) (knownIn q) (rangesIn w) _ (known-normal q [] .0) sent-ranged
 
 -- ---- by the set that is known
 
@@ -55,34 +57,34 @@ module _ (s : List ℕ) (b : AllBytes s) (fs : List Filter) (know know′ : Key 
   pub held : DemandTwo s (r .request) (r .room) w
   held = demand-two s (r .request) b (r .bytes) (r .room) w (r .gave)
 
-  abbrev pub answer : Answer Element
+  abbrev pub answer : Answer Group
   answer = record { page = held .page; marked = held .marked }
 
   pub read-as : ReadAs s w answer
   read-as = (held .id, storageIndex (elementsOf s), held .read)
 
   -- as of the request's ranges
-  pub answered-ranged : Ranged serialOf serialRange knowsKey (elementsOf s) (leavesIn s fs) (knownIn (r .request)) answer (rangesIn w)
+  pub answered-ranged : Ranged groupSerial groupRange knowsKey (groupsOf s) (leavesIn s fs) (knownIn (r .request)) answer (rangesIn w)
   answered-ranged =
-      subst (λ (filters : List Filter). Ranged serialOf serialRange knowsKey (elementsOf s) (leavesIn s filters) (knownIn (r .request)) answer (rangesIn w)) (r .filters)
+      subst (λ (filters : List Filter). Ranged groupSerial groupRange knowsKey (groupsOf s) (leavesIn s filters) (knownIn (r .request)) answer (rangesIn w)) (r .filters)
       (sent-ranged s (r .request) (r .room) b w held)
 
   -- what the request's ranges lack is what the set lacks
   wanted-is : wantedOf s fs (knowsKey (knownIn (r .request))) ≡ wantedOf s fs know
   wanted-is =
       sym
-      (wanted-same serialOf (leavesIn s fs) know (knowsKey (knownIn (r .request))) (elementsOf s)
-      (each-so _ _ (elementsOf s) (λ x f. r .carried (x .serial) f) (serials-fit s b (held .store-reads))))
+      (wanted-same groupSerial (leavesIn s fs) know (knowsKey (knownIn (r .request))) (groupsOf s)
+      (each-so _ _ (groupsOf s) (λ g f. r .carried (groupSerial g) f) (serials-fit s b (held .store-reads))))
 
-  adds : (k : Key) → KeyFits k → know′ k ≡ withKeys sameKey know (map serialOf (held .page)) k
+  adds : (k : Key) → KeyFits k → know′ k ≡ withKeys sameKey know (map groupSerial (held .page)) k
   adds k f =
-      r .told k f ∙ held .adds k f ∙ ap (λ (is : Bool). pick is true (seen sameKey k (map serialOf (held .page)))) (sym (r .carried k f))
+      r .told k f ∙ held .adds k f ∙ ap (λ (is : Bool). pick is true (seen sameKey k (map groupSerial (held .page)))) (sym (r .carried k f))
 
-  pub answered-judged : Judged sameKey KeyFits serialOf (elementsOf s) (leavesIn s fs) know answer know′
+  pub answered-judged : Judged sameKey KeyFits groupSerial (groupsOf s) (leavesIn s fs) know answer know′
   answered-judged =
       record {
         rest = answered-ranged .rest;
-        takes = subst (λ (l : List Element). Takes l answer (answered-ranged .rest)) wanted-is (answered-ranged .takes);
+        takes = subst (λ (l : List Group). Takes l answer (answered-ranged .rest)) wanted-is (answered-ranged .takes);
         adds = adds;
       }
 

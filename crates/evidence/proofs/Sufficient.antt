@@ -1,8 +1,9 @@
--- Which output suffices. include/hub.h says of hub_answer: "No answer of hub_answer is larger: an output of so many bytes always
--- suffices. So does, for a store of n bytes, one of n + HUB_ANSWER_OVER_STORE." And of hub_ask: "No request of hub_ask is larger: an
--- output of so many bytes always suffices." That an output suffices says two things: it is never refused with 14, and more room would not
--- get a longer page. This is for whoever sizes buffers by the header. A reader needs `Sufficient` and the types of the five laws that
--- have `pub` before them. What stands behind a `=`, and every law without `pub`, can be skipped.
+-- Which output suffices. include/hub.h says of hub_write: "No answer of hub_write is larger: an output of so many bytes always suffices.
+-- So does, for a store of n bytes, one of n + HUB_ANSWER_OVER_STORE. If more than this is offered to hub_length, it tells the same." And
+-- of hub_ask: "No request of hub_ask .. is larger: an output of so many bytes always suffices." That an output suffices says two things:
+-- it is never refused with 14, and more room would not get a longer page. This is for whoever sizes buffers by the header. A reader needs
+-- `Sufficient` and the types of the laws that have `pub` before them. What stands behind a `=`, and every law without `pub`, can be
+-- skipped.
 -- Assumes nothing.
 use mathlib.Core.Path.{_≡_, refl, sym, ap, _∙_}
 use mathlib.Core.Bool.{Bool}
@@ -15,17 +16,19 @@ use borrow.Author.Tests.{le-leb, lt-leb}
 use Rattle.laws.specs.Bytes.{AllBytes}
 use Rattle.laws.proofs.Cases.{by-lt, by-eq}
 use Rattle.numbers.specs.Refusals.{longestInput, tellWrote}
+use Rattle.numbers.specs.declared.refusal.Refusal.{Refusal}
 use Rattle.numbers.specs.declared.refusal.Wrote.{Wrote}
 use Rattle.numbers.specs.declared.refusal.Wrote.the-variants as wrote
 use Rattle.talk.specs.Page.{Greatest}
 use Rattle.talk.proofs.PageRule.{greatest-one}
 use Rattle.store.specs.Knowledge.{mostSaid}
 use Rattle.store.specs.Store.{storeWalk, Stands}
+use Rattle.store.specs.Held.{rangesWith}
+use Rattle.order.specs.Order.{rankedNumbers}
 use Rattle.store.proofs.Chains.{over-long}
 use Rattle.request.proofs.RequestFits.{known-normal}
-use Rattle.pages.specs.Answer.{Ask, pageBytes, pageMeasure, pageRanges}
+use Rattle.pages.specs.Answer.{Ask, Outcome, refused, answered, knowledgeNumbers, pageBytes, pageMeasure, pageRanges}
 use Rattle.pages.specs.Cases.{Asks, Few, TooShort, smallest}
-use Rattle.pages.specs.Choice.{rangesWith}
 use Rattle.pages.specs.Decision.{isSendable, sendable}
 use Rattle.pages.proofs.Refusing.{asked-most, answered-asks, call-sends}
 use Rattle.client.specs.Ask.{askWrote, filtersGiven, knowledgeGiven}
@@ -34,12 +37,14 @@ use Rattle.client.specs.Read.{longestAnswer}
 use Rattle.client.proofs.CallBack.{asked-size}
 use Rattle.client.proofs.NextAsk.{filters-fine, knowledge-fine, room-enough}
 use Rattle.hub.specs.Bench.{HubAsks}
-use Rattle.hub.specs.Call.{HubAnswers}
+use Rattle.hub.specs.Call.{hubOutcome, HubTellsLength, HubWritesAnswer}
+use Rattle.hub.proofs.Laws.{tables-enough}
 use Rattle.evidence.specs.Calling.{GivesAnswer}
+use Rattle.evidence.specs.Refusing.{Why}
 use Rattle.evidence.proofs.Calling.{gave-outcome, read-within}
-use Rattle.evidence.proofs.DemandOne.{demand-one-hub-numbers}
+use Rattle.evidence.proofs.DemandOne.{demand-one-hub-length-numbers}
 use Rattle.evidence.proofs.DemandTwo.{demand-two}
-use Rattle.evidence.proofs.Refusals.{request-written, ask-why, why-ask-short}
+use Rattle.evidence.proofs.Refusals.{refused-why, why-refused, request-written, ask-why, why-ask-short}
 
 -- so many bytes of output, for an answer from the store s: HUB_LARGEST_ANSWER, 16,842,752, or the store's length and
 -- HUB_ANSWER_OVER_STORE
@@ -80,11 +85,15 @@ not-too-short s q b d room enough a t =
     let needs = t .needs in
     omega arith
 
-pub hub-answer-suffices : (s q : List ℕ) → AllBytes s → AllBytes q → (number : ℕ) (out out′ report report′ : List ℕ) → Sufficient s (length out)
-    → HubAnswers s q number out out′ report report′ → number ≡ 14 → ⊥
-hub-answer-suffices s q b d number out out′ report report′ enough h e =
-    let (tables, a, short) = demand-one-hub-numbers s q number out out′ report report′ h .fourteen .0 e in
-    not-too-short s q b d (length out) enough a short
+pub hub-length-suffices : (s q : List ℕ) → AllBytes s → AllBytes q → (offered number : ℕ) (report report′ : List ℕ) → Sufficient s offered
+    → HubTellsLength s q offered number report report′ → number ≡ 14 → ⊥
+hub-length-suffices s q b d offered number report report′ enough h e =
+    let (tables, a, short) = demand-one-hub-length-numbers s q offered number report report′ h .fourteen .0 e in
+    not-too-short s q b d offered enough a short
+
+pub hub-write-suffices : (s q : List ℕ) → AllBytes s → AllBytes q → (number : ℕ) (out out′ report report′ : List ℕ) → Sufficient s (length out)
+    → HubWritesAnswer s q number out out′ report report′ → number ≡ 14 → ⊥
+hub-write-suffices s q b d number out out′ report report′ enough h e = hub-length-suffices s q b d (length out) number report report′ enough (h .0, h .2) e
 
 -- ---- nor is a request: HUB_LARGEST_REQUEST is the longest input, 16,777,216
 
@@ -156,3 +165,41 @@ same-answer s q b d room room′ enough enough′ w w′ g g′ =
     let z = call-sends s q room′ a x w′ all′ l′ is′ in
     let same = same-count s q b d a x room room′ enough enough′ (y .count) (z .count) (y .greatest) (z .greatest) in
     y .bytes-are ∙ ap (pageBytes a) same ∙ sym (z .bytes-are)
+
+-- ---- "If more than this is offered to hub_length, it tells the same.": no reason to refuse depends on the room but that of 14, which is
+-- not given
+
+same-why : (s q : List ℕ) → AllBytes s → AllBytes q → (rows ranges room room′ : ℕ) → Sufficient s room → (r : Refusal) → Why s q rows ranges room r → Why s q rows ranges room′ r
+same-why s q b d rows ranges room room′ enough r (Why.tables t e) = Why.tables t e
+same-why s q b d rows ranges room room′ enough r (Why.store t e) = Why.store t e
+same-why s q b d rows ranges room room′ enough r (Why.request t h e) = Why.request t h e
+same-why s q b d rows ranges room room′ enough r (Why.crowded t a x p m e) = Why.crowded t a x p m e
+same-why s q b d rows ranges room room′ enough r (Why.short t a x few needs e) =
+    absurd (not-too-short s q b d room enough a (record { asks = x; few = few; needs = needs }))
+
+same-refused : (s q : List ℕ) → AllBytes s → AllBytes q → (room room′ : ℕ) → Sufficient s room → (r : Refusal) → hubOutcome s q room ≡ refused r
+    → hubOutcome s q room′ ≡ refused r
+same-refused s q b d room room′ enough r e =
+    why-refused s q rankedNumbers knowledgeNumbers room′ r (same-why s q b d rankedNumbers knowledgeNumbers room room′ enough r (refused-why s q rankedNumbers knowledgeNumbers room r e))
+
+module _ (s q : List ℕ) (b : AllBytes s) (d : AllBytes q) (room room′ : ℕ) (enough : Sufficient s room) (enough′ : Sufficient s room′) where
+  same-outcome : (o o′ : Outcome) → hubOutcome s q room ≡ o → hubOutcome s q room′ ≡ o′ → o ≡ o′
+  same-outcome (refused r) o′ e e′ = sym (same-refused s q b d room room′ enough r e) ∙ e′
+  same-outcome (answered w all l) (refused r) e e′ = sym e ∙ same-refused s q b d room′ room enough′ r e′
+  same-outcome (answered w all l) (answered w′ all′ l′) e e′ =
+      let is = sym (tables-enough s q room) ∙ e in
+      let is′ = sym (tables-enough s q room′) ∙ e′ in
+      let (a, x) = answered-asks s q room w all l is in
+      let y = call-sends s q room a x w all l is in
+      let z = call-sends s q room′ a x w′ all′ l′ is′ in
+      let same = same-count s q b d a x room room′ enough enough′ (y .count) (z .count) (y .greatest) (z .greatest) in
+      let bytes : w ≡ w′ = y .bytes-are ∙ ap (pageBytes a) same ∙ sym (z .bytes-are) in
+      let elements : all ≡ all′ = y .elements-are ∙ sym (z .elements-are) in
+      let ranges : l ≡ l′ = y .ranges-are ∙ ap (pageRanges a) same ∙ sym (z .ranges-are) in
+      cc (bytes, elements, ranges)
+
+  pub same-length-told : (r r′ : ℕ) (report x x′ : List ℕ) → HubTellsLength s q room r report x → HubTellsLength s q room′ r′ report x′ → (r ≡ r′) × (x ≡ x′)
+  same-length-told r r′ report x x′ h h′ =
+      let e : hubOutcome s q room ≡ hubOutcome s q room′ = same-outcome (hubOutcome s q room) (hubOutcome s q room′) refl refl in
+      let k = rw e at h in
+      (k .0 ∙ sym (h′ .0), k .1 ∙ sym (h′ .1))

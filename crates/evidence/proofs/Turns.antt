@@ -17,7 +17,7 @@ use Rattle.talk.specs.Series.Trace.{over, then}
 use Rattle.talk.specs.declared.range.Range.{Range}
 use Rattle.store.specs.KnowledgeWritten.{knowledgeBytes}
 use Rattle.request.specs.Message.{filtersOf}
-use Rattle.pages.specs.Answer.{outputAfter, knownIn}
+use Rattle.pages.specs.Answer.{knownIn}
 use Rattle.pages.specs.Choice.{knowsKey}
 use Rattle.client.specs.Ask.{filtersGiven, knowledgeGiven, knowledgeOf, askWrote}
 use Rattle.client.specs.Ask as ask
@@ -32,7 +32,7 @@ use Rattle.client.proofs.AskRead.{ask-read}
 use Rattle.client.proofs.NextAsk.{filters-fine, knowledge-fine, room-enough}
 use Rattle.report.specs.Report.{threeNumbers}
 use Rattle.hub.specs.Bench.{wroteReport, HubAsks, reportAfter, HubReads}
-use Rattle.evidence.specs.Calling.{reportNumber, GivesAnswer, exported}
+use Rattle.evidence.specs.Calling.{reportNumber, GivesAnswer, exported-pair}
 use Rattle.evidence.specs.Talk.{AnsweredAsk, Talk, rangesIn}
 use Rattle.evidence.specs.Bench.{filtersIn, knowsBy, Exchange, BenchTalk}
 use Rattle.evidence.proofs.Refusals.{request-written}
@@ -113,17 +113,19 @@ turn-tells s f k w k′ bs bf bk t =
     let q = take (reportNumber 2 (t .ask-report)) (t .ask-out) in
     let a = asks-read (c .id) (c .limit) f k (c .ask-out) (t .ask-out) (c .ask-report) (t .ask-report) (l .id) (l .limit) (l .ask-report) (t .asks) in
     let bq : AllBytes q = subst (λ (v : List ℕ). AllBytes v) (sym (a .bytes-are)) (ask-bytes (c .id) (c .limit) f k bf bk) in
-    let gave : GivesAnswer s q (length (c .out)) w = exported (c .out) (t .out) (c .report) (t .report) (t .answers) refl (l .report) (t .answer-is) in
-    let held : DemandTwo s q (length (c .out)) w = demand-two s q bs bq (length (c .out)) w gave in
+    let out = c .block (reportNumber 2 (t .length-report)) in
+    let gave : GivesAnswer s q (c .offered) w =
+    exported-pair (c .length-report) (t .length-report) (t .tells) (l .length-report) 0 out w (c .report) (t .report) (l .block (reportNumber 2 (t .length-report))) (t .writes) refl in
+    let held : DemandTwo s q (c .offered) w = demand-two s q bs bq (c .offered) w gave in
     record {
       request = q;
-      room = length (c .out);
+      room = c .offered;
       bytes = bq;
       filters = a .back .filters;
       known = a .back .known;
       gave = gave;
       held = held;
-      next-is = reads-knowledge s q (length (c .out)) w held (c .read-report) (t .read-report) k′ (l .read-report) (t .reads) (t .next);
+      next-is = reads-knowledge s q (c .offered) w held (c .read-report) (t .read-report) k′ (l .read-report) (t .reads) (t .next);
     }
 
 module _ (s f k w k′ : List ℕ) (bs : AllBytes s) (bf : AllBytes f) (bk : AllBytes k) (t : Exchange s f k w k′) where

@@ -16,17 +16,19 @@ use Rattle.talk.proofs.Series.{marked-carries}
 use Rattle.talk.proofs.Delivery.{judged-takes}
 use Rattle.store.specs.Element.{sameKey}
 use Rattle.store.specs.declared.element.Key.{Key}
-use Rattle.store.proofs.Chains.{same-turn, serials-once, store-read}
+use Rattle.store.proofs.Chains.{same-turn}
 use Rattle.request.specs.Meaning.{Filter}
 use Rattle.client.specs.Read.{answerIn}
 use Rattle.client.specs.declared.answer.Received.{Received}
 use Rattle.client.specs.declared.answer.ReadAnswer.{ReadAnswer}
 use Rattle.client.specs.declared.answer.ReadAnswer.the-variants as read
 use Rattle.evidence.specs.Calling.{GivesAnswer}
-use Rattle.evidence.specs.Talk.{KeyFits, serialOf, elementsOf, leavesIn, wantedOf, AnsweredAsk}
+use Rattle.evidence.specs.Talk.{KeyFits, groupsOf, leavesIn, wantedOf, AnsweredAsk}
+use Rattle.order.specs.Groups.{membersOf, groupSerial}
+use Rattle.order.proofs.GroupMembers.{length-least}
 use Rattle.evidence.proofs.DemandTwo.{DemandTwo, demand-two}
-use Rattle.evidence.proofs.Sending.{serials-fit}
-use Rattle.evidence.proofs.Serials.{same-itself}
+use Rattle.evidence.proofs.Sending.{serials-fit, serials-differ}
+use Rattle.store.proofs.Rows.{same-itself}
 use Rattle.evidence.proofs.Steps.{held, answer, answered-judged}
 
 -- ---- one answer
@@ -46,7 +48,8 @@ pub no-empty-partial : (s q : List ℕ) → AllBytes s → AllBytes q → (room 
 no-empty-partial s q b d room w g x e n m =
     let h : DemandTwo s q room w = demand-two s q b d room w g in
     let y = sym (h .read .read) ∙ e in
-    let count : length (h .page) ≡ x .count = ap countIn y in
+    let count : length (membersOf (h .page)) ≡ x .count = ap countIn y in
+    let each = length-least (h .page) in
     let mark : h .marked ≡ x .partial = ap markIn y in
     let z = marked-carries {a = record { page = h .page; marked = h .marked }} (record { run = h .run; moves = h .some; mark = h .mark }) (mark ∙ m) .carried in
     omega arith
@@ -61,13 +64,13 @@ elements-or-unmarked s q b d room w g x e =
 
 -- ---- one ask after another
 
--- after an answer that is marked fewer elements are wanted: the same question does not come again
+-- after an answer that is marked fewer groups are wanted: the same question does not come again
 pub fewer-wanted : (s : List ℕ) → AllBytes s → (fs : List Filter) (know know′ : Key → Bool) (w : List ℕ) → (r : AnsweredAsk s fs know w know′)
     → (x : Received) → answerIn w ≡ read.Is x → x .partial ≡ true → length (wantedOf s fs know′) < length (wantedOf s fs know)
 fewer-wanted s b fs know know′ w r x e m =
     let h = held s b fs know know′ w r in
     let stands = h .store-reads in
-    let t = judged-takes sameKey same-itself same-turn serialOf KeyFits (elementsOf s) (leavesIn s fs) (serials-fit s b stands) (serials-once s (store-read s stands)) know know′
+    let t = judged-takes sameKey same-itself same-turn groupSerial KeyFits (groupsOf s) (leavesIn s fs) (serials-fit s b stands) (serials-differ s) know know′
     (answer s b fs know know′ w r) (answered-judged s b fs know know′ w r) in
     let mark : h .marked ≡ x .partial = ap markIn (sym (h .read .read) ∙ e) in
     marked-carries t (mark ∙ m) .fewer

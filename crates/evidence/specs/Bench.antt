@@ -1,5 +1,6 @@
--- A bench that talks by the exported calls alone: hub_ask writes the request, hub_answer answers it, hub_read reads the answer, and the
--- knowledge that stands in it is handed to the next hub_ask. Each call is lent a report of 24 bytes or more.
+-- A bench that talks by the exported calls alone: hub_ask writes the request, hub_length tells how long the answer is, hub_write writes it
+-- into exactly so many bytes, hub_read reads it, and the knowledge that stands in it is handed to the next hub_ask. Each call is lent a
+-- report of 24 bytes or more.
 -- Assumes nothing.
 use mathlib.Core.Path.{_≡_}
 use mathlib.Core.Bool.{Bool}
@@ -14,7 +15,7 @@ use Rattle.talk.specs.Series.{Chain, done, next}
 use Rattle.request.specs.Meaning.{Filter, filtersRead}
 use Rattle.pages.specs.Choice.{knowsKey}
 use Rattle.client.specs.Ask.{filtersGiven, knowledgeOf}
-use Rattle.hub.specs.Call.{HubAnswers}
+use Rattle.hub.specs.Call.{HubTellsLength, HubWritesAnswer}
 use Rattle.hub.specs.Bench.{HubAsks, HubReads}
 use Rattle.evidence.specs.Calling.{reportNumber}
 
@@ -33,21 +34,27 @@ saidBy k = mostSaid - knowledgeOf k .left
 
 -- ---- the turns
 
--- what a bench chooses for a turn: the id, the limit, and what it lends to the three calls
+-- what a bench chooses for a turn: the id, the limit, the length that it offers, and what it lends to the four calls. The output for the
+-- answer is allocated once its length is told: `block n` is what then stands in the n bytes
 pub record Choice : Type 0 where
   pub id : ℕ
   pub limit : ℕ
   pub ask-out : List ℕ
   pub ask-report : List ℕ
-  pub out : List ℕ
+  pub offered : ℕ
+  pub length-report : List ℕ
+  pub block : ℕ → List ℕ
   pub report : List ℕ
   pub read-report : List ℕ
 
--- numbers of 64 bits, reports of 24 bytes or more
+-- numbers of 64 bits, reports of 24 bytes or more, a block of as many bytes as were asked for
 pub record Lends (c : Choice) : Type 0 where
   pub id : c .id < 2 ^ 64
   pub limit : c .limit < 2 ^ 64
+  pub offered : c .offered < 2 ^ 64
   pub ask-report : 24 ≤ length (c .ask-report)
+  pub length-report : 24 ≤ length (c .length-report)
+  pub block : (n : ℕ) → length (c .block n) ≡ n
   pub report : 24 ≤ length (c .report)
   pub read-report : 24 ≤ length (c .read-report)
 
@@ -59,11 +66,12 @@ pub record Exchange (s f k w k′ : List ℕ) : Type 0 where
   pub ask-out : List ℕ
   pub ask-report : List ℕ
   pub asks : HubAsks (choice .id) (choice .limit) f k 0 (choice .ask-out) ask-out (choice .ask-report) ask-report
-  -- the answer
-  pub out : List ℕ
+  -- the answer's length
+  pub length-report : List ℕ
+  pub tells : HubTellsLength s (take (reportNumber 2 ask-report) ask-out) (choice .offered) 0 (choice .length-report) length-report
+  -- the answer: all of the output
   pub report : List ℕ
-  pub answers : HubAnswers s (take (reportNumber 2 ask-report) ask-out) 0 (choice .out) out (choice .report) report
-  pub answer-is : w ≡ take (reportNumber 2 report) out
+  pub writes : HubWritesAnswer s (take (reportNumber 2 ask-report) ask-out) 0 (choice .block (reportNumber 2 length-report)) w (choice .report) report
   -- the knowledge in it: "place and length"
   pub read-report : List ℕ
   pub reads : HubReads w 0 (choice .read-report) read-report
@@ -79,9 +87,9 @@ choicesIn (next t c) = t .choice ∷ choicesIn c
 
 -- ---- when a bench can go on
 
--- a request has room for the filters, a knowledge of 512 ranges and what stands around them; an answer has room for all of the store's
--- elements and what stands around them
+-- a request has room for the filters, a knowledge of 512 ranges and what stands around them; an answer is offered room for all of the
+-- store's elements and what stands around them
 pub record Ample (s f k : List ℕ) (c : Choice) : Type 0 where
   pub lends : Lends c
   pub ask-out : length f + length k + 32768 ≤ length (c .ask-out)
-  pub out : length s + 65536 ≤ length (c .out)
+  pub offered : length s + 65536 ≤ c .offered

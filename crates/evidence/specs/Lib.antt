@@ -4,3 +4,6 @@ pub mod Refusing
 pub mod BenchRefusing
 pub mod Results
 pub mod Bench
+pub mod Puts
+pub mod PutResults
+pub mod Base

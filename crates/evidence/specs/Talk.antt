@@ -15,6 +15,8 @@ use Rattle.store.specs.Knowledge.{mostSaid}
 use Rattle.store.specs.Store.{storeWalk}
 use Rattle.store.specs.declared.element.Element.{Element}
 use Rattle.store.specs.declared.element.Key.{Key}
+use Rattle.order.specs.Order.{ordered}
+use Rattle.order.specs.Groups.{Group, members, membersOf, groupSerial, groups, someOf}
 use Rattle.request.specs.Meaning.{Filter, leftIn}
 use Rattle.request.specs.Message.{filtersOf, requestKnowing}
 use Rattle.pages.specs.Answer.{knownIn}
@@ -32,16 +34,25 @@ KeyFits k = (k .low < 2 ^ 64) × (k .high < 2 ^ 64)
 abbrev pub serialOf : Element → Key
 serialOf x = x .serial
 
--- the elements of the store, and which of them the filters leave in
+-- the elements of the store
 abbrev pub elementsOf : List ℕ → List Element
 elementsOf s = storeWalk s .elements
 
-abbrev pub leavesIn : List ℕ → List Filter → Element → Bool
-leavesIn s fs x = leftIn fs (elementsOf s) x true
+-- in row order: 'Demands 2 and 3 read "row order" for "store order"' (document 02, Q-14)
+abbrev pub inRowOrder : List ℕ → List Element
+inRowOrder s = ordered (elementsOf s)
 
--- "Wanted = filters leave it in, and the knowledge lacks its serial number"
-abbrev pub wantedOf : List ℕ → List Filter → (Key → Bool) → List Element
-wantedOf s fs know = wanted serialOf (leavesIn s fs) know (elementsOf s)
+-- and those with an equal serial number as a group: "Demands 2 and 3 take groups in this order; n counts groups" (document 02, Q-3)
+abbrev pub groupsOf : List ℕ → List Group
+groupsOf s = groups (inRowOrder s)
+
+-- "The filters let a group in as soon as they let one member in."
+abbrev pub leavesIn : List ℕ → List Filter → Group → Bool
+leavesIn s fs g = someOf (λ (x : Element). leftIn fs (elementsOf s) x true) (members g)
+
+-- "Wanted = filters leave it in, and the knowledge lacks its serial number", of groups
+abbrev pub wantedOf : List ℕ → List Filter → (Key → Bool) → List Group
+wantedOf s fs know = wanted groupSerial (leavesIn s fs) know (groupsOf s)
 
 -- ---- what is known
 
@@ -59,8 +70,8 @@ rangesIn w = knowledgeIn w (markAt w (packageEnd w)) .ranges
 
 -- ---- the talk
 
--- an ask that is answered with the bytes w: by any request with these filters that carries the set, into any buffer; what is known
--- afterwards is what the answer tells
+-- an ask that is answered with the bytes w: by any request with these filters that carries the set, into a buffer of any length, or into
+-- one of the length that was told where any was offered; what is known afterwards is what the answer tells
 pub record AnsweredAsk (s : List ℕ) (fs : List Filter) (know : Key → Bool) (w : List ℕ) (know′ : Key → Bool) : Type 0 where
   pub request : List ℕ
   pub room : ℕ
@@ -83,12 +94,13 @@ Talk s fs know answers know′ = Trace (AnsweredAsk s fs) (RefusedAsk s) know an
 
 -- ---- what a bench reads
 
--- w is read as the answer a: its elements are those of the page, with their stored bytes and in their order, and its mark is a's
-abbrev pub ReadAs : List ℕ → List ℕ → Answer Element → Type 0
-ReadAs s w a = (id : ℕ) × (index : ExtendedGuid) × ReadsBack s id index (a .page) (a .marked) (rangesIn w) w
+-- w is read as the answer a: its elements are the members of the page's groups, each group whole, with their stored bytes and in their
+-- order, and its mark is a's
+abbrev pub ReadAs : List ℕ → List ℕ → Answer Group → Type 0
+ReadAs s w a = (id : ℕ) × (index : ExtendedGuid) × ReadsBack s id index (membersOf (a .page)) (a .marked) (rangesIn w) w
 
 -- and so each of the answers
-abbrev pub AllReadAs : List ℕ → List (List ℕ) → List (Answer Element) → Type 0
+abbrev pub AllReadAs : List ℕ → List (List ℕ) → List (Answer Group) → Type 0
 AllReadAs s [] [] = Unit {0}
 AllReadAs s (w ∷ ws) (a ∷ answers) = ReadAs s w a × AllReadAs s ws answers
 AllReadAs s [] (a ∷ answers) = ⊥

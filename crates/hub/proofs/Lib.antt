@@ -1,4 +1,6 @@
 pub mod Reports
 pub mod BenchReports
+pub mod EnteredReports
+pub mod PutReports
 pub mod Laws
 pub mod WrongAnswers

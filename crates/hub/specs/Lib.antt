@@ -1,2 +1,4 @@
 pub mod Call
 pub mod Bench
+pub mod Put
+pub mod BenchPut

@@ -9,7 +9,7 @@ use mathlib.Core.List.{List, [], _∷_, _++_}
 use Prim.Native.Nat.{ℕ, zero, suc, _+_, _-_, _*_, _/_, _%_, _^_, _≤_, _<_}
 use native.Mathlib.Nat.{one-le-pow, pow-suc, pow-le-pow-right, add-zero, zero-add, add-suc, suc-add}
 use native.Mathlib.Omega.{arith}
-use lib.ListN.{length, getD, take}
+use lib.ListN.{length, getD, take, length-take}
 use lib.Arith.{digits-mod}
 use lib.Count.{trailingZeros}
 use lib.Dec.{lit<, lit≤, ltb}
@@ -17,12 +17,12 @@ use lib.Pow.{pow-lt, split, le-ones, lt-of-le-ones}
 use borrow.Author.Tests.{ne-eqb, lt-ltb, le-ltb}
 use Rattle.laws.specs.Bytes.{AllBytes, le, bytes}
 use Rattle.laws.proofs.Cases.{by-lt, by-eq}
-use Rattle.laws.proofs.Numbers.{length-bytes}
+use Rattle.laws.proofs.Numbers.{length-bytes, le-lt, take-bytes}
 use Rattle.numbers.specs.Refusals.{fault}
-use Rattle.numbers.specs.Compact.{sizeOf, compactValue, readForm, formAt, readCompact, formOf, marked, compactBytes}
+use Rattle.numbers.specs.Compact.{sizeOf, compactValue, readForm, readCompact, formOf, withForm, compactBytes}
 use Rattle.numbers.specs.CompactTable.{FormRow, formTable, InRange, rowBytes, HasLowBits, rowValue, rowReads, RuleFollows, rowAt, ExactlyOneRow, RuleIsTable}
 use Rattle.numbers.specs.declared.compact.Compact.the-variants.{Value, Refused}
-use Rattle.numbers.proofs.LowestBit.{zeros-lt, zeros-not-zero, zeros-marked, zeros-low}
+use Rattle.numbers.proofs.LowestBit.{zeros-lt, zeros-not-zero, zeros-with-form, zeros-low}
 use Rattle.numbers.proofs.Forms.{size-long, size-short, size-pos, pow-seven, form-is, form-of-le, form-of-least, form-of-most, compact-is, value-lt, value-fits}
 use Rattle.numbers.proofs.RoundTrip.{read-written}
 
@@ -98,13 +98,13 @@ fits-range k v h r =
 -- ---- the low bits of a form
 
 zeros-of : (k b : ℕ) → k ≤ 7 → HasLowBits (formRow k) b → trailingZeros 8 b ≡ k
-unfolding marked
+unfolding withForm
 zeros-of k b h l =
-    let e : marked k (b / 2 ^ (k + 1)) ≡ b = ap (λ (x : ℕ). b / 2 ^ (k + 1) * 2 ^ (k + 1) + x) (sym l) ∙ split b (k + 1) in
-    ap (trailingZeros 8) (sym e) ∙ zeros-marked 8 k (b / 2 ^ (k + 1)) (omega arith)
+    let e : withForm k (b / 2 ^ (k + 1)) ≡ b = ap (λ (x : ℕ). b / 2 ^ (k + 1) * 2 ^ (k + 1) + x) (sym l) ∙ split b (k + 1) in
+    ap (trailingZeros 8) (sym e) ∙ zeros-with-form 8 k (b / 2 ^ (k + 1)) (omega arith)
 
 has-low-bits : (b : ℕ) → trailingZeros 8 b < 8 → HasLowBits (formRow (trailingZeros 8 b)) b
-unfolding marked
+unfolding withForm
 has-low-bits b h =
     let k = trailingZeros 8 b in
     ap (λ (x : ℕ). x % 2 ^ (k + 1)) (zeros-low 8 b h) ∙ digits-mod (b / 2 ^ (k + 1)) (pow-lt (omega arith))
@@ -115,37 +115,47 @@ byte-not-zero k b h l = zeros-not-zero 8 b (omega (arith, zeros-of k b h l))
 -- ---- each row says what the rule does
 
 -- what is written as a row says is read back with the row's size
-row-back : (r : FormRow) (v : ℕ) (t : List ℕ) → v < 2 ^ 64 → compactBytes v ≡ rowBytes r v → readCompact (rowBytes r v ++ t) ≡ Value v (r .size)
+row-back : (r : FormRow) (v : ℕ) (t : List ℕ) → v < 2 ^ 64 → compactBytes v ≡ rowBytes r v → readCompact (rowBytes r v ++ t) ≡ Value v (r .size) false
 unfolding rowBytes
 row-back r v t f e =
     ap (λ (w : List ℕ). readCompact (w ++ t)) (sym e) ∙ read-written v f t
-    ∙ ap (Value v) (ap length e ∙ length-bytes (r .size) (v * 2 ^ r .lowBits + r .low))
+    ∙ ap (λ (n : ℕ). Value v n false) (ap length e ∙ length-bytes (r .size) (v * 2 ^ r .lowBits + r .low))
 
 zero-row-written : (v : ℕ) → InRange zeroRow v → compactBytes v ≡ rowBytes zeroRow v
 unfolding compactBytes rowBytes bytes
 zero-row-written v r = let e : v ≡ 0 = omega (arith, r .1) in rw e
 
 zero-row-read : (s : List ℕ) → AllBytes s → 0 < length s → HasLowBits zeroRow (getD s 0 0) → readCompact s ≡ rowReads zeroRow s
-unfolding readCompact formAt rowReads rowValue le
+unfolding readCompact rowReads rowValue le
 zero-row-read [] b p l = absurd (omega arith)
 zero-row-read (x ∷ s) b p l =
     let e : x ≡ 0 = omega (arith, b 0, l) in
     simp (e, ne-eqb (suc (length s)) 0 (omega arith), le-ltb (suc (length s)) 1 (omega arith))
 
 form-row-written : (k v : ℕ) → k ≤ 7 → InRange (formRow k) v → compactBytes v ≡ rowBytes (formRow k) v
-unfolding rowBytes marked
-form-row-written k v h r = compact-is v (not-zero k v r) ∙ ap (λ (f : ℕ). bytes (sizeOf f) (marked f v)) (form-in-range k v h r)
+unfolding rowBytes withForm
+form-row-written k v h r = compact-is v (not-zero k v r) ∙ ap (λ (f : ℕ). bytes (sizeOf f) (withForm f v)) (form-in-range k v h r)
 
 form-row-read : (k : ℕ) (s : List ℕ) → k ≤ 7 → AllBytes s → 0 < length s → HasLowBits (formRow k) (getD s 0 0)
     → readCompact s ≡ rowReads (formRow k) s
-unfolding readCompact formAt readForm compactValue rowReads rowValue
+unfolding readCompact readForm compactValue rowReads rowValue
 form-row-read k s h b p l =
     let z : trailingZeros 8 (getD s 0 0) ≡ k = zeros-of k (getD s 0 0) h l in
     let n : length s ≢ 0 = λ e. omega arith in
-    let m : ltb (2 ^ valueBits k - 1) (le (take (sizeOf k) s) / 2 ^ (k + 1)) ≡ false = le-ltb _ _ (value-last k s b h) in
     by-lt (length s) (sizeOf k)
     (λ q. rw (ne-eqb _ _ n, ne-eqb _ _ (byte-not-zero k (getD s 0 0) h l), z, lt-ltb _ _ q))
-    (λ q. rw (ne-eqb _ _ n, ne-eqb _ _ (byte-not-zero k (getD s 0 0) h l), z, le-ltb _ _ q, m))
+    (λ q. rw (ne-eqb _ _ n, ne-eqb _ _ (byte-not-zero k (getD s 0 0) h l), z, le-ltb _ _ q))
+
+-- no bytes hold more than the last value
+zero-row-topped : (s : List ℕ) → AllBytes s → rowValue zeroRow s ≤ 0
+unfolding rowValue
+zero-row-topped s b =
+    let l : le (take 1 s) < 256 ^ 1 = le-lt 1 (take 1 s) (simp length-take (omega arith)) (take-bytes 1 s b) in
+    omega arith
+
+form-row-topped : (k : ℕ) (s : List ℕ) → k ≤ 7 → AllBytes s → rowValue (formRow k) s ≤ 2 ^ valueBits k - 1
+unfolding rowValue compactValue
+form-row-topped k s h b = value-last k s b h
 
 form-filled : (k : ℕ) → k ≤ 7 → valueBits k + (k + 1) ≡ 8 * sizeOf k
 unfolding valueBits
@@ -162,6 +172,7 @@ follows-form zero h = record {
   ordered = lit≤ tt;
   laidDown = zero-row-written;
   readBack = λ v r t. row-back zeroRow v t (omega (arith, r .1)) (zero-row-written v r);
+  topped = zero-row-topped;
   read = zero-row-read;
 }
 follows-form (suc k) h =
@@ -171,6 +182,7 @@ follows-form (suc k) h =
       ordered = form-ordered k;
       laidDown = λ v r. form-row-written k v le-seven r;
       readBack = λ v r t. row-back (formRow k) v t (fits-range k v le-seven r) (form-row-written k v le-seven r);
+      topped = λ s. form-row-topped k s le-seven;
       read = λ s. form-row-read k s le-seven;
     }
 
@@ -229,7 +241,7 @@ one-row-of-byte b f =
 -- ---- the law
 
 no-byte : readCompact [] ≡ Refused (fault 2)
-unfolding readCompact formAt
+unfolding readCompact
 no-byte = refl
 
 pub rule-is-table : RuleIsTable

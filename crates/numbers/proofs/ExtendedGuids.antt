@@ -14,7 +14,7 @@ use borrow.Author.Tests.{lt-ltb, le-ltb, eq-eqb, ne-eqb}
 use Rattle.laws.specs.Bytes.{AllBytes, le, bytes}
 use Rattle.laws.proofs.Cases.{by-lt, by-eq, impossible}
 use Rattle.laws.proofs.Numbers.{length-bytes, le-lt, take-bytes, drop-bytes, le-bytes, bytes-le, first-byte, low-byte}
-use Rattle.numbers.specs.Compact.{marked}
+use Rattle.numbers.specs.Compact.{withForm}
 use Rattle.numbers.specs.Guid.{guidAt, guidBytes, taggedBytes, GuidFits}
 use Rattle.numbers.specs.ExtendedGuid.{namedOf, shortForm, longForm, formOfId, readExtendedGuid, shortBytes, namedBytes, extendedGuidBytes, ExtendedGuidFits}
 use Rattle.numbers.specs.declared.guid.Guid.{Guid}
@@ -23,7 +23,7 @@ use Rattle.numbers.specs.declared.extended_guid.ExtendedGuid.{ExtendedGu
 use Rattle.numbers.specs.declared.extended_guid.ExtendedGuid.the-variants.{Null, Named}
 use Rattle.numbers.specs.declared.extended_guid.ReadExtendedGuid.{ReadExtendedGuid}
 use Rattle.numbers.specs.declared.extended_guid.ReadExtendedGuid.the-variants.{Value, Refused}
-use Rattle.numbers.proofs.LowestBit.{zeros-mod, zeros-marked, zeros-low, marked-value}
+use Rattle.numbers.proofs.LowestBit.{zeros-mod, zeros-with-form, zeros-low, with-form-value}
 use Rattle.numbers.proofs.Guids.{length-guid, length-tagged, tagged-parts, tagged-same, guid-read-written, guid-written-read, guid-at-fits}
 
 -- ---- the bytes of each form
@@ -52,16 +52,16 @@ named-32 g x l =
     rw (le-ltb x 0x20 k, le-ltb x 0x400 m, le-ltb x 0x20000 l)
 
 -- each short form has room for its numbers
-pub room-5 : (x : ℕ) → x < 0x20 → marked 2 x < 256 ^ 1
-unfolding marked
+pub room-5 : (x : ℕ) → x < 0x20 → withForm 2 x < 256 ^ 1
+unfolding withForm
 room-5 x h = omega arith
 
-pub room-10 : (x : ℕ) → x < 0x400 → marked 5 x < 256 ^ 2
-unfolding marked
+pub room-10 : (x : ℕ) → x < 0x400 → withForm 5 x < 256 ^ 2
+unfolding withForm
 room-10 x h = omega arith
 
-pub room-17 : (x : ℕ) → x < 0x20000 → marked 6 x < 256 ^ 3
-unfolding marked
+pub room-17 : (x : ℕ) → x < 0x20000 → withForm 6 x < 256 ^ 3
+unfolding withForm
 room-17 x h = omega arith
 
 -- ---- what the code reads fits its number
@@ -78,26 +78,26 @@ named-read-written : (n g x least : ℕ) (s : List ℕ) (i : Guid) → n ≤ len
 unfolding namedOf
 named-read-written n g x least s i h l e = rw (le-ltb _ _ h, le-ltb _ _ l, e)
 
-short-read-written : (k m least : ℕ) (g : Guid) (x : ℕ) (t : List ℕ) → GuidFits g → marked k x < 256 ^ m → least ≤ x
+short-read-written : (k m least : ℕ) (g : Guid) (x : ℕ) (t : List ℕ) → GuidFits g → withForm k x < 256 ^ m → least ≤ x
     → shortForm k m least (shortBytes k m g x ++ t) ≡ Value (Named g x) (m + 16)
 unfolding shortForm shortBytes
 short-read-written k m least g x t f b l =
-    let w = bytes m (marked k x) in
+    let w = bytes m (withForm k x) in
     let s = (w ++ guidBytes g) ++ t in
     let e : s ≡ w ++ (guidBytes g ++ t) = append-assoc w (guidBytes g) t in
     let h : m + 16 ≤ length s = simp (length-append, length-bytes, length-guid) (omega arith) in
     let v : le (take m s) / 2 ^ (k + 1) ≡ x =
-    rw (e, take-at w (guidBytes g ++ t) m (length-bytes m (marked k x)), le-bytes m (marked k x) b) (marked-value k x) in
-    let i : guidAt (drop m s) ≡ g = rw (e, drop-at w (guidBytes g ++ t) m (length-bytes m (marked k x))) (guid-read-written g f t) in
+    rw (e, take-at w (guidBytes g ++ t) m (length-bytes m (withForm k x)), le-bytes m (withForm k x) b) (with-form-value k x) in
+    let i : guidAt (drop m s) ≡ g = rw (e, drop-at w (guidBytes g ++ t) m (length-bytes m (withForm k x))) (guid-read-written g f t) in
     rw v (named-read-written (m + 16) m x least s g h l i)
 
 -- the first byte of a short form tells it
 short-first : (k m : ℕ) (g : Guid) (x : ℕ) (t : List ℕ) → 0 < m → k < 8 → trailingZeros 8 (getD (shortBytes k m g x ++ t) 0 0) ≡ k
 unfolding shortBytes
 short-first k m g x t p h =
-    let w = bytes m (marked k x) in
-    let f : getD ((w ++ guidBytes g) ++ t) 0 0 ≡ marked k x % 2 ^ 8 = rw append-assoc (first-byte m (marked k x) (guidBytes g ++ t) p) in
-    rw f (zeros-mod 8 (marked k x) ∙ zeros-marked 8 k x h)
+    let w = bytes m (withForm k x) in
+    let f : getD ((w ++ guidBytes g) ++ t) 0 0 ≡ withForm k x % 2 ^ 8 = rw append-assoc (first-byte m (withForm k x) (guidBytes g ++ t) p) in
+    rw f (zeros-mod 8 (withForm k x) ∙ zeros-with-form 8 k x h)
 
 -- a first byte that has a form is not 0
 tells : (b k : ℕ) → trailingZeros 8 b ≡ k → k < 8 → b ≢ 0
@@ -108,7 +108,7 @@ by-form : (k : ℕ) (s : List ℕ) (r : ReadExtendedGuid) → length s ≢ 0 →
 unfolding readExtendedGuid
 by-form k s r n e h q = rw (ne-eqb _ _ n, ne-eqb _ _ (tells (getD s 0 0) k e h), e) q
 
-short-back : (k m least : ℕ) (g : Guid) (x : ℕ) (t : List ℕ) → 0 < m → k < 8 → GuidFits g → marked k x < 256 ^ m → least ≤ x
+short-back : (k m least : ℕ) (g : Guid) (x : ℕ) (t : List ℕ) → 0 < m → k < 8 → GuidFits g → withForm k x < 256 ^ m → least ≤ x
     → ((s : List ℕ) → formOfId k s ≡ shortForm k m least s)
     → readExtendedGuid (shortBytes k m g x ++ t) ≡ Value (Named g x) (length (shortBytes k m g x))
 short-back k m least g x t p h f b l is =
@@ -173,11 +173,11 @@ extended-guid-read-written (Named g x) f t = named-back g x t (f .0) (f .1)
 
 -- of the short form k, that the first byte tells: the number's bytes, and the bound that they give it
 short-number : (k m : ℕ) (s : List ℕ) → AllBytes s → 0 < m → m ≤ length s → k < 8 → trailingZeros 8 (getD s 0 0) ≡ k
-    → (take m s ≡ bytes m (marked k (le (take m s) / 2 ^ (k + 1)))) × (le (take m s) < 256 ^ m)
+    → (take m s ≡ bytes m (withForm k (le (take m s) / 2 ^ (k + 1)))) × (le (take m s) < 256 ^ m)
 short-number k m s b p l h e =
     let x = le (take m s) in
     let z : trailingZeros 8 x ≡ k = sym (zeros-mod 8 x) ∙ ap (trailingZeros 8) (low-byte m s b p) ∙ e in
-    let low : x ≡ marked k (x / 2 ^ (k + 1)) = rw z at (zeros-low 8 x (rw z h)) in
+    let low : x ≡ withForm k (x / 2 ^ (k + 1)) = rw z at (zeros-low 8 x (rw z h)) in
     let y : bytes m x ≡ take m s = rw (length-take-le m s l) at (bytes-le (take m s) (take-bytes m s b)) in
     (rw (← low) (sym y), le-lt m (take m s) (simp length-take (omega arith)) (take-bytes m s b))
 
@@ -222,7 +222,7 @@ long-same s i u b e r =
 
 -- the byte that tells the long form is 128
 long-byte : (c : ℕ) → c < 256 → trailingZeros 8 c ≡ 7 → c ≡ 128
-unfolding marked
+unfolding withForm
 long-byte c h e = let l : c ≡ c / 2 ^ 8 * 2 ^ 8 + 2 ^ 7 = rw e at (zeros-low 8 c (rw e (lit< tt))) in omega arith
 
 form-same : (k : ℕ) (s : List ℕ) (i : ExtendedGuid) (u : ℕ) → AllBytes s → trailingZeros 8 (getD s 0 0) ≡ k → formOfId k s ≡ Value i u → Same s i u

@@ -15,7 +15,7 @@ use borrow.Author.Tests.{eq-eqb, ne-eqb, lt-ltb, le-ltb}
 use Rattle.laws.specs.Bytes.{AllBytes, le, bytes}
 use Rattle.laws.proofs.Cases.{by-lt, by-eq}
 use Rattle.laws.proofs.Numbers.{shl-one, length-bytes, le-lt, le-split, take-bytes, drop-bytes}
-use Rattle.numbers.specs.Compact.{sizeOf, compactValue, formFrom, formOf, marked, compactBytes}
+use Rattle.numbers.specs.Compact.{sizeOf, compactValue, formFrom, formOf, withForm, compactBytes}
 
 -- ---- how long a form is
 
@@ -161,28 +161,28 @@ form-no-more (suc f) rest h = rw (lt-ltb rest 128 h)
 -- ---- the number that stands for a value
 
 -- as the code computes it
-pub marked-shl : (k v : ℕ) → k < 64 → v * ((1 * 2 ^ k) % 2 ^ 64 * 2) + (1 * 2 ^ k) % 2 ^ 64 ≡ marked k v
-unfolding marked
-marked-shl k v h = rw (shl-one k h, add-one, pow-suc 2 k)
+pub with-form-shl : (k v : ℕ) → k < 64 → v * ((1 * 2 ^ k) % 2 ^ 64 * 2) + (1 * 2 ^ k) % 2 ^ 64 ≡ withForm k v
+unfolding withForm
+with-form-shl k v h = rw (shl-one k h, add-one, pow-suc 2 k)
 
 -- of fewer than eight bytes, it fits the code's word
-pub marked-short : (k v : ℕ) → k ≤ 7 → (k ≡ 7 → ⊥) → marked k v < 256 ^ sizeOf k → marked k v < 256 ^ 7
-marked-short k v h n b =
-    let p : marked k v < 256 ^ (k + 1) = rw (size-short k n) at b in
+pub with-form-short : (k v : ℕ) → k ≤ 7 → (k ≡ 7 → ⊥) → withForm k v < 256 ^ sizeOf k → withForm k v < 256 ^ 7
+with-form-short k v h n b =
+    let p : withForm k v < 256 ^ (k + 1) = rw (size-short k n) at b in
     let q : 256 ^ (k + 1) ≤ 256 ^ 7 = pow-le-pow-right {n = 256} (lit< tt) {i = k + 1} {j = 7} (omega arith) in
     omega arith
 
 -- the long form is a byte 128 and then the value
 pub long-put : (d : List ℕ) (v : ℕ) → 9 ≤ length d
-    → take 1 (set d 0 128) ++ (bytes 8 v ++ drop 8 (drop 1 (set d 0 128))) ≡ bytes 9 (marked 7 v) ++ drop 9 d
-unfolding bytes marked
+    → take 1 (set d 0 128) ++ (bytes 8 v ++ drop 8 (drop 1 (set d 0 128))) ≡ bytes 9 (withForm 7 v) ++ drop 9 d
+unfolding bytes withForm
 long-put [] v h = absurd (omega arith)
 long-put (y ∷ d) v h = rw (digits-mod v {m = 256} {r = 128} (lit< tt), digits-div v {m = 256} {r = 128} (lit< tt))
 
 -- the number of a value fits its form's bytes
-pub marked-lt : (v : ℕ) → v < 2 ^ 64 → marked (formOf v) v < 256 ^ sizeOf (formOf v)
-unfolding marked
-marked-lt v h =
+pub with-form-lt : (v : ℕ) → v < 2 ^ 64 → withForm (formOf v) v < 256 ^ sizeOf (formOf v)
+unfolding withForm
+with-form-lt v h =
     let k = formOf v in
     by-eq k 7
     (λ e. rw (size-long k e, e) (omega arith))
@@ -193,9 +193,9 @@ marked-lt v h =
 
 -- ---- what is written
 
-pub compact-is : (v : ℕ) → (v ≡ 0 → ⊥) → compactBytes v ≡ bytes (sizeOf (formOf v)) (marked (formOf v) v)
+pub compact-is : (v : ℕ) → (v ≡ 0 → ⊥) → compactBytes v ≡ bytes (sizeOf (formOf v)) (withForm (formOf v) v)
 unfolding compactBytes
 compact-is v n = simp (ne-eqb v 0 n)
 
 pub length-compact : (v : ℕ) → (v ≡ 0 → ⊥) → length (compactBytes v) ≡ sizeOf (formOf v)
-length-compact v n = ap length (compact-is v n) ∙ length-bytes (sizeOf (formOf v)) (marked (formOf v) v)
+length-compact v n = ap length (compact-is v n) ∙ length-bytes (sizeOf (formOf v)) (withForm (formOf v) v)

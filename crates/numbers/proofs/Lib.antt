@@ -5,6 +5,7 @@ pub mod Guids
 pub mod ExtendedGuids
 pub mod Serials
 pub mod RoundTrip
+pub mod Padding
 pub mod CompactTable
 pub mod Within
 pub mod OneAnswers

@@ -1,4 +1,4 @@
--- The lowest set bit tells the form: a number marked with form k reads as form k, and a number is what its lowest set bit
+-- The lowest set bit tells the form: a number with the bits of form k reads as form k, and a number is what its lowest set bit
 -- marks. Each law is over the width.
 -- Assumes nothing.
 use mathlib.Core.Path.{_≡_, refl, ap, _∙_}
@@ -10,7 +10,7 @@ use lib.Arith.{digits-div}
 use lib.Count.{trailingZeros, under, trailing-of-zero}
 use lib.Pow.{pow-lt, mod-mod-pow, field}
 use Rattle.laws.proofs.Cases.{by-eq}
-use Rattle.numbers.specs.Compact.{marked}
+use Rattle.numbers.specs.Compact.{withForm}
 
 under-lt : (d t f : ℕ) → (d ≡ 0 → t < f) → under d t < suc f
 under-lt zero t f h = suc-le-suc (h refl)
@@ -37,30 +37,30 @@ zeros-mod (suc f) x =
     let b : x % 2 ^ suc f / 2 ≡ x / 2 % 2 ^ f = rw add-one at (field x f 1) in
     rw (a, b, zeros-mod f (x / 2))
 
-pub marked-suc : (k v : ℕ) → marked (suc k) v ≡ marked k v * 2
-unfolding marked
-marked-suc k v = rw (add-one, add-one, pow-suc 2 (suc k), pow-suc 2 k, add-mul, mul-assoc v (2 ^ k * 2) 2)
+pub with-form-suc : (k v : ℕ) → withForm (suc k) v ≡ withForm k v * 2
+unfolding withForm
+with-form-suc k v = rw (add-one, add-one, pow-suc 2 (suc k), pow-suc 2 k, add-mul, mul-assoc v (2 ^ k * 2) 2)
 
-marked-zero : (v : ℕ) → marked 0 v ≡ v * 2 + 1
-unfolding marked
-marked-zero v = refl
+with-form-zero : (v : ℕ) → withForm 0 v ≡ v * 2 + 1
+unfolding withForm
+with-form-zero v = refl
 
-pub marked-value : (k v : ℕ) → marked k v / 2 ^ (k + 1) ≡ v
-unfolding marked
-marked-value k v = digits-div v (pow-lt (omega arith))
+pub with-form-value : (k v : ℕ) → withForm k v / 2 ^ (k + 1) ≡ v
+unfolding withForm
+with-form-value k v = digits-div v (pow-lt (omega arith))
 
-pub zeros-marked : (f k v : ℕ) → k < f → trailingZeros f (marked k v) ≡ k
+pub zeros-with-form : (f k v : ℕ) → k < f → trailingZeros f (withForm k v) ≡ k
 unfolding trailingZeros
-zeros-marked zero k v h = absurd (omega arith)
-zeros-marked (suc f) zero v h =
-    let e : marked 0 v % 2 ≡ 1 = rw marked-zero (omega arith) in
+zeros-with-form zero k v h = absurd (omega arith)
+zeros-with-form (suc f) zero v h =
+    let e : withForm 0 v % 2 ≡ 1 = rw with-form-zero (omega arith) in
     rw e
-zeros-marked (suc f) (suc k) v h =
-    let a : marked k v * 2 % 2 ≡ 0 = omega arith in
-    let b : marked k v * 2 / 2 ≡ marked k v = omega arith in
-    rw (marked-suc, a, b) (ap suc (zeros-marked f k v (omega arith)))
+zeros-with-form (suc f) (suc k) v h =
+    let a : withForm k v * 2 % 2 ≡ 0 = omega arith in
+    let b : withForm k v * 2 / 2 ≡ withForm k v = omega arith in
+    rw (with-form-suc, a, b) (ap suc (zeros-with-form f k v (omega arith)))
 
-pub zeros-low : (f x : ℕ) → trailingZeros f x < f → x ≡ marked (trailingZeros f x) (x / 2 ^ (trailingZeros f x + 1))
+pub zeros-low : (f x : ℕ) → trailingZeros f x < f → x ≡ withForm (trailingZeros f x) (x / 2 ^ (trailingZeros f x + 1))
 unfolding trailingZeros
 zeros-low zero x h = absurd (omega arith)
 zeros-low (suc f) x h =
@@ -68,7 +68,7 @@ zeros-low (suc f) x h =
     (λ e.
     let t = trailingZeros f (x / 2) in
     let h′ : suc t < suc f = rw e at h in
-    let r : x / 2 ≡ marked t (x / 2 / 2 ^ (t + 1)) = zeros-low f (x / 2) (omega arith) in
+    let r : x / 2 ≡ withForm t (x / 2 / 2 ^ (t + 1)) = zeros-low f (x / 2) (omega arith) in
     let q : x / 2 ^ (suc t + 1) ≡ x / 2 / 2 ^ (t + 1) = rw (add-one, add-one, pow-succ' 2 (suc t), div-div-eq-div-mul) in
-    rw (e, q, marked-suc, ← r) (omega arith))
-    (λ n. let o : x % 2 ≡ 1 = omega arith in rw (o, marked-zero) (omega arith))
+    rw (e, q, with-form-suc, ← r) (omega arith))
+    (λ n. let o : x % 2 ≡ 1 = omega arith in rw (o, with-form-zero) (omega arith))

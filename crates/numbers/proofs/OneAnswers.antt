@@ -7,12 +7,11 @@ use mathlib.Core.List.{List, [], _∷_}
 use Rattle.laws.proofs.Cases.{impossible}
 use Rattle.laws.proofs.OneAnswer.{Telling, one-answer, one-outcome}
 use Rattle.numbers.specs.Refusals.{Told, refuses, tellWrote}
-use Rattle.numbers.specs.Calls.{tellForm, tellCompact, tellExtendedGuid, tellSerial, ReadsCompact, ReadsExtendedGuid, ReadsSerial, Writes}
+use Rattle.numbers.specs.Calls.{tellCompact, tellExtendedGuid, tellSerial, ReadsCompact, ReadsExtendedGuid, ReadsSerial, Writes}
 use Rattle.numbers.specs.declared.refusal.Refusal.{Refusal}
 use Rattle.numbers.specs.declared.guid.Guid.{Guid}
 use Rattle.numbers.specs.declared.refusal.Wrote.{Wrote}
 use Rattle.numbers.specs.declared.refusal.Wrote.the-variants as wrote
-use Rattle.numbers.specs.declared.compact.Form.the-variants as form
 use Rattle.numbers.specs.declared.compact.Compact.{Compact}
 use Rattle.numbers.specs.declared.compact.Compact.the-variants as compact
 use Rattle.numbers.specs.declared.extended_guid.ExtendedGuid.the-variants as id
@@ -51,19 +50,13 @@ wrote-telling (wrote.Done n) (wrote.Refused q) e = let v = values-of _ _ e in im
 wrote-telling (wrote.Refused r) (wrote.Done m) e = let v = values-of _ _ e in impossible (cc)
 wrote-telling (wrote.Refused r) (wrote.Refused q) e = ap wrote.Refused (refuses-telling r q e)
 
-pub form-telling : Telling tellForm
-form-telling (form.Holds v n true) (form.Holds w m true) e = let v = values-of _ _ e in cc
-form-telling (form.Holds v n true) (form.Holds w m false) e = let v = values-of _ _ e in impossible (cc)
-form-telling (form.Holds v n false) (form.Holds w m true) e = let v = values-of _ _ e in impossible (cc)
-form-telling (form.Holds v n false) (form.Holds w m false) e = let v = values-of _ _ e in cc
-form-telling (form.Holds v n longer) (form.Refused q) e = let v = values-of _ _ e in impossible (cc)
-form-telling (form.Refused r) (form.Holds w m longer) e = let v = values-of _ _ e in impossible (cc)
-form-telling (form.Refused r) (form.Refused q) e = ap form.Refused (refuses-telling r q e)
-
 pub compact-telling : Telling tellCompact
-compact-telling (compact.Value v n) (compact.Value w m) e = let v = values-of _ _ e in cc
-compact-telling (compact.Value v n) (compact.Refused q) e = let v = values-of _ _ e in impossible (cc)
-compact-telling (compact.Refused r) (compact.Value w m) e = let v = values-of _ _ e in impossible (cc)
+compact-telling (compact.Value v n true) (compact.Value w m true) e = let v = values-of _ _ e in cc
+compact-telling (compact.Value v n true) (compact.Value w m false) e = let v = values-of _ _ e in impossible (cc)
+compact-telling (compact.Value v n false) (compact.Value w m true) e = let v = values-of _ _ e in impossible (cc)
+compact-telling (compact.Value v n false) (compact.Value w m false) e = let v = values-of _ _ e in cc
+compact-telling (compact.Value v n padded) (compact.Refused q) e = let v = values-of _ _ e in impossible (cc)
+compact-telling (compact.Refused r) (compact.Value w m padded) e = let v = values-of _ _ e in impossible (cc)
 compact-telling (compact.Refused r) (compact.Refused q) e = ap compact.Refused (refuses-telling r q e)
 
 -- a GUID, a number and the bytes used, among four values

@@ -1,6 +1,6 @@
 -- Reading an item depends only on the item's own bytes: a part that has the same ones in front gives the same item.
 -- Assumes nothing.
-use mathlib.Core.Path.{_≡_, sym, ap}
+use mathlib.Core.Path.{_≡_, sym, ap, _∙_}
 use mathlib.Core.Bool.{Bool, false}
 use mathlib.Core.Logic.{_≢_}
 use mathlib.Core.List.{List}
@@ -16,12 +16,10 @@ use Rattle.laws.proofs.Cases.{by-lt, by-eq, impossible}
 use Rattle.laws.proofs.Parts.{same-first, same-part}
 use Rattle.laws.proofs.Agreement.{Agree, agree-less}
 use Rattle.numbers.specs.Refusals.{fault}
-use Rattle.numbers.specs.Compact.{sizeOf, compactValue, readForm, formAt, readCompact}
+use Rattle.numbers.specs.Compact.{sizeOf, compactValue, readForm, readCompact, accepted, compactFor}
 use Rattle.numbers.specs.Guid.{guidAt}
 use Rattle.numbers.specs.ExtendedGuid.{namedOf, shortForm, longForm, formOfId, readExtendedGuid}
 use Rattle.numbers.specs.Serial.{numbered, readSerial}
-use Rattle.numbers.specs.declared.compact.Form.the-variants.{Holds}
-use Rattle.numbers.specs.declared.compact.Form.the-variants as form
 use Rattle.numbers.specs.declared.compact.Compact.the-variants as compact
 use Rattle.numbers.specs.declared.extended_guid.ExtendedGuid.{ExtendedGuid}
 use Rattle.numbers.specs.declared.extended_guid.ExtendedGuid.the-variants.{Named}
@@ -29,7 +27,7 @@ use Rattle.numbers.specs.declared.extended_guid.ReadExtendedGuid.the-var
 use Rattle.numbers.specs.declared.serial.Serial.{Serial}
 use Rattle.numbers.specs.declared.serial.Serial.the-variants.{Numbered}
 use Rattle.numbers.specs.declared.serial.ReadSerial.the-variants as serial
-use Rattle.numbers.proofs.RoundTrip.{strict-value}
+use Rattle.numbers.proofs.RoundTrip.{accepted-value}
 
 -- the first byte
 agree-first : (s t : List ℕ) (n : ℕ) → 0 < n → Agree s t n → getD s 0 0 ≡ getD t 0 0
@@ -40,33 +38,38 @@ not-empty s t n p a e = omega (arith, a .long)
 
 -- ---- compact integers
 
-read-form-own : (k : ℕ) (s t : List ℕ) (v n : ℕ) (longer : Bool) → readForm k s ≡ Holds v n longer → Agree s t n → readForm k t ≡ Holds v n longer
+read-form-own : (k : ℕ) (s t : List ℕ) (v n : ℕ) (padded : Bool) → readForm k s ≡ compact.Value v n padded → Agree s t n → readForm k t ≡ compact.Value v n padded
 unfolding readForm compactValue
-read-form-own k s t v n longer e a =
+read-form-own k s t v n padded e a =
     by-lt (length s) (sizeOf k)
-    (λ l. let x : form.Refused (fault 2) ≡ Holds v n longer = rw (lt-ltb _ _ l) at e in impossible (cc))
+    (λ l. let x : compact.Refused (fault 2) ≡ compact.Value v n padded = rw (lt-ltb _ _ l) at e in impossible (cc))
     (λ l.
-    let x : Holds (compactValue k s) (sizeOf k) (ltb (compactValue k s) (128 ^ k)) ≡ Holds v n longer = rw (le-ltb _ _ l) at e in
+    let x : compact.Value (compactValue k s) (sizeOf k) (ltb (compactValue k s) (128 ^ k)) ≡ compact.Value v n padded = rw (le-ltb _ _ l) at e in
     let q : sizeOf k ≡ n = cc in
     let w : take (sizeOf k) t ≡ take (sizeOf k) s = rw q (sym (a .same)) in
     let m : sizeOf k ≤ length t = rw q (a .long) in
     rw (le-ltb _ _ m, w) x)
 
-pub form-own : (s t : List ℕ) (v n : ℕ) (longer : Bool) → formAt s ≡ Holds v n longer → 0 < n → Agree s t n → formAt t ≡ Holds v n longer
-unfolding formAt
-form-own s t v n longer e p a =
+compact-own : (s t : List ℕ) (v n : ℕ) (padded : Bool) → readCompact s ≡ compact.Value v n padded → 0 < n → Agree s t n → readCompact t ≡ compact.Value v n padded
+unfolding readCompact
+compact-own s t v n padded e p a =
     by-eq (length s) 0
-    (λ z. let x : form.Refused (fault 2) ≡ Holds v n longer = rw (eq-eqb _ _ z) at e in impossible (cc))
+    (λ z. let x : compact.Refused (fault 2) ≡ compact.Value v n padded = rw (eq-eqb _ _ z) at e in impossible (cc))
     (λ z.
     by-eq (getD s 0 0) 0
     (λ f. rw (ne-eqb _ _ (not-empty s t n p a), ← agree-first s t n p a, eq-eqb _ _ f) (rw (ne-eqb _ _ z, eq-eqb _ _ f) at e))
     (λ f.
-    let x : readForm (trailingZeros 8 (getD s 0 0)) s ≡ Holds v n longer = rw (ne-eqb _ _ z, ne-eqb _ _ f) at e in
-    rw (ne-eqb _ _ (not-empty s t n p a), ← agree-first s t n p a, ne-eqb _ _ f) (read-form-own (trailingZeros 8 (getD s 0 0)) s t v n longer x a)))
+    let x : readForm (trailingZeros 8 (getD s 0 0)) s ≡ compact.Value v n padded = rw (ne-eqb _ _ z, ne-eqb _ _ f) at e in
+    rw (ne-eqb _ _ (not-empty s t n p a), ← agree-first s t n p a, ne-eqb _ _ f) (read-form-own (trailingZeros 8 (getD s 0 0)) s t v n padded x a)))
 
-pub compact-own : (s t : List ℕ) (v n : ℕ) → readCompact s ≡ compact.Value v n → 0 < n → Agree s t n → readCompact t ≡ compact.Value v n
-unfolding readCompact
-compact-own s t v n e p a = rw (form-own s t v n false (strict-value (formAt s) v n e) p a)
+-- by any caller
+pub compact-for-own : (padding : Bool) (s t : List ℕ) (v n : ℕ) (padded : Bool) → compactFor padding s ≡ compact.Value v n padded → 0 < n → Agree s t n
+    → compactFor padding t ≡ compact.Value v n padded
+unfolding compactFor
+compact-for-own padding s t v n padded e p a =
+    let x = accepted-value padding (readCompact s) v n padded e in
+    let y : accepted padding (compact.Value v n padded) ≡ compact.Value v n padded = ap (accepted padding) (sym x) ∙ e in
+    ap (accepted padding) (compact-own s t v n padded x p a) ∙ y
 
 -- ---- extended GUIDs
 

@@ -1,7 +1,7 @@
 -- An item that is read is not empty and lies within its part; a fault of an item is 2 or 3 at its place, the part's front.
 -- Assumes nothing.
 use mathlib.Core.Path.{_≡_, refl}
-use mathlib.Core.Bool.{true, false}
+use mathlib.Core.Bool.{Bool, true, false}
 use mathlib.Core.Logic.{_⊎_, inl, inr}
 use mathlib.Core.List.{List}
 use Prim.Native.Nat.{ℕ, _≤_, _<_}
@@ -12,12 +12,10 @@ use lib.Dec.{ltb, eqb}
 use borrow.Author.Tests.{ltb-false, eqb-false}
 use Rattle.laws.proofs.Cases.{pick-all}
 use Rattle.numbers.specs.Refusals.{fault}
-use Rattle.numbers.specs.Compact.{sizeOf, readForm, formAt, strict, readCompact}
+use Rattle.numbers.specs.Compact.{sizeOf, readForm, readCompact, accepted, compactFor}
 use Rattle.numbers.specs.ExtendedGuid.{namedOf, shortForm, longForm, formOfId, readExtendedGuid}
 use Rattle.numbers.specs.Serial.{numbered, readSerial}
 use Rattle.numbers.specs.declared.refusal.Refusal.{Refusal}
-use Rattle.numbers.specs.declared.compact.Form.{Form}
-use Rattle.numbers.specs.declared.compact.Form.the-variants as form
 use Rattle.numbers.specs.declared.compact.Compact.{Compact}
 use Rattle.numbers.specs.declared.compact.Compact.the-variants as compact
 use Rattle.numbers.specs.declared.extended_guid.ReadExtendedGuid.{ReadExtendedGuid}
@@ -34,12 +32,8 @@ Inside n u = (0 < u) × (u ≤ n)
 abbrev pub ItemFault : Refusal → Type 0
 ItemFault r = (r ≡ fault 2) ⊎ (r ≡ fault 3)
 
-abbrev pub FormWithin : ℕ → Form → Type 0
-FormWithin n (form.Holds v u longer) = Inside n u
-FormWithin n (form.Refused r) = ItemFault r
-
 abbrev pub CompactWithin : ℕ → Compact → Type 0
-CompactWithin n (compact.Value v u) = Inside n u
+CompactWithin n (compact.Value v u padded) = Inside n u
 CompactWithin n (compact.Refused r) = ItemFault r
 
 abbrev pub ExtendedGuidWithin : ℕ → ReadExtendedGuid → Type 0
@@ -56,27 +50,28 @@ some n e = let z = eqb-false n 0 e in omega arith
 
 -- ---- compact integers
 
-read-form-within : (k : ℕ) (s : List ℕ) → FormWithin (length s) (readForm k s)
+read-form-within : (k : ℕ) (s : List ℕ) → CompactWithin (length s) (readForm k s)
 unfolding readForm
 read-form-within k s =
-    pick-all (FormWithin (length s)) (ltb (length s) (sizeOf k)) _ _ (λ e. inl refl) (λ e. (size-pos k, ltb-false _ _ e))
+    pick-all (CompactWithin (length s)) (ltb (length s) (sizeOf k)) _ _ (λ e. inl refl) (λ e. (size-pos k, ltb-false _ _ e))
 
-pub form-within : (s : List ℕ) → FormWithin (length s) (formAt s)
-unfolding formAt
-form-within s =
-    pick-all (FormWithin (length s)) (eqb (length s) 0) _ _ (λ e. inl refl)
+read-within : (s : List ℕ) → CompactWithin (length s) (readCompact s)
+unfolding readCompact
+read-within s =
+    pick-all (CompactWithin (length s)) (eqb (length s) 0) _ _ (λ e. inl refl)
     (λ e.
-    pick-all (FormWithin (length s)) (eqb (getD s 0 0) 0) _ _ (λ f. (omega arith, some (length s) e))
+    pick-all (CompactWithin (length s)) (eqb (getD s 0 0) 0) _ _ (λ f. (omega arith, some (length s) e))
     (λ f. read-form-within (trailingZeros 8 (getD s 0 0)) s))
 
-strict-within : (n : ℕ) (f : Form) → FormWithin n f → CompactWithin n (strict f)
-strict-within n (form.Holds v u true) w = inr refl
-strict-within n (form.Holds v u false) w = w
-strict-within n (form.Refused r) w = w
+accepted-within : (padding : Bool) (n : ℕ) (r : Compact) → CompactWithin n r → CompactWithin n (accepted padding r)
+accepted-within true n (compact.Value v u true) w = w
+accepted-within false n (compact.Value v u true) w = inr refl
+accepted-within padding n (compact.Value v u false) w = w
+accepted-within padding n (compact.Refused r) w = w
 
-pub compact-within : (s : List ℕ) → CompactWithin (length s) (readCompact s)
-unfolding readCompact
-compact-within s = strict-within (length s) (formAt s) (form-within s)
+pub compact-within : (padding : Bool) (s : List ℕ) → CompactWithin (length s) (compactFor padding s)
+unfolding compactFor
+compact-within padding s = accepted-within padding (length s) (readCompact s) (read-within s)
 
 -- ---- extended GUIDs
 

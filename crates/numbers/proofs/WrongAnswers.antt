@@ -11,14 +11,13 @@ use Rattle.laws.specs.Bytes.{le, bytes, before}
 use Rattle.laws.proofs.Cases.{impossible}
 use Rattle.laws.specs.Placed.{placed}
 use Rattle.numbers.specs.Refusals.{Told, fault, tooShort}
-use Rattle.numbers.specs.Compact.{sizeOf, compactValue, readForm, formAt, readCompact, formFrom, formOf, marked, compactBytes}
+use Rattle.numbers.specs.Compact.{sizeOf, compactValue, readForm, readCompact, paddingTaken, paddingRefused, compactFor, formFrom, formOf, withForm, compactBytes}
 use Rattle.numbers.specs.Guid.{guidAt, guidBytes, taggedBytes, guidBefore}
 use Rattle.numbers.specs.ExtendedGuid.{namedOf, shortForm, formOfId, readExtendedGuid, shortBytes, namedBytes, extendedGuidBytes}
 use Rattle.numbers.specs.Serial.{numbered, readSerial, serialBytes}
 use Rattle.numbers.specs.Calls.{single, written, ReadsCompact, ReadsExtendedGuid, ReadsSerial, WritesCompact, WritesExtendedGuid, WritesSerial}
 use Rattle.numbers.specs.declared.guid.Guid.{Guid}
 use Rattle.numbers.specs.declared.refusal.Wrote.the-variants as wrote
-use Rattle.numbers.specs.declared.compact.Form.the-variants as form
 use Rattle.numbers.specs.declared.compact.Compact.the-variants as compact
 use Rattle.numbers.specs.declared.extended_guid.ExtendedGuid.the-variants as id
 use Rattle.numbers.specs.declared.extended_guid.ReadExtendedGuid.the-variants as extended
@@ -33,26 +32,35 @@ nothing = record { low = 0; high = 0 }
 
 -- ---- read_compact
 
--- `02 00` is not 0: a shorter form would do
-padded-taken : ReadsCompact (0x02 ∷ 0x00 ∷ []) (compact.Value 0 2) → ⊥
-unfolding single readCompact formAt readForm compactValue sizeOf le trailingZeros
-padded-taken h = let z : _≡_ {A = ℕ} 0 3 = ap (λ (t : Told). t .number) h in omega arith
+-- `02 00` is marked: a shorter form would do
+padded-unmarked : ReadsCompact (0x02 ∷ 0x00 ∷ []) (compact.Value 0 2 false) → ⊥
+unfolding single readCompact readForm compactValue sizeOf le trailingZeros
+padded-unmarked h =
+    let z : _≡_ {A = List ℕ} (0 ∷ 2 ∷ 0 ∷ []) (0 ∷ 2 ∷ 1 ∷ []) = ap (λ (t : Told). t .values) h in
+    let y : _≡_ {A = ℕ} 0 1 = cc in omega arith
+
+-- `02 02` is not: 128 is the least value of its form, and no shorter one has it
+least-padded : ReadsCompact (0x02 ∷ 0x02 ∷ []) (compact.Value 128 2 true) → ⊥
+unfolding single readCompact readForm compactValue sizeOf le trailingZeros
+least-padded h =
+    let z : _≡_ {A = List ℕ} (128 ∷ 2 ∷ 1 ∷ []) (128 ∷ 2 ∷ 0 ∷ []) = ap (λ (t : Told). t .values) h in
+    let y : _≡_ {A = ℕ} 1 0 = cc in omega arith
 
 -- `01` is whole: not 2
 whole-cut : ReadsCompact (0x01 ∷ []) (compact.Refused (fault 2)) → ⊥
-unfolding single readCompact formAt readForm compactValue sizeOf le trailingZeros
-whole-cut h = let z : _≡_ {A = ℕ} 2 3 = ap (λ (t : Told). t .number) h in omega arith
+unfolding single readCompact readForm compactValue sizeOf le trailingZeros
+whole-cut h = let z : _≡_ {A = ℕ} 2 0 = ap (λ (t : Told). t .number) h in omega arith
 
 -- ---- write_compact
 
 -- 128 does not go into one byte
 one-byte : WritesCompact 128 (0 ∷ 0 ∷ []) (wrote.Done 1) (1 ∷ 0 ∷ []) → ⊥
-unfolding written placed compactBytes formOf formFrom marked sizeOf bytes
+unfolding written placed compactBytes formOf formFrom withForm sizeOf bytes
 one-byte h = let z : _≡_ {A = List ℕ} (1 ∷ []) (2 ∷ []) = ap (λ (t : Told). t .values) (h .0) in let y : _≡_ {A = ℕ} 1 2 = cc in omega arith
 
 -- it needs two, not one
 needs-one : WritesCompact 128 (0 ∷ []) (wrote.Refused (tooShort 1)) (0 ∷ []) → ⊥
-unfolding written placed compactBytes formOf formFrom marked sizeOf bytes
+unfolding written placed compactBytes formOf formFrom withForm sizeOf bytes
 needs-one h = let z : _≡_ {A = ℕ} 1 2 = ap (λ (t : Told). t .needed) (h .0) in omega arith
 
 -- ---- read_extended_guid
@@ -73,7 +81,7 @@ zero-is-null h =
 
 -- 32 does not go into the 5-bit form
 five-bits : (exit : List ℕ) → WritesExtendedGuid (id.Named nothing 32) (0 ∷ 0 ∷ zeros) (wrote.Done 17) exit → ⊥
-unfolding written extendedGuidBytes namedBytes shortBytes guidBytes marked bytes zeros
+unfolding written extendedGuidBytes namedBytes shortBytes guidBytes withForm bytes zeros
 five-bits exit h =
     let z : _≡_ {A = List ℕ} (17 ∷ []) (18 ∷ []) = ap (λ (t : Told). t .values) (h .0) in
     let y : _≡_ {A = ℕ} 17 18 = cc in omega arith
@@ -107,17 +115,17 @@ null-of-two : WritesSerial number.Null (9 ∷ 9 ∷ []) (wrote.Done 2) (0 ∷ 0 
 unfolding placed serialBytes
 null-of-two h = let z = h .1 in let y : _≡_ {A = ℕ} 0 9 = cc in omega arith
 
--- ---- form_at
+-- ---- item
 
--- the two bytes `02 00` are longer than needed
-not-longer : formAt (0x02 ∷ 0x00 ∷ []) ≡ form.Holds 0 2 false → ⊥
-unfolding formAt readForm compactValue sizeOf le trailingZeros
-not-longer h = impossible (cc)
+-- `02 00` is not 0 for a caller who refuses padding
+padded-taken : compactFor paddingRefused (0x02 ∷ 0x00 ∷ []) ≡ compact.Value 0 2 true → ⊥
+unfolding compactFor readCompact readForm compactValue sizeOf le trailingZeros
+padded-taken h = impossible (cc)
 
--- `80` alone is cut
-cut-holds : formAt (0x80 ∷ []) ≡ form.Holds 0 1 true → ⊥
-unfolding formAt readForm compactValue sizeOf le trailingZeros
-cut-holds h = impossible (cc)
+-- nor is it refused for one who takes it
+padded-refused : compactFor paddingTaken (0x02 ∷ 0x00 ∷ []) ≡ compact.Refused (fault 3) → ⊥
+unfolding compactFor readCompact readForm compactValue sizeOf le trailingZeros
+padded-refused h = impossible (cc)
 
 -- ---- the order of GUIDs, by which ranges stand
 

@@ -12,8 +12,6 @@ use Rattle.numbers.specs.Compact.{readCompact, compactBytes}
 use Rattle.numbers.specs.ExtendedGuid.{readExtendedGuid, extendedGuidBytes}
 use Rattle.numbers.specs.Serial.{readSerial, serialBytes}
 use Rattle.numbers.specs.declared.refusal.Wrote.{Wrote}
-use Rattle.numbers.specs.declared.compact.Form.{Form}
-use Rattle.numbers.specs.declared.compact.Form.the-variants as form
 use Rattle.numbers.specs.declared.compact.Compact.{Compact}
 use Rattle.numbers.specs.declared.compact.Compact.the-variants as compact
 use Rattle.numbers.specs.declared.extended_guid.ExtendedGuid.{ExtendedGuid}
@@ -25,14 +23,9 @@ use Rattle.numbers.specs.declared.serial.Serial.the-variants as number
 use Rattle.numbers.specs.declared.serial.ReadSerial.{ReadSerial}
 use Rattle.numbers.specs.declared.serial.ReadSerial.the-variants as serial
 
--- what a form says by itself: the value, the bytes used, and 1 where a shorter form would do
-abbrev pub tellForm : Form → Told
-tellForm (form.Holds v n longer) = gives (v ∷ n ∷ pick longer 1 0 ∷ [])
-tellForm (form.Refused r) = refuses r
-
--- the value and the bytes used
+-- the value, the bytes used, and 1 where it was padded
 abbrev pub tellCompact : Compact → Told
-tellCompact (compact.Value v n) = gives (v ∷ n ∷ [])
+tellCompact (compact.Value v n padded) = gives (v ∷ n ∷ pick padded 1 0 ∷ [])
 tellCompact (compact.Refused r) = refuses r
 
 -- null: the bytes used; else the GUID as two numbers, the number, the bytes used

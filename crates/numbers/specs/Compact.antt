@@ -3,7 +3,7 @@
 -- low bits are 2 ^ k and whose other bits are the value. The byte 0 stands for 0. `CompactTable` has the document's table.
 -- Assumes nothing.
 use Prim.Native.Nat.{ℕ, zero, suc, _+_, _*_, _/_, _^_}
-use mathlib.Core.Bool.{false}
+use mathlib.Core.Bool.{Bool, true, false}
 use mathlib.Core.List.{List, [], _∷_}
 use lib.ListN.{length, getD, take}
 use lib.Dec.{ltb, eqb}
@@ -11,9 +11,6 @@ use lib.Count.{trailingZeros}
 use Rattle.laws.specs.Pick.{pick}
 use Rattle.laws.specs.Bytes.{le, bytes}
 use Rattle.numbers.specs.Refusals.{fault}
-use Rattle.numbers.specs.declared.compact.Form.{Form}
-use Rattle.numbers.specs.declared.compact.Form.the-variants.{Holds}
-use Rattle.numbers.specs.declared.compact.Form.the-variants as form
 use Rattle.numbers.specs.declared.compact.Compact.{Compact}
 use Rattle.numbers.specs.declared.compact.Compact.the-variants.{Value, Refused}
 
@@ -25,26 +22,34 @@ sizeOf k = pick (eqb k 7) 9 (k + 1)
 unfoldable pub compactValue : ℕ → List ℕ → ℕ
 compactValue k s = le (take (sizeOf k) s) / 2 ^ (k + 1)
 
--- form k: 2 where it runs past the end; else the value, the bytes used, and whether a shorter form would do (the table's
--- column 'range' starts at 128 ^ k)
-unfoldable pub readForm : ℕ → List ℕ → Form
+-- form k: 2 where it runs past the end; else the value, the bytes used, and the mark that it was padded: a shorter form would do
+-- (the table's column 'range' starts at 128 ^ k)
+unfoldable pub readForm : ℕ → List ℕ → Compact
 readForm k s =
-    pick (ltb (length s) (sizeOf k)) (form.Refused (fault 2))
-    (Holds (compactValue k s) (sizeOf k) (ltb (compactValue k s) (128 ^ k)))
+    pick (ltb (length s) (sizeOf k)) (Refused (fault 2))
+    (Value (compactValue k s) (sizeOf k) (ltb (compactValue k s) (128 ^ k)))
 
--- what the form at the front of s says by itself
-unfoldable pub formAt : List ℕ → Form
-formAt s =
-    pick (eqb (length s) 0) (form.Refused (fault 2))
-    (pick (eqb (getD s 0 0) 0) (Holds 0 1 false) (readForm (trailingZeros 8 (getD s 0 0)) s))
-
--- strictly: a form longer than needed is outside its range, 3
-abbrev pub strict : Form → Compact
-strict (Holds v n longer) = pick longer (Refused (fault 3)) (Value v n)
-strict (form.Refused r) = Refused r
-
+-- "Reading a compact integer shall .. give the value and a mark that it was padded" (document 02, Q-10)
 unfoldable pub readCompact : List ℕ → Compact
-readCompact s = strict (formAt s)
+readCompact s =
+    pick (eqb (length s) 0) (Refused (fault 2))
+    (pick (eqb (getD s 0 0) 0) (Value 0 1 false) (readForm (trailingZeros 8 (getD s 0 0)) s))
+
+-- ---- "Every caller decides" whether padding is taken
+
+abbrev pub paddingTaken : Bool
+paddingTaken = true
+
+abbrev pub paddingRefused : Bool
+paddingRefused = false
+
+-- where it is not, a padded number is 3
+abbrev pub accepted : Bool → Compact → Compact
+accepted padding (Value v n padded) = pick padded (pick padding (Value v n padded) (Refused (fault 3))) (Value v n padded)
+accepted padding (Refused r) = Refused r
+
+unfoldable pub compactFor : Bool → List ℕ → Compact
+compactFor padding s = accepted padding (readCompact s)
 
 -- ---- written
 
@@ -57,9 +62,9 @@ unfoldable pub formOf : ℕ → ℕ
 formOf v = formFrom 7 v
 
 -- the number that stands for v in form k
-unfoldable pub marked : ℕ → ℕ → ℕ
-marked k v = v * 2 ^ (k + 1) + 2 ^ k
+unfoldable pub withForm : ℕ → ℕ → ℕ
+withForm k v = v * 2 ^ (k + 1) + 2 ^ k
 
 -- the bytes that stand for v: the form whose range has it
 unfoldable pub compactBytes : ℕ → List ℕ
-compactBytes v = pick (eqb v 0) (0 ∷ []) (bytes (sizeOf (formOf v)) (marked (formOf v) v))
+compactBytes v = pick (eqb v 0) (0 ∷ []) (bytes (sizeOf (formOf v)) (withForm (formOf v) v))

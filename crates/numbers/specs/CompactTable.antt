@@ -4,6 +4,7 @@
 -- Assumes nothing.
 use mathlib.Core.Path.{_≡_}
 use Prim.Native.Nat.{ℕ, _+_, _-_, _*_, _/_, _%_, _^_, _≤_, _<_}
+use mathlib.Core.Bool.{false}
 use mathlib.Core.List.{List, [], _∷_, _++_}
 use lib.ListN.{length, getD, take}
 use lib.Dec.{ltb}
@@ -60,13 +61,11 @@ HasLowBits r b = b % 2 ^ r .lowBits ≡ r .low
 unfoldable pub rowValue : FormRow → List ℕ → ℕ
 rowValue r s = le (take (r .size) s) / 2 ^ r .lowBits
 
--- such an item: 2 where it "runs past the input", 3 where the number is "outside its form's range", else the value and the size
+-- such an item: 2 where it "runs past the input", else the value, the size, and the mark where the value is below the row's range
 unfoldable pub rowReads : FormRow → List ℕ → Compact
 rowReads r s =
     pick (ltb (length s) (r .size)) (Refused (fault 2))
-    (pick (ltb (rowValue r s) (r .first)) (Refused (fault 3))
-    (pick (ltb (r .last) (rowValue r s)) (Refused (fault 3))
-    (Value (rowValue r s) (r .size))))
+    (Value (rowValue r s) (r .size) (ltb (rowValue r s) (r .first)))
 
 -- ---- the rule says the same
 
@@ -78,7 +77,9 @@ pub record RuleFollows (r : FormRow) : Type 0 where
   -- a value in the range is written as the row lays it down,
   pub laidDown : (v : ℕ) → InRange r v → compactBytes v ≡ rowBytes r v
   -- and read from there, whatever follows
-  pub readBack : (v : ℕ) → InRange r v → (t : List ℕ) → readCompact (rowBytes r v ++ t) ≡ Value v (r .size)
+  pub readBack : (v : ℕ) → InRange r v → (t : List ℕ) → readCompact (rowBytes r v ++ t) ≡ Value v (r .size) false
+  -- no bytes hold more than the range's last value
+  pub topped : (s : List ℕ) → AllBytes s → rowValue r s ≤ r .last
   -- any bytes that begin with the low bits are read as the row says, refusals included
   pub read : (s : List ℕ) → AllBytes s → 0 < length s → HasLowBits r (getD s 0 0) → readCompact s ≡ rowReads r s
 

@@ -8,7 +8,7 @@ use lib.Count.{trailingZeros}
 use Rattle.laws.specs.Pick.{pick}
 use Rattle.laws.specs.Bytes.{le, bytes}
 use Rattle.numbers.specs.Refusals.{fault}
-use Rattle.numbers.specs.Compact.{marked}
+use Rattle.numbers.specs.Compact.{withForm}
 use Rattle.numbers.specs.Guid.{guidAt, guidBytes, taggedBytes, GuidFits}
 use Rattle.numbers.specs.declared.guid.Guid.{Guid}
 use Rattle.numbers.specs.declared.extended_guid.ExtendedGuid.{ExtendedGuid}
@@ -49,7 +49,7 @@ readExtendedGuid s =
 -- ---- written, each number in the form that has it in its range
 
 unfoldable pub shortBytes : ℕ → ℕ → Guid → ℕ → List ℕ
-shortBytes k m g x = bytes m (marked k x) ++ guidBytes g
+shortBytes k m g x = bytes m (withForm k x) ++ guidBytes g
 
 unfoldable pub namedBytes : Guid → ℕ → List ℕ
 namedBytes g x =

@@ -1,10 +1,11 @@
-// Compact integers: what a form says by itself, the strict reading over it, and the writing, by one rule for all forms.
+// Compact integers: read with the mark that they were padded, for a caller who takes padding or refuses it, and written, by one rule for
+// all forms.
 ghost use mathlib.Core.Path.{_≡_};
 ghost use mathlib.Core.List.{_++_, [], _∷_};
 ghost use Prim.Native.Nat.{_^_, _≤_, _<_};
 ghost use lib.ListN.{length, drop};
 ghost use Rattle.laws.specs.Bytes.{bytes};
-ghost use Rattle.numbers.specs.Compact.{sizeOf, compactValue, readForm, formAt, readCompact, formOf, marked, compactBytes};
+ghost use Rattle.numbers.specs.Compact.{sizeOf, compactValue, readForm, readCompact, compactFor, formOf, withForm, compactBytes};
 ghost use Rattle.numbers.specs.Calls.{ReadsCompact, Writes, WritesCompact};
 use crate::bytes::put_le;
 use crate::bytes::read_le;
@@ -15,17 +16,16 @@ use crate::refusal::at_front;
 use crate::refusal::over_long;
 use crate::refusal::too_short;
 
-// What a form says by itself: the value, the bytes used, and whether a shorter form would do.
-pub enum Form {
-    Holds(u64, usize, bool),
+// A compact integer: the value, the bytes used, and the mark that it was padded, as a shorter form would do.
+pub enum Compact {
+    Value(u64, usize, bool),
     Refused(Refusal),
 }
 
-// A compact integer: the value and the bytes used.
-pub enum Compact {
-    Value(u64, usize),
-    Refused(Refusal),
-}
+// Whether a caller takes a padded number; where it is refused, it is 3.
+pub const PADDING_TAKEN: bool = true;
+
+pub const PADDING_REFUSED: bool = false;
 
 // How many bytes form k takes.
 fn size_of(k: usize) -> usize
@@ -45,59 +45,62 @@ fn value_of(s: &[u8], k: usize, n: usize) -> u64
     first + (ninth << 56)
 }
 
-fn read_form(s: &[u8], k: usize) -> Form
+fn read_form(s: &[u8], k: usize) -> Compact
     requires { ⌜ k ≤ 7 ⌝ }
     ensures { λ r. ⌜ r ≡ readForm k (now (s .entry)) ⌝ }
 {
     let n = size_of(k);
     if s.len() < n {
-        return Form::Refused(at_front(2));
+        return Compact::Refused(at_front(2));
     }
     let v = value_of(s, k, n);
     let least: u64 = 1 << (7 * k);
-    Form::Holds(v, n, v < least)
+    Compact::Value(v, n, v < least)
 }
 
-// The form at the front of s. Ruled out (proofs/WrongAnswers): telling that `02 00` is no longer than needed; a value from
-// `80` alone.
-fn form_at(s: &[u8]) -> Form
-    ensures { λ r. ⌜ r ≡ formAt (now (s .entry)) ⌝ }
+// The compact integer at the front of s, with its mark.
+fn form_at(s: &[u8]) -> Compact
+    ensures { λ r. ⌜ r ≡ readCompact (now (s .entry)) ⌝ }
 {
     if s.len() == 0 {
-        return Form::Refused(at_front(2));
+        return Compact::Refused(at_front(2));
     }
     let b = s[0];
     if b == 0 {
-        return Form::Holds(0, 1, false);
+        return Compact::Value(0, 1, false);
     }
     let k = u8::trailing_zeros(b) as usize;
     read_form(s, k)
 }
 
-// The compact integer at the front of a part.
-pub fn item(s: &[u8]) -> Compact
-    ensures { λ r. ⌜ r ≡ readCompact (now (s .entry)) ⌝ }
+// The compact integer at the front of a part. Ruled out (proofs/WrongAnswers): `02 00` taken where padding is refused; the same refused
+// where it is taken.
+pub fn item(s: &[u8], padding: bool) -> Compact
+    ensures { λ r. ⌜ r ≡ compactFor padding (now (s .entry)) ⌝ }
 {
     match form_at(s) {
-        Form::Holds(v, n, longer) => {
-            if longer {
+        Compact::Value(v, n, padded) => {
+            if padded {
+                if padding {
+                    return Compact::Value(v, n, padded);
+                }
                 return Compact::Refused(at_front(3));
             }
-            Compact::Value(v, n)
+            Compact::Value(v, n, padded)
         }
-        Form::Refused(r) => Compact::Refused(r),
+        Compact::Refused(r) => Compact::Refused(r),
     }
 }
 
-// A single compact integer. Ruled out (proofs/WrongAnswers): taking `02 00` as 0, a longer form than needed; telling 2 of
-// `01`, whose every byte is there.
+// A single compact integer. Ruled out (proofs/WrongAnswers): `02 00` without the mark that it was padded; `02 02` with it; telling 2
+// of `01`, whose every byte is there.
 pub fn read_compact(s: &[u8]) -> Compact
     ensures { λ r. ⌜ ReadsCompact (now (s .entry)) r ⌝ }
 {
     if LONGEST_INPUT < s.len() {
         return Compact::Refused(over_long());
     }
-    item(s)
+    form_at(s)
 }
 
 // The shortest form that has room for v: seven bits more for each form, and the last one takes what is left.
@@ -114,8 +117,8 @@ fn form_of(v: u64) -> usize
 }
 
 fn put_form(out: &mut [u8], k: usize, v: u64)
-    requires { ⌜ (k ≤ 7) × (sizeOf k ≤ length (now out)) × (marked k v < 256 ^ sizeOf k) ⌝ }
-    ensures { λ _. ⌜ now (out .exit) ≡ bytes (sizeOf k) (marked k v) ++ drop (sizeOf k) (now (out .entry)) ⌝ }
+    requires { ⌜ (k ≤ 7) × (sizeOf k ≤ length (now out)) × (withForm k v < 256 ^ sizeOf k) ⌝ }
+    ensures { λ _. ⌜ now (out .exit) ≡ bytes (sizeOf k) (withForm k v) ++ drop (sizeOf k) (now (out .entry)) ⌝ }
 {
     if k == 7 {
         out[0] = 128;

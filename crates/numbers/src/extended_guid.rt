@@ -2,7 +2,7 @@
 ghost use mathlib.Core.Path.{_≡_};
 ghost use Prim.Native.Nat.{_+_, _*_, _^_, _≤_, _<_};
 ghost use lib.ListN.{length};
-ghost use Rattle.numbers.specs.Compact.{marked};
+ghost use Rattle.numbers.specs.Compact.{withForm};
 ghost use Rattle.numbers.specs.ExtendedGuid.{shortForm, longForm, readExtendedGuid, shortBytes, namedBytes, extendedGuidBytes};
 ghost use Rattle.numbers.specs.Calls.{ReadsExtendedGuid, Writes, WritesExtendedGuid};
 use crate::bytes::put_le;
@@ -96,7 +96,7 @@ pub fn read_extended_guid(s: &[u8]) -> ReadExtendedGuid
 
 // The number in m bytes, above its k + 1 low bits, and then the GUID.
 fn write_short(out: &mut [u8], k: usize, m: usize, g: Guid, x: u64) -> Wrote
-    requires { ⌜ (k ≤ 7) × (m ≤ 3) × (marked k x < 256 ^ m) ⌝ }
+    requires { ⌜ (k ≤ 7) × (m ≤ 3) × (withForm k x < 256 ^ m) ⌝ }
     ensures { λ r. ⌜ Writes (shortBytes k m g x) (now (out .entry)) r (now (out .exit)) ⌝ }
 {
     let n = m + 16;

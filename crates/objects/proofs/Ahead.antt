@@ -61,12 +61,12 @@ data-on-ahead s at (length′.Is v from) w =
 data-on-ahead s at (length′.Refused r) (inl e) = rw e (here s at 2 (two at))
 data-on-ahead s at (length′.Refused r) (inr e) = rw e (here s at 3 (three at))
 
-pub data-ahead : (s : List ℕ) (at n : ℕ) → AtLeast s at (dataPast s at n)
+pub data-ahead : (padding : Bool) (s : List ℕ) (at n : ℕ) → AtLeast s at (dataPast padding s at n)
 unfolding dataPast
-data-ahead s at n = data-on-ahead s at (lengthAt s at n) (length-fits s at n)
+data-ahead padding s at n = data-on-ahead s at (lengthAt padding s at n) (length-fits padding s at n)
 
-pub data-ahead-at : (s : List ℕ) (at n : ℕ) (p : Passed) → dataPast s at n ≡ p → AtLeast s at p
-data-ahead-at s at n p e = subst (AtLeast s at) e (data-ahead s at n)
+pub data-ahead-at : (padding : Bool) (s : List ℕ) (at n : ℕ) (p : Passed) → dataPast padding s at n ≡ p → AtLeast s at p
+data-ahead-at padding s at n p e = subst (AtLeast s at) e (data-ahead padding s at n)
 
 -- ---- one object
 
@@ -83,15 +83,15 @@ and-on-ahead : (s : List ℕ) (at from : ℕ) (p : Passed) (go : ℕ → Passed)
 and-on-ahead s at from (To e) go h l w f = let x = w .1 l in further s at e (go e) (omega arith) x (f e)
 and-on-ahead s at from (Refused r) go h l w f = (omega arith, λ q. w .1 l, w .2)
 
-object-by-ahead : (inside : ℕ → Passed → Passed) (s : List ℕ) (at : ℕ) (h : Header) → Fits at (length s - at) h
-    → ((k from : ℕ) (p : Passed) → at < from → from ≤ length s → AtLeast s from p → Ahead s at (inside k p)) → Ahead s at (objectBy inside s at h)
-object-by-ahead inside s at (header.Refused r) w f = rw w (here s at 2 (two at))
-object-by-ahead inside s at (header.End k u) w f = here s at 4 (four at)
-object-by-ahead inside s at (header.Start k c n u) w f =
+object-by-ahead : (padding : Bool) (inside : ℕ → Passed → Passed) (s : List ℕ) (at : ℕ) (h : Header) → Fits at (length s - at) h
+    → ((k from : ℕ) (p : Passed) → at < from → from ≤ length s → AtLeast s from p → Ahead s at (inside k p)) → Ahead s at (objectBy padding inside s at h)
+object-by-ahead padding inside s at (header.Refused r) w f = rw w (here s at 2 (two at))
+object-by-ahead padding inside s at (header.End k u) w f = here s at 4 (four at)
+object-by-ahead padding inside s at (header.Start k c n u) w f =
     let a : at < at + u = omega arith in
     let b : at + u ≤ length s = omega arith in
-    pick-all (Ahead s at) c _ _ (λ t. f k (at + u) (dataPast s (at + u) n) a b (data-ahead s (at + u) n))
-    (λ t. data-further s at (at + u) (dataPast s (at + u) n) a b (data-ahead s (at + u) n))
+    pick-all (Ahead s at) c _ _ (λ t. f k (at + u) (dataPast padding s (at + u) n) a b (data-ahead padding s (at + u) n))
+    (λ t. data-further s at (at + u) (dataPast padding s (at + u) n) a b (data-ahead padding s (at + u) n))
 
 -- ---- a run
 
@@ -131,55 +131,55 @@ module _ (s : List ℕ) (object : ℕ → Passed) (kind : ℕ) (ahead : (i : ℕ
 
 -- ---- both, over the depth
 
-pub object-d-ahead : (d : ℕ) (s : List ℕ) (at : ℕ) → Ahead s at (objectD d s at)
+pub object-d-ahead : (padding : Bool) (d : ℕ) (s : List ℕ) (at : ℕ) → Ahead s at (objectD padding d s at)
 unfolding objectD
-object-d-ahead zero s at =
-    object-by-ahead (λ k p. Refused (faultAt 6 at)) s at (headerAt s at) (header-fits s at) (λ k from p h l w. here s at 6 (six at))
-object-d-ahead (suc d) s at =
-    object-by-ahead (λ k p. andOn p (λ e. runOf (λ i. objectD d s i) s k e)) s at (headerAt s at) (header-fits s at)
-    (λ k from p h l w. and-on-ahead s at from p (λ e. runOf (λ i. objectD d s i) s k e) h l w (run-of-ahead s (λ i. objectD d s i) k (λ i. object-d-ahead d s i)))
+object-d-ahead padding zero s at =
+    object-by-ahead padding (λ k p. Refused (faultAt 6 at)) s at (headerAt s at) (header-fits s at) (λ k from p h l w. here s at 6 (six at))
+object-d-ahead padding (suc d) s at =
+    object-by-ahead padding (λ k p. andOn p (λ e. runOf (λ i. objectD padding d s i) s k e)) s at (headerAt s at) (header-fits s at)
+    (λ k from p h l w. and-on-ahead s at from p (λ e. runOf (λ i. objectD padding d s i) s k e) h l w (run-of-ahead s (λ i. objectD padding d s i) k (λ i. object-d-ahead padding d s i)))
 
-pub object-ahead : (s : List ℕ) (at d : ℕ) → Ahead s at (objectAt s at d)
+pub object-ahead : (padding : Bool) (s : List ℕ) (at d : ℕ) → Ahead s at (objectAt padding s at d)
 unfolding objectAt
-object-ahead s at d = object-d-ahead d s at
+object-ahead padding s at d = object-d-ahead padding d s at
 
-pub object-next : (s : List ℕ) (at d e : ℕ) → objectAt s at d ≡ To e → (at < e) × (e ≤ length s)
-object-next s at d e q = subst (Ahead s at) q (object-ahead s at d)
+pub object-next : (padding : Bool) (s : List ℕ) (at d e : ℕ) → objectAt padding s at d ≡ To e → (at < e) × (e ≤ length s)
+object-next padding s at d e q = subst (Ahead s at) q (object-ahead padding s at d)
 
-pub run-ahead : (s : List ℕ) (at d kind : ℕ) → Ahead s at (runAt s at d kind)
+pub run-ahead : (padding : Bool) (s : List ℕ) (at d kind : ℕ) → Ahead s at (runAt padding s at d kind)
 unfolding runAt
-run-ahead s at d kind = run-of-ahead s (λ i. objectAt s i d) kind (λ i. object-ahead s i d) at
+run-ahead padding s at d kind = run-of-ahead s (λ i. objectAt padding s i d) kind (λ i. object-ahead padding s i d) at
 
-pub run-next : (s : List ℕ) (at d kind e : ℕ) → runAt s at d kind ≡ To e → (at < e) × (e ≤ length s)
-run-next s at d kind e q = subst (Ahead s at) q (run-ahead s at d kind)
+pub run-next : (padding : Bool) (s : List ℕ) (at d kind e : ℕ) → runAt padding s at d kind ≡ To e → (at < e) × (e ≤ length s)
+run-next padding s at d kind e q = subst (Ahead s at) q (run-ahead padding s at d kind)
 
 -- ---- the equations, at a header that is known
 
 -- an object
-abbrev pub objectStep : List ℕ → ℕ → ℕ → Header → Passed
-objectStep s at d h = objectBy (λ k p. pick (eqb d 0) (Refused (faultAt 6 at)) (andOn p (λ e. runAt s e (d - 1) k))) s at h
+abbrev pub objectStep : Bool → List ℕ → ℕ → ℕ → Header → Passed
+objectStep padding s at d h = objectBy padding (λ k p. pick (eqb d 0) (Refused (faultAt 6 at)) (andOn p (λ e. runAt padding s e (d - 1) k))) s at h
 
-object-eq : (s : List ℕ) (at d : ℕ) (h : Header) → headerAt s at ≡ h → objectD d s at ≡ objectStep s at d h
+object-eq : (padding : Bool) (s : List ℕ) (at d : ℕ) (h : Header) → headerAt s at ≡ h → objectD padding d s at ≡ objectStep padding s at d h
 unfolding objectD runAt objectAt
-object-eq s at zero h e = ap (λ (x : Header). objectBy (λ k p. Refused (faultAt 6 at)) s at x) e
-object-eq s at (suc d) h e =
-    ap (λ (x : Header). objectBy (λ k p. andOn p (λ e. runOf (λ i. objectD d s i) s k e)) s at x) e
+object-eq padding s at zero h e = ap (λ (x : Header). objectBy padding (λ k p. Refused (faultAt 6 at)) s at x) e
+object-eq padding s at (suc d) h e =
+    ap (λ (x : Header). objectBy padding (λ k p. andOn p (λ e. runOf (λ i. objectD padding d s i) s k e)) s at x) e
     ∙ simp (eqb·suc-zero d, sub-one)
 
-pub object-at : (s : List ℕ) (at d : ℕ) (h : Header) → headerAt s at ≡ h → objectAt s at d ≡ objectStep s at d h
+pub object-at : (padding : Bool) (s : List ℕ) (at d : ℕ) (h : Header) → headerAt s at ≡ h → objectAt padding s at d ≡ objectStep padding s at d h
 unfolding objectAt
-object-at s at d h e = object-eq s at d h e
+object-at padding s at d h e = object-eq padding s at d h e
 
 -- a run
-pub run-at : (s : List ℕ) (at d kind : ℕ) (h : Header) → headerAt s at ≡ h
-    → runAt s at d kind ≡ after (λ i. runAt s i d kind) (runTurn (λ i. objectAt s i d) kind at h)
+pub run-at : (padding : Bool) (s : List ℕ) (at d kind : ℕ) (h : Header) → headerAt s at ≡ h
+    → runAt padding s at d kind ≡ after (λ i. runAt padding s i d kind) (runTurn (λ i. objectAt padding s i d) kind at h)
 unfolding runAt
-run-at s at d kind h e =
-    run-of s (λ i. objectAt s i d) kind (λ i. object-ahead s i d) at (runTurn (λ i. objectAt s i d) kind at h)
-    (ap (λ (x : Header). runTurn (λ i. objectAt s i d) kind at x) e)
+run-at padding s at d kind h e =
+    run-of s (λ i. objectAt padding s i d) kind (λ i. object-ahead padding s i d) at (runTurn (λ i. objectAt padding s i d) kind at h)
+    (ap (λ (x : Header). runTurn (λ i. objectAt padding s i d) kind at x) e)
 
 -- a run that begins with an object is that object and then a run
-pub run-start : (s : List ℕ) (at d kind k : ℕ) (c : Bool) (n u : ℕ) → headerAt s at ≡ header.Start k c n u → (r : Passed) → objectAt s at d ≡ r
-    → runAt s at d kind ≡ after (λ i. runAt s i d kind) (onward r)
-run-start s at d kind k c n u q r o =
-    run-at s at d kind (header.Start k c n u) q ∙ ap (λ (x : Passed). after (λ i. runAt s i d kind) (onward x)) o
+pub run-start : (padding : Bool) (s : List ℕ) (at d kind k : ℕ) (c : Bool) (n u : ℕ) → headerAt s at ≡ header.Start k c n u → (r : Passed) → objectAt padding s at d ≡ r
+    → runAt padding s at d kind ≡ after (λ i. runAt padding s i d kind) (onward r)
+run-start padding s at d kind k c n u q r o =
+    run-at padding s at d kind (header.Start k c n u) q ∙ ap (λ (x : Passed). after (λ i. runAt padding s i d kind) (onward x)) o

@@ -1,5 +1,6 @@
 -- What every header has: it is not empty and lies within the input, and what is behind the input; the true length too.
 -- Assumes nothing.
+use mathlib.Core.Bool.{Bool}
 use mathlib.Core.Path.{_≡_, refl, subst}
 use mathlib.Core.Logic.{_⊎_, inl, inr}
 use mathlib.Core.List.{List, []}
@@ -11,7 +12,7 @@ use borrow.Author.Tests.{ltb-false}
 use Rattle.laws.specs.Bytes.{le}
 use Rattle.laws.proofs.Cases.{pick-all}
 use Rattle.numbers.specs.Refusals.{fault, faultAt}
-use Rattle.numbers.specs.Compact.{formAt, readCompact}
+use Rattle.numbers.specs.Compact.{readCompact, compactFor}
 use Rattle.numbers.specs.declared.refusal.Refusal.{Refusal}
 use Rattle.numbers.specs.declared.compact.Compact.{Compact}
 use Rattle.numbers.specs.declared.compact.Compact.the-variants as compact
@@ -67,16 +68,16 @@ header-past s at h = let l : length s ≤ at = omega arith in rw (drop-of-length
 
 -- ---- the true length
 
-compact-none : readCompact [] ≡ compact.Refused (fault 2)
-unfolding readCompact formAt
-compact-none = refl
+compact-none : (padding : Bool) → compactFor padding [] ≡ compact.Refused (fault 2)
+unfolding compactFor readCompact
+compact-none padding = refl
 
-pub compact-past : (s : List ℕ) (at : ℕ) → length s < at → readCompact (drop at s) ≡ compact.Refused (fault 2)
-compact-past s at h = let l : length s ≤ at = omega arith in rw (drop-of-length-le s {i = at} l) compact-none
+pub compact-past : (padding : Bool) (s : List ℕ) (at : ℕ) → length s < at → compactFor padding (drop at s) ≡ compact.Refused (fault 2)
+compact-past padding s at h = let l : length s ≤ at = omega arith in rw (drop-of-length-le s {i = at} l) (compact-none padding)
 
-pub compact-fits : (s : List ℕ) (at v n : ℕ) → readCompact (drop at s) ≡ compact.Value v n → (0 < n) × (at + n ≤ length s)
-compact-fits s at v n e =
-    let w : CompactWithin (length (drop at s)) (compact.Value v n) = subst (CompactWithin (length (drop at s))) e (compact-within (drop at s)) in
+pub compact-fits : (padding : Bool) (s : List ℕ) (at v n : ℕ) (padded : Bool) → compactFor padding (drop at s) ≡ compact.Value v n padded → (0 < n) × (at + n ≤ length s)
+compact-fits padding s at v n padded e =
+    let w : CompactWithin (length (drop at s)) (compact.Value v n padded) = subst (CompactWithin (length (drop at s))) e (compact-within padding (drop at s)) in
     (w .0, omega (arith, length-drop at s))
 
 -- the data begins at or behind `at`, and within the input if `at` does; a fault is 2 or 3 at `at`
@@ -88,14 +89,14 @@ fault-at : (at : ℕ) (r : Refusal) → ItemFault r → (faultAt (r .number) at 
 fault-at at r (inl e) = inl (rw e)
 fault-at at r (inr e) = inr (rw e)
 
-length-on-fits : (s : List ℕ) (at : ℕ) (r : Compact) → readCompact (drop at s) ≡ r → LengthFits s at (lengthOn at r)
-length-on-fits s at (compact.Value v n) e = let w = compact-fits s at v n e in (omega arith, λ h. omega arith)
-length-on-fits s at (compact.Refused r) e = fault-at at r (subst (CompactWithin (length (drop at s))) e (compact-within (drop at s)))
+length-on-fits : (padding : Bool) (s : List ℕ) (at : ℕ) (r : Compact) → compactFor padding (drop at s) ≡ r → LengthFits s at (lengthOn at r)
+length-on-fits padding s at (compact.Value v n padded) e = let w = compact-fits padding s at v n padded e in (omega arith, λ h. omega arith)
+length-on-fits padding s at (compact.Refused r) e = fault-at at r (subst (CompactWithin (length (drop at s))) e (compact-within padding (drop at s)))
 
-pub length-fits : (s : List ℕ) (at n : ℕ) → LengthFits s at (lengthAt s at n)
+pub length-fits : (padding : Bool) (s : List ℕ) (at n : ℕ) → LengthFits s at (lengthAt padding s at n)
 unfolding lengthAt
-length-fits s at n =
-    pick-all (LengthFits s at) (eqb n escape) _ _ (λ e. length-on-fits s at (readCompact (drop at s)) refl) (λ e. (omega arith, λ h. h))
+length-fits padding s at n =
+    pick-all (LengthFits s at) (eqb n escape) _ _ (λ e. length-on-fits padding s at (compactFor padding (drop at s)) refl) (λ e. (omega arith, λ h. h))
 
-pub length-fits-at : (s : List ℕ) (at n : ℕ) (r : Length) → lengthAt s at n ≡ r → LengthFits s at r
-length-fits-at s at n r e = subst (LengthFits s at) e (length-fits s at n)
+pub length-fits-at : (padding : Bool) (s : List ℕ) (at n : ℕ) (r : Length) → lengthAt padding s at n ≡ r → LengthFits s at r
+length-fits-at padding s at n r e = subst (LengthFits s at) e (length-fits padding s at n)

@@ -17,8 +17,8 @@ use Rattle.laws.specs.Pick.{pick}
 use Rattle.laws.specs.Bytes.{bytes}
 use Rattle.laws.proofs.Cases.{by-lt}
 use Rattle.laws.proofs.Numbers.{length-bytes, le-bytes, first-byte}
-use Rattle.numbers.specs.Compact.{compactBytes}
-use Rattle.numbers.proofs.RoundTrip.{read-written}
+use Rattle.numbers.specs.Compact.{paddingTaken, compactBytes}
+use Rattle.numbers.proofs.RoundTrip.{written-unpadded}
 use Rattle.objects.specs.Header.{startOf, endOf, sized, headerOf, headerAt, escape, lengthAt, wholeHeader, startNumber, startBytes, endBytes}
 use Rattle.objects.specs.declared.header.Header.{Header}
 use Rattle.objects.specs.declared.header.Header.the-variants.{Start, End}
@@ -103,46 +103,46 @@ start-header k c n h t at =
     rw (e c, s, le-ltb n escape l, append-assoc) (start-back 2 (2 ^ 14) (lit< tt) 4 (2 ^ 15) (lit< tt) refl at (λ x. refl) c k escape (compactBytes n ++ t) h (lit< tt)))
 
 -- a length that is not the escape
-pub own-length : (s : List ℕ) (at n : ℕ) → n ≢ escape → lengthAt s at n ≡ Is n at
+pub own-length : (padding : Bool) (s : List ℕ) (at n : ℕ) → n ≢ escape → lengthAt padding s at n ≡ Is n at
 unfolding lengthAt
-own-length s at n h = rw (ne-eqb n escape h)
+own-length padding s at n h = rw (ne-eqb n escape h)
 
 -- the escape, with the true length behind it
-behind-length : (s : List ℕ) (at n : ℕ) (t : List ℕ) → n < 2 ^ 64 → drop at s ≡ compactBytes n ++ t → lengthAt s at escape ≡ Is n (at + length (compactBytes n))
+behind-length : (padding : Bool) (s : List ℕ) (at n : ℕ) (t : List ℕ) → n < 2 ^ 64 → drop at s ≡ compactBytes n ++ t → lengthAt padding s at escape ≡ Is n (at + length (compactBytes n))
 unfolding lengthAt
-behind-length s at n t h e = rw (e, read-written n h t)
+behind-length padding s at n t h e = rw (e, written-unpadded padding n h t)
 
-pub start-length : (s : List ℕ) (at k n : ℕ) (c : Bool) (t : List ℕ) → n < 2 ^ 64 → drop at s ≡ startBytes k c n ++ t
-    → lengthAt s (at + ownBytes k n) (lengthField n) ≡ Is n (at + length (startBytes k c n))
-start-length s at k n c t h d =
+pub start-length : (padding : Bool) (s : List ℕ) (at k n : ℕ) (c : Bool) (t : List ℕ) → n < 2 ^ 64 → drop at s ≡ startBytes k c n ++ t
+    → lengthAt padding s (at + ownBytes k n) (lengthField n) ≡ Is n (at + length (startBytes k c n))
+start-length padding s at k n c t h d =
     by-start k n
     (λ x a b e.
     let l : n < escape = omega arith in
-    rw (x, lt-ltb n escape l, length-short k c n x) (own-length s (at + 2) n (λ z. omega arith)))
-    (λ x l e. rw (x, lt-ltb n escape l, length-own k c n x l) (own-length s (at + 4) n (λ z. omega arith)))
+    rw (x, lt-ltb n escape l, length-short k c n x) (own-length padding s (at + 2) n (λ z. omega arith)))
+    (λ x l e. rw (x, lt-ltb n escape l, length-own k c n x l) (own-length padding s (at + 4) n (λ z. omega arith)))
     (λ x l e.
     let w = bytes 4 (startNumber 2 (2 ^ 14) c k escape) in
     let f : drop (at + 4) s ≡ compactBytes n ++ t =
     sym (drop-drop 4 at s) ∙ rw (d, e c, append-assoc) (drop-at w (compactBytes n ++ t) 4 (length-bytes 4 (startNumber 2 (2 ^ 14) c k escape))) in
     let g : at + 4 + length (compactBytes n) ≡ at + length (startBytes k c n) = omega (arith, length-behind k c n l) in
-    rw (x, le-ltb n escape l, ← g) (behind-length s (at + 4) n t h f))
+    rw (x, le-ltb n escape l, ← g) (behind-length padding s (at + 4) n t h f))
 
 -- a start that stands at a place: its header, and behind that its true length
-pub record StartWritten (s : List ℕ) (at k n : ℕ) (c : Bool) : Type 0 where
+pub record StartWritten (padding : Bool) (s : List ℕ) (at k n : ℕ) (c : Bool) : Type 0 where
   pub field : ℕ  -- the length as the header has it
   pub used : ℕ  -- the header's own bytes
   pub header : headerAt s at ≡ Start k c field used
-  pub true-length : lengthAt s (at + used) field ≡ Is n (at + length (startBytes k c n))
+  pub true-length : lengthAt padding s (at + used) field ≡ Is n (at + length (startBytes k c n))
 
-pub start-written : (s : List ℕ) (at k n : ℕ) (c : Bool) (t : List ℕ) → k ≤ 0x3FFF → n < 2 ^ 64 → drop at s ≡ startBytes k c n ++ t
-    → StartWritten s at k n c
+pub start-written : (padding : Bool) (s : List ℕ) (at k n : ℕ) (c : Bool) (t : List ℕ) → k ≤ 0x3FFF → n < 2 ^ 64 → drop at s ≡ startBytes k c n ++ t
+    → StartWritten padding s at k n c
 unfolding headerAt
-start-written s at k n c t h b d =
+start-written padding s at k n c t h b d =
     record {
       field = lengthField n;
       used = ownBytes k n;
       header = rw d (start-header k c n (omega arith) t at);
-      true-length = start-length s at k n c t b d;
+      true-length = start-length padding s at k n c t b d;
     }
 
 -- as the single item
@@ -150,8 +150,8 @@ pub header-read-written : (k n : ℕ) (c : Bool) (t : List ℕ) → k ≤ 0x3FFF
     → wholeHeader (startBytes k c n ++ t) ≡ Start k c n (length (startBytes k c n))
 unfolding wholeHeader
 header-read-written k n c t h b =
-    let l : lengthAt (startBytes k c n ++ t) (ownBytes k n) (lengthField n) ≡ Is n (length (startBytes k c n)) =
-    rw (zero-add (ownBytes k n), zero-add (length (startBytes k c n))) at (start-length (startBytes k c n ++ t) 0 k n c t b refl) in
+    let l : lengthAt paddingTaken (startBytes k c n ++ t) (ownBytes k n) (lengthField n) ≡ Is n (length (startBytes k c n)) =
+    rw (zero-add (ownBytes k n), zero-add (length (startBytes k c n))) at (start-length paddingTaken (startBytes k c n ++ t) 0 k n c t b refl) in
     rw (start-header k c n (omega arith) t 0, l)
 
 -- ---- an end that was written

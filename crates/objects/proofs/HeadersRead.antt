@@ -17,10 +17,10 @@ use Rattle.laws.specs.Bytes.{AllBytes, le, bytes}
 use Rattle.laws.proofs.Cases.{by-lt, by-eq, impossible}
 use Rattle.laws.proofs.Numbers.{drop-bytes, take-bytes, le-lt, bytes-le, low-byte}
 use Rattle.numbers.specs.Refusals.{faultAt}
-use Rattle.numbers.specs.Compact.{readCompact}
+use Rattle.numbers.specs.Compact.{paddingTaken, compactFor, compactBytes}
 use Rattle.numbers.specs.declared.compact.Compact.{Compact}
 use Rattle.numbers.specs.declared.compact.Compact.the-variants as compact
-use Rattle.numbers.proofs.RoundTrip.{written-read}
+use Rattle.numbers.proofs.Padding.{shortest-read}
 use Rattle.objects.specs.Header.{startOf, endOf, sized, headerOf, headerAt, escape, lengthOn, lengthAt, lengthened, withLength, wholeHeader, startNumber, startBytes, endBytes}
 use Rattle.objects.specs.declared.header.Header.{Header}
 use Rattle.objects.specs.declared.header.Header.the-variants.{Start, End, Refused}
@@ -28,7 +28,7 @@ use Rattle.objects.specs.declared.header.Length.{Length}
 use Rattle.objects.specs.declared.header.Length.the-variants.{Is}
 use Rattle.objects.specs.declared.header.Length.the-variants as length′
 use Rattle.objects.proofs.HeaderLaws.{compact-fits}
-use Rattle.objects.proofs.HeaderForms.{shortStart, start-short, by-start, length-short, length-own, end-short, end-long, length-end-short}
+use Rattle.objects.proofs.HeaderForms.{shortStart, start-short, by-start, length-short, length-own, length-behind, end-short, end-long, length-end-short}
 use Rattle.objects.proofs.HeadersBack.{own-length}
 
 -- ---- a header that is read, and the bytes that it was read from
@@ -164,21 +164,22 @@ by-end-read at s k u b e short long =
 
 -- ---- a true length that is read
 
-own-read : (s : List ℕ) (at m n u : ℕ) → m ≢ escape → lengthAt s at m ≡ Is n u → (m ≡ n) × (at ≡ u)
-own-read s at m n u h e = let q : Is m at ≡ Is n u = sym (own-length s at m h) ∙ e in (cc, cc)
+own-read : (s : List ℕ) (at m n u : ℕ) → m ≢ escape → lengthAt paddingTaken s at m ≡ Is n u → (m ≡ n) × (at ≡ u)
+own-read s at m n u h e = let q : Is m at ≡ Is n u = sym (own-length paddingTaken s at m h) ∙ e in (cc, cc)
 
 record BehindRead (s : List ℕ) (at n u : ℕ) : Type 0 where
   size : ℕ
-  item : readCompact (drop at s) ≡ compact.Value n size
+  padded : Bool
+  item : compactFor paddingTaken (drop at s) ≡ compact.Value n size padded
   place : u ≡ at + size
 
-length-on-read : (s : List ℕ) (at n u : ℕ) (r : Compact) → readCompact (drop at s) ≡ r → lengthOn at r ≡ Is n u → BehindRead s at n u
-length-on-read s at n u (compact.Value v m) e q = record { size = m; item = cc; place = cc }
+length-on-read : (s : List ℕ) (at n u : ℕ) (r : Compact) → compactFor paddingTaken (drop at s) ≡ r → lengthOn at r ≡ Is n u → BehindRead s at n u
+length-on-read s at n u (compact.Value v m padded) e q = record { size = m; padded = padded; item = cc; place = cc }
 length-on-read s at n u (compact.Refused r) e q = impossible (cc)
 
-behind-read : (s : List ℕ) (at n u : ℕ) → lengthAt s at escape ≡ Is n u → BehindRead s at n u
+behind-read : (s : List ℕ) (at n u : ℕ) → lengthAt paddingTaken s at escape ≡ Is n u → BehindRead s at n u
 unfolding lengthAt
-behind-read s at n u e = length-on-read s at n u (readCompact (drop at s)) refl e
+behind-read s at n u e = length-on-read s at n u (compactFor paddingTaken (drop at s)) refl e
 
 -- ---- the bounds of what is read
 
@@ -200,15 +201,15 @@ record WholeStart (s : List ℕ) (h : Header) (k : ℕ) (c : Bool) (n u : ℕ) :
   field : ℕ
   used : ℕ
   header : h ≡ Start k c field used
-  true-length : lengthAt s used field ≡ Is n u
+  true-length : lengthAt paddingTaken s used field ≡ Is n u
 
-lengthened-start : (s : List ℕ) (j : ℕ) (d : Bool) (m v : ℕ) (l : Length) (k : ℕ) (c : Bool) (n u : ℕ) → lengthAt s v m ≡ l → lengthened j d l ≡ Start k c n u
+lengthened-start : (s : List ℕ) (j : ℕ) (d : Bool) (m v : ℕ) (l : Length) (k : ℕ) (c : Bool) (n u : ℕ) → lengthAt paddingTaken s v m ≡ l → lengthened j d l ≡ Start k c n u
     → WholeStart s (Start j d m v) k c n u
 lengthened-start s j d m v (Is x from) k c n u e q = record { field = m; used = v; header = cc; true-length = cc }
 lengthened-start s j d m v (length′.Refused r) k c n u e q = impossible (cc)
 
 with-length-start : (s : List ℕ) (h : Header) (k : ℕ) (c : Bool) (n u : ℕ) → withLength s h ≡ Start k c n u → WholeStart s h k c n u
-with-length-start s (Start j d m v) k c n u e = lengthened-start s j d m v (lengthAt s v m) k c n u refl e
+with-length-start s (Start j d m v) k c n u e = lengthened-start s j d m v (lengthAt paddingTaken s v m) k c n u refl e
 with-length-start s (End j v) k c n u e = impossible (cc)
 with-length-start s (Refused r) k c n u e = impossible (cc)
 
@@ -221,7 +222,7 @@ lengthened-end j d (Is x from) k u q = impossible (cc)
 lengthened-end j d (length′.Refused r) k u q = impossible (cc)
 
 with-length-end : (s : List ℕ) (h : Header) (k u : ℕ) → withLength s h ≡ End k u → h ≡ End k u
-with-length-end s (Start j d m v) k u e = lengthened-end j d (lengthAt s v m) k u e
+with-length-end s (Start j d m v) k u e = lengthened-end j d (lengthAt paddingTaken s v m) k u e
 with-length-end s (End j v) k u e = e
 with-length-end s (Refused r) k u e = impossible (cc)
 
@@ -231,14 +232,14 @@ whole-end s k u e = with-length-end s (headerOf 0 s) k u e
 
 -- ---- what is read in its shortest form is what is written for it
 
-short-same : (s : List ℕ) (k : ℕ) (c : Bool) (m v n u : ℕ) → StartRead 0 (2 ^ 6) 2 128 s k c m v → lengthAt s v m ≡ Is n u → take u s ≡ startBytes k c n
+short-same : (s : List ℕ) (k : ℕ) (c : Bool) (m v n u : ℕ) → StartRead 0 (2 ^ 6) 2 128 s k c m v → lengthAt paddingTaken s v m ≡ Is n u → take u s ≡ startBytes k c n
 short-same s k c m v n u r l =
     let o = own-read s v m n u (λ z. omega (arith, r .field)) l in
     let y : shortStart k m ≡ true = rw (lt-ltb k 64 (r .type)) (lt-ltb m 128 (r .field)) in
     rw (← o .0, ← o .1, r .whole) (r .same ∙ sym (start-short k c m y))
 
 -- 32 bits, if 16 do not do
-long-same : (s : List ℕ) (k : ℕ) (c : Bool) (m v n u : ℕ) → StartRead 2 (2 ^ 14) 4 (2 ^ 15) s k c m v → m ≢ escape → lengthAt s v m ≡ Is n u
+long-same : (s : List ℕ) (k : ℕ) (c : Bool) (m v n u : ℕ) → StartRead 2 (2 ^ 14) 4 (2 ^ 15) s k c m v → m ≢ escape → lengthAt paddingTaken s v m ≡ Is n u
     → u ≡ length (startBytes k c n) → take u s ≡ startBytes k c n
 long-same s k c m v n u r x l h =
     let o = own-read s v m n u x l in
@@ -249,16 +250,19 @@ long-same s k c m v n u r x l h =
     (λ y a g. absurd (omega (arith, r .field)))
 
 -- and with the true length behind, if that has no room in the header
-behind-same : (s : List ℕ) (k : ℕ) (c : Bool) (v n u : ℕ) → AllBytes s → StartRead 2 (2 ^ 14) 4 (2 ^ 15) s k c escape v → lengthAt s v escape ≡ Is n u
+behind-same : (s : List ℕ) (k : ℕ) (c : Bool) (v n u : ℕ) → AllBytes s → StartRead 2 (2 ^ 14) 4 (2 ^ 15) s k c escape v → lengthAt paddingTaken s v escape ≡ Is n u
     → u ≡ length (startBytes k c n) → take u s ≡ startBytes k c n
 behind-same s k c v n u b r l h =
     let q = behind-read s 4 n u (rw (r .whole) at l) in
     let w = q .place in
-    let f = compact-fits s 4 n (q .size) (q .item) in
+    let f = compact-fits paddingTaken s 4 n (q .size) (q .padded) (q .item) in
     by-start k n
     (λ y a d g. absurd (omega (arith, length-short k c n y)))
     (λ y a g. absurd (omega (arith, length-own k c n y a)))
-    (λ y a g. rw (w, g c, take-add 4 (q .size) s, r .same, written-read (drop 4 s) n (q .size) (drop-bytes 4 s b) (q .item) .0))
+    (λ y a g.
+    let some : n ≢ 0 = λ z. omega arith in
+    let shortest : q .size ≡ length (compactBytes n) = omega (arith, length-behind k c n a) in
+    rw (w, g c, take-add 4 (q .size) s, r .same, shortest-read paddingTaken (drop 4 s) n (q .size) (q .padded) (drop-bytes 4 s b) (q .item) some shortest))
 
 pub header-written-read : (s : List ℕ) (k : ℕ) (c : Bool) (n u : ℕ) → AllBytes s → wholeHeader s ≡ Start k c n u → u ≡ length (startBytes k c n)
     → take u s ≡ startBytes k c n

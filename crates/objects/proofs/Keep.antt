@@ -14,7 +14,7 @@ use borrow.Author.Tests.{ltb-false}
 use Rattle.laws.specs.Bytes.{le}
 use Rattle.laws.proofs.Cases.{pick-all, impossible}
 use Rattle.numbers.specs.Refusals.{faultAt}
-use Rattle.numbers.specs.Compact.{readCompact}
+use Rattle.numbers.specs.Compact.{compactFor}
 use Rattle.numbers.specs.ExtendedGuid.{readExtendedGuid}
 use Rattle.numbers.specs.Serial.{readSerial}
 use Rattle.numbers.specs.declared.refusal.Refusal.{Refusal}
@@ -134,21 +134,21 @@ item-fault d at r (inl e) = rw e (here d at at 2 (omega arith))
 item-fault d at r (inr e) = rw e (here d at at 3 (omega arith))
 
 number-on : (d : List ℕ) (at : ℕ) (r : Compact) → CompactWithin (length (drop at d)) r → Gets d at at (numberOn at r)
-number-on d at (compact.Value v n) w = item-fits d at n v w
+number-on d at (compact.Value v n padded) w = item-fits d at n v w
 number-on d at (compact.Refused r) w = item-fault d at r w
 
-pub onward-number : (d : List ℕ) (c : Reading) → Onward d c (number d c)
+pub onward-number : (padding : Bool) (d : List ℕ) (c : Reading) → Onward d c (number padding d c)
 unfolding number
-onward-number d c = goes d c _ (λ at. number-on d at (readCompact (drop at d)) (compact-within (drop at d)))
+onward-number padding d c = goes d c _ (λ at. number-on d at (compactFor padding (drop at d)) (compact-within padding (drop at d)))
 
 number-is-on : (d : List ℕ) (x k at : ℕ) (r : Compact) → FaultNumber k → CompactWithin (length (drop at d)) r → Gets d at at (numberIsOn x k at r)
-number-is-on d x k at (compact.Value v n) h w =
+number-is-on d x k at (compact.Value v n padded) h w =
     pick-all (Gets d at at) (eqb v x) (At (at + n) v) (no k at) (λ e. item-fits d at n v w) (λ e. here d at at k h)
 number-is-on d x k at (compact.Refused r) h w = item-fault d at r w
 
-pub onward-number-is : (d : List ℕ) (x k : ℕ) (c : Reading) → FaultNumber k → Onward d c (numberIs d x k c)
+pub onward-number-is : (padding : Bool) (d : List ℕ) (x k : ℕ) (c : Reading) → FaultNumber k → Onward d c (numberIs padding d x k c)
 unfolding numberIs
-onward-number-is d x k c h = goes d c _ (λ at. number-is-on d x k at (readCompact (drop at d)) h (compact-within (drop at d)))
+onward-number-is padding d x k c h = goes d c _ (λ at. number-is-on d x k at (compactFor padding (drop at d)) h (compact-within padding (drop at d)))
 
 null-on : (d : List ℕ) (k at : ℕ) (r : ReadExtendedGuid) → FaultNumber k → ExtendedGuidWithin (length (drop at d)) r → Gets d at at (nullIdOn k at r)
 null-on d k at (extended.Value id.Null n) h w = item-fits d at n 0 w
@@ -194,19 +194,19 @@ length-gets d low at u (length′.Refused r) h i (inl e) = rw e (λ g. fault-wit
 length-gets d low at u (length′.Refused r) h i (inr e) = rw e (λ g. fault-within (length d) 3 (at + u) (omega arith) i)
 
 -- a start goes on by a byte at least
-start-on : (d : List ℕ) (outer kind : ℕ) (compound room : Bool) (at : ℕ) (h : Header) → Fits at (length d - at) h
-    → Gets d (at + 1) at (startOn d outer kind compound room at h)
-start-on d outer kind compound room at (header.Refused r) w = rw w (here d (at + 1) at 2 (omega arith))
-start-on d outer kind compound room at (header.End k u) w =
+start-on : (padding : Bool) (d : List ℕ) (outer kind : ℕ) (compound room : Bool) (at : ℕ) (h : Header) → Fits at (length d - at) h
+    → Gets d (at + 1) at (startOn padding d outer kind compound room at h)
+start-on padding d outer kind compound room at (header.Refused r) w = rw w (here d (at + 1) at 2 (omega arith))
+start-on padding d outer kind compound room at (header.End k u) w =
     pick-all (Gets d (at + 1) at) (eqb k outer) (no 5 at) (no 4 at) (λ e. here d (at + 1) at 5 (omega arith)) (λ e. here d (at + 1) at 4 (omega arith))
-start-on d outer kind compound room at (header.Start k b n u) w =
+start-on padding d outer kind compound room at (header.Start k b n u) w =
     let P = Gets d (at + 1) at in
     let five = here d (at + 1) at 5 (omega arith) in
     pick-all P (eqb k kind) _ _
     (λ e.
     pick-all P (sameBit b compound) _ _
     (λ f.
-    pick-all P room _ _ (λ i. length-gets d (at + 1) at u (lengthAt d (at + u) n) (omega arith) (omega arith) (length-fits d (at + u) n))
+    pick-all P room _ _ (λ i. length-gets d (at + 1) at u (lengthAt padding d (at + u) n) (omega arith) (omega arith) (length-fits padding d (at + u) n))
     (λ i. here d (at + 1) at 9 (omega arith)))
     (λ f. five))
     (λ e. five)
@@ -220,19 +220,19 @@ gets-past : (d : List ℕ) (p at : ℕ) (e : Reading) → p ≤ at → Gets d (a
 gets-past d p at (At q v) h w = omega arith
 gets-past d p at (Refused r) h w = tt
 
-pub onward-start : (d : List ℕ) (outer kind : ℕ) (compound room : Bool) (c : Reading) → Onward d c (startHere d outer kind compound room c)
+pub onward-start : (padding : Bool) (d : List ℕ) (outer kind : ℕ) (compound room : Bool) (c : Reading) → Onward d c (startHere padding d outer kind compound room c)
 unfolding startHere
-onward-start d outer kind compound room c =
-    let step : ℕ → Reading = λ at. startOn d outer kind compound room at (headerAt d at) in
-    goes d c step (λ at. weaker d at (step at) (start-on d outer kind compound room at (headerAt d at) (header-fits d at)))
+onward-start padding d outer kind compound room c =
+    let step : ℕ → Reading = λ at. startOn padding d outer kind compound room at (headerAt d at) in
+    goes d c step (λ at. weaker d at (step at) (start-on padding d outer kind compound room at (headerAt d at) (header-fits d at)))
 
-pub past-start : (d : List ℕ) (outer kind : ℕ) (compound room : Bool) (p : ℕ) (c : Reading) → Behind p c
-    → Behind (p + 1) (startHere d outer kind compound room c)
+pub past-start : (padding : Bool) (d : List ℕ) (outer kind : ℕ) (compound room : Bool) (p : ℕ) (c : Reading) → Behind p c
+    → Behind (p + 1) (startHere padding d outer kind compound room c)
 unfolding startHere
-past-start d outer kind compound room p (At at v) h =
+past-start padding d outer kind compound room p (At at v) h =
     let i = headerAt d at in
-    gets-past d p at (startOn d outer kind compound room at i) h (start-on d outer kind compound room at i (header-fits d at))
-past-start d outer kind compound room p (Refused r) h = tt
+    gets-past d p at (startOn padding d outer kind compound room at i) h (start-on padding d outer kind compound room at i (header-fits d at))
+past-start padding d outer kind compound room p (Refused r) h = tt
 
 onward-length-is : (d : List ℕ) (n : ℕ) (c e : Reading) → Onward d c e → Onward d c (lengthIs n (placeOf c) e)
 unfolding lengthIs
@@ -240,22 +240,22 @@ onward-length-is d n c (At from v) w =
     pick-all (Onward d c) (eqb v n) (At from v) (no 5 (placeOf c)) (λ i. w) (λ i. fails d c 5 (placeOf c) (omega arith) (good-place d c))
 onward-length-is d n c (Refused r) w = w
 
-pub onward-start-of-length : (d : List ℕ) (outer kind : ℕ) (compound room : Bool) (n : ℕ) (c : Reading)
-    → Onward d c (startOfLength d outer kind compound room n c)
+pub onward-start-of-length : (padding : Bool) (d : List ℕ) (outer kind : ℕ) (compound room : Bool) (n : ℕ) (c : Reading)
+    → Onward d c (startOfLength padding d outer kind compound room n c)
 unfolding startOfLength
-onward-start-of-length d outer kind compound room n c =
-    onward-length-is d n c (startHere d outer kind compound room c) (onward-start d outer kind compound room c)
+onward-start-of-length padding d outer kind compound room n c =
+    onward-length-is d n c (startHere padding d outer kind compound room c) (onward-start padding d outer kind compound room c)
 
 past-length-is : (n p q : ℕ) (e : Reading) → Behind p e → Behind p (lengthIs n q e)
 unfolding lengthIs
 past-length-is n p q (At from v) h = pick-all (Behind p) (eqb v n) (At from v) (no 5 q) (λ i. h) (λ i. tt)
 past-length-is n p q (Refused r) h = tt
 
-pub past-start-of-length : (d : List ℕ) (outer kind : ℕ) (compound room : Bool) (n p : ℕ) (c : Reading) → Behind p c
-    → Behind (p + 1) (startOfLength d outer kind compound room n c)
+pub past-start-of-length : (padding : Bool) (d : List ℕ) (outer kind : ℕ) (compound room : Bool) (n p : ℕ) (c : Reading) → Behind p c
+    → Behind (p + 1) (startOfLength padding d outer kind compound room n c)
 unfolding startOfLength
-past-start-of-length d outer kind compound room n p c h =
-    past-length-is n (p + 1) (placeOf c) (startHere d outer kind compound room c) (past-start d outer kind compound room p c h)
+past-start-of-length padding d outer kind compound room n p c h =
+    past-length-is n (p + 1) (placeOf c) (startHere padding d outer kind compound room c) (past-start padding d outer kind compound room p c h)
 
 end-on : (d : List ℕ) (kind at : ℕ) (h : Header) → Fits at (length d - at) h → Gets d at at (endOn kind at h)
 end-on d kind at (header.Refused r) w = rw w (here d at at 2 (omega arith))
@@ -288,9 +288,9 @@ inside-on : (d : List ℕ) (at : ℕ) (p : Passed) → Ahead d at p → Gets d a
 inside-on d at (passed.To e) a = (omega arith, λ g. a .1)
 inside-on d at (passed.Refused r) a = λ g. nesting-fault (length d) r (a .2) (a .1 g)
 
-pub onward-inside : (d : List ℕ) (depth kind : ℕ) (c : Reading) → Onward d c (inside d depth kind c)
+pub onward-inside : (padding : Bool) (d : List ℕ) (depth kind : ℕ) (c : Reading) → Onward d c (inside padding d depth kind c)
 unfolding inside
-onward-inside d depth kind c = goes d c _ (λ at. inside-on d at (runAt d at depth kind) (run-ahead d at depth kind))
+onward-inside padding d depth kind c = goes d c _ (λ at. inside-on d at (runAt padding d at depth kind) (run-ahead padding d at depth kind))
 
 pub onward-finish : (d : List ℕ) (c : Reading) → Onward d c (finish d c)
 unfolding finish

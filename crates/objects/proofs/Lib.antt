@@ -19,6 +19,7 @@ pub mod Types
 pub mod Written
 pub mod ObjectsWritten
 pub mod StepsCarry
+pub mod StepsTaken
 pub mod Telling
 pub mod OneAnswers
 pub mod WrongAnswers

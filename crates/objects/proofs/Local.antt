@@ -15,11 +15,11 @@ use Rattle.laws.specs.Bytes.{le}
 use Rattle.laws.proofs.Cases.{by-lt, by-eq, impossible}
 use Rattle.laws.proofs.Parts.{same-first}
 use Rattle.numbers.specs.Refusals.{faultAt}
-use Rattle.numbers.specs.Compact.{readCompact}
+use Rattle.numbers.specs.Compact.{compactFor}
 use Rattle.numbers.specs.declared.compact.Compact.{Compact}
 use Rattle.numbers.specs.declared.compact.Compact.the-variants as compact
 use Rattle.laws.proofs.Agreement.{Agree, Same, same-less, same-behind}
-use Rattle.numbers.proofs.OwnBytes.{compact-own}
+use Rattle.numbers.proofs.OwnBytes.{compact-for-own}
 use Rattle.objects.specs.Header.{startOf, endOf, sized, headerOf, headerAt, escape, lengthOn, lengthAt}
 use Rattle.objects.specs.Nesting.{dataOn, dataPast, objectAt, runAt}
 use Rattle.objects.specs.declared.header.Header.{Header}
@@ -92,24 +92,24 @@ module _ (s : List ℕ) (p : ℕ) (t : List ℕ) (p′ : ℕ) where
 
   pub end-local : (k u : ℕ) → headerAt s p ≡ End k u → Same s p t p′ u → headerAt t p′ ≡ End k u
   end-local k u e a = header-own (End k u) e (header-fits-at s p (End k u) e .0) a
-
   -- ---- the true length, and the data
 
-  length-on-local : (v m : ℕ) (r : Compact) → readCompact (drop p s) ≡ r → Same s p t p′ m → lengthOn p r ≡ Is v (p + m)
-      → lengthOn p′ (readCompact (drop p′ t)) ≡ Is v (p′ + m)
-  length-on-local v m (compact.Value w i) c a e =
+module _ (padding : Bool) (s : List ℕ) (p : ℕ) (t : List ℕ) (p′ : ℕ) where
+  length-on-local : (v m : ℕ) (r : Compact) → compactFor padding (drop p s) ≡ r → Same s p t p′ m → lengthOn p r ≡ Is v (p + m)
+      → lengthOn p′ (compactFor padding (drop p′ t)) ≡ Is v (p′ + m)
+  length-on-local v m (compact.Value w i padded) c a e =
       let x : w ≡ v = cc in
       let q : p + i ≡ p + m = cc in
       let z : m ≡ i = omega arith in
       let b : Same s p t p′ i = rw z at a in
-      rw (compact-own (drop p s) (drop p′ t) w i c (compact-fits s p w i c .0) b, x, z)
+      rw (compact-for-own padding (drop p s) (drop p′ t) w i padded c (compact-fits padding s p w i padded c .0) b, x, z)
   length-on-local v m (compact.Refused r) c a e = impossible (cc)
 
-  pub length-local : (n v m : ℕ) → lengthAt s p n ≡ Is v (p + m) → Same s p t p′ m → lengthAt t p′ n ≡ Is v (p′ + m)
+  pub length-local : (n v m : ℕ) → lengthAt padding s p n ≡ Is v (p + m) → Same s p t p′ m → lengthAt padding t p′ n ≡ Is v (p′ + m)
   unfolding lengthAt
   length-local n v m e a =
       by-eq n escape
-      (λ q. rw (eq-eqb _ _ q) (length-on-local v m (readCompact (drop p s)) refl a (rw (eq-eqb _ _ q) at e)))
+      (λ q. rw (eq-eqb _ _ q) (length-on-local v m (compactFor padding (drop p s)) refl a (rw (eq-eqb _ _ q) at e)))
       (λ q.
       let z : Is n p ≡ Is v (p + m) = rw (ne-eqb _ _ q) at e in
       let x : n ≡ v = cc in
@@ -117,10 +117,10 @@ module _ (s : List ℕ) (p : ℕ) (t : List ℕ) (p′ : ℕ) where
       let i : p′ ≡ p′ + m = omega arith in
       rw (ne-eqb _ _ q) (ap (λ (k : ℕ). Is k p′) x ∙ ap (λ (k : ℕ). Is v k) i))
 
-  data-on-local : (n e : ℕ) (l : Length) → lengthAt s p n ≡ l → dataOn s l ≡ To e → Same s p t p′ (e - p)
-      → dataOn t (lengthAt t p′ n) ≡ To (p′ + (e - p))
+  data-on-local : (n e : ℕ) (l : Length) → lengthAt padding s p n ≡ l → dataOn s l ≡ To e → Same s p t p′ (e - p)
+      → dataOn t (lengthAt padding t p′ n) ≡ To (p′ + (e - p))
   data-on-local n e (Is v from) l q a =
-      let w = length-fits-at s p n (Is v from) l in
+      let w = length-fits-at padding s p n (Is v from) l in
       by-lt (length s - from) v
       (λ h. absurd (no-place (rw (lt-ltb _ _ h) at q)))
       (λ h.
@@ -133,31 +133,31 @@ module _ (s : List ℕ) (p : ℕ) (t : List ℕ) (p′ : ℕ) where
       rw (b, le-ltb _ _ m, o))
   data-on-local n e (length′.Refused r) l q a = absurd (no-place q)
 
-  data-local : (n e : ℕ) → dataPast s p n ≡ To e → Same s p t p′ (e - p) → dataPast t p′ n ≡ To (p′ + (e - p))
+  data-local : (n e : ℕ) → dataPast padding s p n ≡ To e → Same s p t p′ (e - p) → dataPast padding t p′ n ≡ To (p′ + (e - p))
   unfolding dataPast
-  data-local n e q a = data-on-local n e (lengthAt s p n) refl q a
+  data-local n e q a = data-on-local n e (lengthAt padding s p n) refl q a
 
 -- ---- objects and runs
 
 -- the data is at or behind its header
-data-next : (s : List ℕ) (at n e : ℕ) → dataPast s at n ≡ To e → at ≤ e
-data-next s at n e q = data-ahead-at s at n (To e) q .0
+data-next : (padding : Bool) (s : List ℕ) (at n e : ℕ) → dataPast padding s at n ≡ To e → at ≤ e
+data-next padding s at n e q = data-ahead-at padding s at n (To e) q .0
 
-abbrev ObjectLocal : List ℕ → List ℕ → ℕ → ℕ → ℕ → Type 0
-ObjectLocal s t at d e = (at′ : ℕ) → Same s at t at′ (e - at) → objectAt t at′ d ≡ To (at′ + (e - at))
+abbrev ObjectLocal : Bool → List ℕ → List ℕ → ℕ → ℕ → ℕ → Type 0
+ObjectLocal padding s t at d e = (at′ : ℕ) → Same s at t at′ (e - at) → objectAt padding t at′ d ≡ To (at′ + (e - at))
 
-abbrev RunLocal : List ℕ → List ℕ → ℕ → ℕ → ℕ → ℕ → Type 0
-RunLocal s t at d kind e = (at′ : ℕ) → Same s at t at′ (e - at) → runAt t at′ d kind ≡ To (at′ + (e - at))
+abbrev RunLocal : Bool → List ℕ → List ℕ → ℕ → ℕ → ℕ → ℕ → Type 0
+RunLocal padding s t at d kind e = (at′ : ℕ) → Same s at t at′ (e - at) → runAt padding t at′ d kind ≡ To (at′ + (e - at))
 
 -- where a header and its data stand in t too
-headed : (s t : List ℕ) (at k : ℕ) (c : Bool) (n u e at′ : ℕ) → headerAt s at ≡ Start k c n u → dataPast s (at + u) n ≡ To e
-    → Same s at t at′ (e - at) → (headerAt t at′ ≡ Start k c n u) × (dataPast t (at′ + u) n ≡ To (at′ + (e - at)))
-headed s t at k c n u e at′ h q a =
-    let l = data-next s (at + u) n e q in
+headed : (padding : Bool) (s t : List ℕ) (at k : ℕ) (c : Bool) (n u e at′ : ℕ) → headerAt s at ≡ Start k c n u → dataPast padding s (at + u) n ≡ To e
+    → Same s at t at′ (e - at) → (headerAt t at′ ≡ Start k c n u) × (dataPast padding t (at′ + u) n ≡ To (at′ + (e - at)))
+headed padding s t at k c n u e at′ h q a =
+    let l = data-next padding s (at + u) n e q in
     let i : at + u - at ≡ u = omega arith in
     let b : Same s (at + u) t (at′ + u) (e - (at + u)) = rw i at (same-behind s at t at′ (at + u) e (omega arith) l a) in (
       start-local s at t at′ k c n u h (same-less s at t at′ (e - at) u (omega arith) a),
-      data-local s (at + u) t (at′ + u) n e q b ∙ ap (λ (m : ℕ). To m) (omega arith),
+      data-local padding s (at + u) t (at′ + u) n e q b ∙ ap (λ (m : ℕ). To m) (omega arith),
     )
 
 -- one part up to m, and what follows it up to e
@@ -168,30 +168,30 @@ module _ (s : List ℕ) (at : ℕ) (t : List ℕ) (at′ m e : ℕ) (l : at ≤ 
   rest : (run : ℕ → Passed) → ((i : ℕ) → Same s m t i (e - m) → run i ≡ To (i + (e - m))) → run (at′ + (m - at)) ≡ To (at′ + (e - at))
   rest run f = f (at′ + (m - at)) (same-behind s at t at′ m e l (omega arith) a) ∙ ap (λ (i : ℕ). To i) (omega arith)
 
-local : (s t : List ℕ) → Kept s (ObjectLocal s t) (RunLocal s t)
-local s t =
+local : (padding : Bool) (s t : List ℕ) → Kept padding s (ObjectLocal padding s t) (RunLocal padding s t)
+local padding s t =
     record {
-      plain = λ at d k n u e h q at′ a. let w = headed s t at k false n u e at′ h q a in object-plain t at′ d k n u (w .0) ∙ w .1;
+      plain = λ at d k n u e h q at′ a. let w = headed padding s t at k false n u e at′ h q a in object-plain padding t at′ d k n u (w .0) ∙ w .1;
       compound = λ at d k n u m e h q r f at′ a.
-          let l : at ≤ m = let x = data-next s (at + u) n m q in omega arith in
-          let i = run-next s m d k e r .0 in
-          let w = headed s t at k true n u m at′ h q (front s at t at′ m e l i a) in
-          object-compound t at′ d k n u (at′ + (m - at)) (w .0) (w .1) ∙ rest s at t at′ m e l i a (λ j. runAt t j d k) f;
+          let l : at ≤ m = let x = data-next padding s (at + u) n m q in omega arith in
+          let i = run-next padding s m d k e r .0 in
+          let w = headed padding s t at k true n u m at′ h q (front s at t at′ m e l i a) in
+          object-compound padding t at′ d k n u (at′ + (m - at)) (w .0) (w .1) ∙ rest s at t at′ m e l i a (λ j. runAt padding t j d k) f;
       end = λ at d kind u h at′ a.
           let z : at + u - at ≡ u = omega arith in
-          rw z (run-end t at′ d kind u (end-local s at t at′ kind u h (rw z at a)));
+          rw z (run-end padding t at′ d kind u (end-local s at t at′ kind u h (rw z at a)));
       object = λ at d kind m e o g r f at′ a.
-          let l : at ≤ m = let x = object-next s at d m o in omega arith in
-          let i = run-next s m d kind e r .0 in
-          run-object t at′ d kind (at′ + (m - at)) (g at′ (front s at t at′ m e l i a)) ∙ rest s at t at′ m e l i a (λ j. runAt t j d kind) f;
+          let l : at ≤ m = let x = object-next padding s at d m o in omega arith in
+          let i = run-next padding s m d kind e r .0 in
+          run-object padding t at′ d kind (at′ + (m - at)) (g at′ (front s at t at′ m e l i a)) ∙ rest s at t at′ m e l i a (λ j. runAt padding t j d kind) f;
     }
 
-pub object-local : (s : List ℕ) (p : ℕ) (t : List ℕ) (p′ d n : ℕ) → objectAt s p d ≡ To (p + n) → Same s p t p′ n → objectAt t p′ d ≡ To (p′ + n)
-object-local s p t p′ d n q a =
+pub object-local : (padding : Bool) (s : List ℕ) (p : ℕ) (t : List ℕ) (p′ d n : ℕ) → objectAt padding s p d ≡ To (p + n) → Same s p t p′ n → objectAt padding t p′ d ≡ To (p′ + n)
+object-local padding s p t p′ d n q a =
     let z : p + n - p ≡ n = omega arith in
-    rw z at (object-ind s (ObjectLocal s t) (RunLocal s t) (local s t) d p (p + n) q p′ (rw z a))
+    rw z at (object-ind padding s (ObjectLocal padding s t) (RunLocal padding s t) (local padding s t) d p (p + n) q p′ (rw z a))
 
-pub run-local : (s : List ℕ) (p : ℕ) (t : List ℕ) (p′ d kind n : ℕ) → runAt s p d kind ≡ To (p + n) → Same s p t p′ n → runAt t p′ d kind ≡ To (p′ + n)
-run-local s p t p′ d kind n q a =
+pub run-local : (padding : Bool) (s : List ℕ) (p : ℕ) (t : List ℕ) (p′ d kind n : ℕ) → runAt padding s p d kind ≡ To (p + n) → Same s p t p′ n → runAt padding t p′ d kind ≡ To (p′ + n)
+run-local padding s p t p′ d kind n q a =
     let z : p + n - p ≡ n = omega arith in
-    rw z at (run-ind s (ObjectLocal s t) (RunLocal s t) (local s t) d kind p (p + n) q p′ (rw z a))
+    rw z at (run-ind padding s (ObjectLocal padding s t) (RunLocal padding s t) (local padding s t) d kind p (p + n) q p′ (rw z a))

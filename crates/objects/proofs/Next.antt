@@ -1,6 +1,7 @@
 -- What stands at a place of a run: by its two bytes where its header is short; that it lies ahead; and an object and a run by it. Only the
 -- proofs of `nesting` need this.
 -- Assumes nothing.
+use mathlib.Core.Bool.{Bool}
 use mathlib.Core.Path.{_≡_, refl, sym, ap, subst, _∙_}
 use mathlib.Core.List.{List}
 use Prim.Native.Nat.{ℕ, _+_, _-_, _/_, _%_, _≤_, _<_}
@@ -36,18 +37,18 @@ set-bit x h = omega arith
 clear-bit : (x : ℕ) → x % 2 ≡ 0 → x % 2 ≡ 1 → ⊥
 clear-bit x h e = omega arith
 
-module _ (s : List ℕ) (at d w : ℕ) (is : shortNumber s at ≡ w) (low : w % 4 ≡ 0) (few : w / 8 / 64 ≤ 127) (fits : w / 8 / 64 ≤ length s - at - 2) where
-  next-start : nextAt s at d
+module _ (padding : Bool) (s : List ℕ) (at d w : ℕ) (is : shortNumber s at ≡ w) (low : w % 4 ≡ 0) (few : w / 8 / 64 ≤ 127) (fits : w / 8 / 64 ≤ length s - at - 2) where
+  next-start : nextAt padding s at d
       ≡ pick (eqb (w / 4 % 2) 1) (pick (eqb d 0) (next.Refused (faultAt 6 at)) (next.Opens (w / 8 % 64) (at + 2 + w / 8 / 64))) (next.Past (at + 2 + w / 8 / 64))
   unfolding nextAt startOf
   next-start =
       let m : w / 8 / 64 ≤ length s - (at + 2) = omega arith in
-      rw (short-start s at (ap (λ (x : ℕ). x % 4) is ∙ low), is, short-data s (at + 2) (w / 8 / 64) few m)
+      rw (short-start s at (ap (λ (x : ℕ). x % 4) is ∙ low), is, short-data padding s (at + 2) (w / 8 / 64) few m)
 
-  pub next-plain : w / 4 % 2 ≡ 0 → nextAt s at d ≡ next.Past (at + 2 + w / 8 / 64)
+  pub next-plain : w / 4 % 2 ≡ 0 → nextAt padding s at d ≡ next.Past (at + 2 + w / 8 / 64)
   next-plain b = next-start ∙ rw (ne-eqb (w / 4 % 2) 1 (clear-bit (w / 4) b))
 
-  pub next-opens : (w / 4 % 2 ≡ 0 → ⊥) → (d ≡ 0 → ⊥) → nextAt s at d ≡ next.Opens (w / 8 % 64) (at + 2 + w / 8 / 64)
+  pub next-opens : (w / 4 % 2 ≡ 0 → ⊥) → (d ≡ 0 → ⊥) → nextAt padding s at d ≡ next.Opens (w / 8 % 64) (at + 2 + w / 8 / 64)
   next-opens b z = next-start ∙ rw (eq-eqb (w / 4 % 2) 1 (set-bit (w / 4) b), ne-eqb d 0 z)
 
 -- ---- the short start of a compound object, w as a number, by the place behind its data
@@ -78,13 +79,13 @@ module _ (s : List ℕ) (at d w : ℕ) (is : shortNumber s at ≡ w) where
           rw (is, eq-eqb (w % 8) 4 low, ne-eqb d 0 more, le-ltb (length s - at - 2) (w / 8 / 64) fits, le-ltb 127 (w / 8 / 64) few, end)
 
 -- a place that is told so, and not 0, is where the run inside starts
-abbrev Opening : List ℕ → ℕ → ℕ → ℕ → Type 0
-Opening s at d e = (e ≡ 0 → ⊥) → nextAt s at d ≡ next.Opens (shortNumber s at / 8 % 64) e
+abbrev Opening : Bool → List ℕ → ℕ → ℕ → ℕ → Type 0
+Opening padding s at d e = (e ≡ 0 → ⊥) → nextAt padding s at d ≡ next.Opens (shortNumber s at / 8 % 64) e
 
-opened-here : (s : List ℕ) (at d : ℕ) → Opening s at d (openedAt s at d)
+opened-here : (padding : Bool) (s : List ℕ) (at d : ℕ) → Opening padding s at d (openedAt s at d)
 unfolding openedAt
-opened-here s at d =
-    let P = Opening s at d in
+opened-here padding s at d =
+    let P = Opening padding s at d in
     let w = shortNumber s at in
     pick-all P (eqb (w % 8) 4) _ _
     (λ a.
@@ -95,16 +96,16 @@ opened-here s at d =
     pick-all P (ltb 127 (w / 8 / 64)) _ _ (λ f z. absurd (z refl))
     (λ f z.
     let low = eqb-true (w % 8) 4 a in
-    next-opens s at d w refl (omega arith) (ltb-false 127 (w / 8 / 64) f) (ltb-false (length s - at - 2) (w / 8 / 64) c) (λ h. omega arith) (eqb-false d 0 b)))))
+    next-opens padding s at d w refl (omega arith) (ltb-false 127 (w / 8 / 64) f) (ltb-false (length s - at - 2) (w / 8 / 64) c) (λ h. omega arith) (eqb-false d 0 b)))))
     (λ a z. absurd (z refl))
 
-pub opened-opens : (s : List ℕ) (at d w e kind inside : ℕ) → shortNumber s at ≡ w → openedAt s at d ≡ e → (e ≡ 0 → ⊥) → kind ≡ w / 8 % 64 → inside ≡ e
-    → nextAt s at d ≡ next.Opens kind inside
-opened-opens s at d w e kind inside is o z k i = rw (k, i, sym is) (subst (Opening s at d) o (opened-here s at d) z)
+pub opened-opens : (padding : Bool) (s : List ℕ) (at d w e kind inside : ℕ) → shortNumber s at ≡ w → openedAt s at d ≡ e → (e ≡ 0 → ⊥) → kind ≡ w / 8 % 64 → inside ≡ e
+    → nextAt padding s at d ≡ next.Opens kind inside
+opened-opens padding s at d w e kind inside is o z k i = rw (k, i, sym is) (subst (Opening padding s at d) o (opened-here padding s at d) z)
 
 -- what opens a run, by names of its type and place
-pub opens-as : (s : List ℕ) (at d k e kind inside : ℕ) → nextAt s at d ≡ next.Opens k e → kind ≡ k → inside ≡ e → nextAt s at d ≡ next.Opens kind inside
-opens-as s at d k e kind inside n p q = rw (p, q) n
+pub opens-as : (padding : Bool) (s : List ℕ) (at d k e kind inside : ℕ) → nextAt padding s at d ≡ next.Opens k e → kind ≡ k → inside ≡ e → nextAt padding s at d ≡ next.Opens kind inside
+opens-as padding s at d k e kind inside n p q = rw (p, q) n
 
 -- ---- where the next thing stands
 
@@ -123,43 +124,43 @@ opening-ahead : (s : List ℕ) (at from d k : ℕ) (p : Passed) → at < from �
 opening-ahead s at from d k (To e) h l z w = let x = w .1 l in (omega arith, x, z)
 opening-ahead s at from d k (Refused r) h l z w = tt
 
-next-on-ahead : (s : List ℕ) (at d : ℕ) (h : Header) → Fits at (length s - at) h → NextAhead s at d (nextOn s at d h)
-next-on-ahead s at d (header.Refused r) w = tt
-next-on-ahead s at d (header.End k u) w = (omega arith, omega arith)
-next-on-ahead s at d (header.Start k c n u) w =
+next-on-ahead : (padding : Bool) (s : List ℕ) (at d : ℕ) (h : Header) → Fits at (length s - at) h → NextAhead s at d (nextOn padding s at d h)
+next-on-ahead padding s at d (header.Refused r) w = tt
+next-on-ahead padding s at d (header.End k u) w = (omega arith, omega arith)
+next-on-ahead padding s at d (header.Start k c n u) w =
     let a : at < at + u = omega arith in
     let b : at + u ≤ length s = omega arith in
-    let p = data-ahead s (at + u) n in
+    let p = data-ahead padding s (at + u) n in
     pick-all (NextAhead s at d) c _ _
-    (λ t. pick-all (NextAhead s at d) (eqb d 0) _ _ (λ z. tt) (λ z. let y = eqb-false d 0 z in opening-ahead s at (at + u) d k (dataPast s (at + u) n) a b (omega arith) p))
-    (λ t. passing-ahead s at (at + u) d (dataPast s (at + u) n) a b p)
+    (λ t. pick-all (NextAhead s at d) (eqb d 0) _ _ (λ z. tt) (λ z. let y = eqb-false d 0 z in opening-ahead s at (at + u) d k (dataPast padding s (at + u) n) a b (omega arith) p))
+    (λ t. passing-ahead s at (at + u) d (dataPast padding s (at + u) n) a b p)
 
-pub next-ahead : (s : List ℕ) (at d : ℕ) (n : Next) → nextAt s at d ≡ n → NextAhead s at d n
+pub next-ahead : (padding : Bool) (s : List ℕ) (at d : ℕ) (n : Next) → nextAt padding s at d ≡ n → NextAhead s at d n
 unfolding nextAt
-next-ahead s at d n e = subst (NextAhead s at d) e (next-on-ahead s at d (headerAt s at) (header-fits s at))
+next-ahead padding s at d n e = subst (NextAhead s at d) e (next-on-ahead padding s at d (headerAt s at) (header-fits s at))
 
 -- ---- an object, and a run, by what stands there
 
-object-passing : (s : List ℕ) (at d : ℕ) (p : Passed) → p ≡ objectOn s at d (passing p)
-object-passing s at d (To e) = refl
-object-passing s at d (Refused r) = refl
+object-passing : (padding : Bool) (s : List ℕ) (at d : ℕ) (p : Passed) → p ≡ objectOn padding s at d (passing p)
+object-passing padding s at d (To e) = refl
+object-passing padding s at d (Refused r) = refl
 
-object-opening : (s : List ℕ) (at d k : ℕ) (p : Passed) → andOn p (λ e. runAt s e (d - 1) k) ≡ objectOn s at d (opening k p)
-object-opening s at d k (To e) = refl
-object-opening s at d k (Refused r) = refl
+object-opening : (padding : Bool) (s : List ℕ) (at d k : ℕ) (p : Passed) → andOn p (λ e. runAt padding s e (d - 1) k) ≡ objectOn padding s at d (opening k p)
+object-opening padding s at d k (To e) = refl
+object-opening padding s at d k (Refused r) = refl
 
-object-by-header : (s : List ℕ) (at d : ℕ) (h : Header) → headerAt s at ≡ h → objectAt s at d ≡ objectOn s at d (nextOn s at d h)
-object-by-header s at d (header.Refused r) e = object-at s at d (header.Refused r) e
-object-by-header s at d (header.End k u) e = object-at s at d (header.End k u) e
-object-by-header s at d (header.Start k c n u) e =
-    object-at s at d (header.Start k c n u) e
+object-by-header : (padding : Bool) (s : List ℕ) (at d : ℕ) (h : Header) → headerAt s at ≡ h → objectAt padding s at d ≡ objectOn padding s at d (nextOn padding s at d h)
+object-by-header padding s at d (header.Refused r) e = object-at padding s at d (header.Refused r) e
+object-by-header padding s at d (header.End k u) e = object-at padding s at d (header.End k u) e
+object-by-header padding s at d (header.Start k c n u) e =
+    object-at padding s at d (header.Start k c n u) e
     ∙ by-bool c
-    (λ t. rw t (by-bool (eqb d 0) (λ z. rw z) (λ z. rw z (object-opening s at d k (dataPast s (at + u) n)))))
-    (λ t. rw t (object-passing s at d (dataPast s (at + u) n)))
+    (λ t. rw t (by-bool (eqb d 0) (λ z. rw z) (λ z. rw z (object-opening padding s at d k (dataPast padding s (at + u) n)))))
+    (λ t. rw t (object-passing padding s at d (dataPast padding s (at + u) n)))
 
-pub object-next-on : (s : List ℕ) (at d : ℕ) (n : Next) → nextAt s at d ≡ n → objectAt s at d ≡ objectOn s at d n
+pub object-next-on : (padding : Bool) (s : List ℕ) (at d : ℕ) (n : Next) → nextAt padding s at d ≡ n → objectAt padding s at d ≡ objectOn padding s at d n
 unfolding nextAt
-object-next-on s at d n e = object-by-header s at d (headerAt s at) refl ∙ ap (objectOn s at d) e
+object-next-on padding s at d n e = object-by-header padding s at d (headerAt s at) refl ∙ ap (objectOn padding s at d) e
 
 -- ---- what a run meets, by the two bytes that stand there
 
@@ -212,79 +213,79 @@ opening-object : (kind k : ℕ) (p : Passed) → metNext kind (opening k p) ≡ 
 opening-object kind k (To e) = refl
 opening-object kind k (Refused r) = refl
 
-next-met-on : (s : List ℕ) (kind at d : ℕ) (h : Header) → metNext kind (nextOn s at d h) ≡ metBy kind at h
-next-met-on s kind at d (header.Refused r) = refl
-next-met-on s kind at d (header.End k u) = refl
-next-met-on s kind at d (header.Start k c n u) =
+next-met-on : (padding : Bool) (s : List ℕ) (kind at d : ℕ) (h : Header) → metNext kind (nextOn padding s at d h) ≡ metBy kind at h
+next-met-on padding s kind at d (header.Refused r) = refl
+next-met-on padding s kind at d (header.End k u) = refl
+next-met-on padding s kind at d (header.Start k c n u) =
     by-bool c
-    (λ t. rw t (by-bool (eqb d 0) (λ z. rw z) (λ z. rw z (opening-object kind k (dataPast s (at + u) n)))))
-    (λ t. rw t (passing-object kind (dataPast s (at + u) n)))
+    (λ t. rw t (by-bool (eqb d 0) (λ z. rw z) (λ z. rw z (opening-object kind k (dataPast padding s (at + u) n)))))
+    (λ t. rw t (passing-object kind (dataPast padding s (at + u) n)))
 
-pub next-met : (s : List ℕ) (kind at d : ℕ) (n : Next) → nextAt s at d ≡ n → metNext kind n ≡ metBy kind at (headerAt s at)
+pub next-met : (padding : Bool) (s : List ℕ) (kind at d : ℕ) (n : Next) → nextAt padding s at d ≡ n → metNext kind n ≡ metBy kind at (headerAt s at)
 unfolding nextAt
-next-met s kind at d n e = ap (metNext kind) (sym e) ∙ next-met-on s kind at d (headerAt s at)
+next-met padding s kind at d n e = ap (metNext kind) (sym e) ∙ next-met-on padding s kind at d (headerAt s at)
 
-module _ (s : List ℕ) (kind at d k e : ℕ) (n : nextAt s at d ≡ next.Ends k e) where
+module _ (padding : Bool) (s : List ℕ) (kind at d k e : ℕ) (n : nextAt padding s at d ≡ next.Ends k e) where
   pub next-own-end : k ≡ kind → met.Ended e ≡ metBy kind at (headerAt s at)
-  next-own-end own = rw (eq-eqb k kind own) at (next-met s kind at d (next.Ends k e) n)
+  next-own-end own = rw (eq-eqb k kind own) at (next-met padding s kind at d (next.Ends k e) n)
 
   pub next-other-end : (k ≡ kind → ⊥) → met.Object ≡ metBy kind at (headerAt s at)
-  next-other-end other = rw (ne-eqb k kind other) at (next-met s kind at d (next.Ends k e) n)
+  next-other-end other = rw (ne-eqb k kind other) at (next-met padding s kind at d (next.Ends k e) n)
 
 -- ---- a run, by what it meets
 
 -- a plain object, and the run goes on behind it; its own end; an object, and the run goes on behind it
-abbrev pub Meets : List ℕ → ℕ → ℕ → Met → Type 0
-Meets s kind at (met.Plain e) = (d : ℕ) → (runAt s at d kind ≡ runAt s e d kind) × (at < e) × (e ≤ length s)
-Meets s kind at (met.Ended e) = (d : ℕ) → runAt s at d kind ≡ To e
-Meets s kind at met.Object = (d : ℕ) (p : Passed) → objectAt s at d ≡ p → runAt s at d kind ≡ andOn p (λ i. runAt s i d kind)
+abbrev pub Meets : Bool → List ℕ → ℕ → ℕ → Met → Type 0
+Meets padding s kind at (met.Plain e) = (d : ℕ) → (runAt padding s at d kind ≡ runAt padding s e d kind) × (at < e) × (e ≤ length s)
+Meets padding s kind at (met.Ended e) = (d : ℕ) → runAt padding s at d kind ≡ To e
+Meets padding s kind at met.Object = (d : ℕ) (p : Passed) → objectAt padding s at d ≡ p → runAt padding s at d kind ≡ andOn p (λ i. runAt padding s i d kind)
 
 and-onward : (p : Passed) (go : ℕ → Passed) → after go (onward p) ≡ andOn p go
 and-onward (To e) go = refl
 and-onward (Refused r) go = refl
 
 -- what both refuse alike
-both-refuse : (s : List ℕ) (kind at d : ℕ) (r : Refusal) (p : Passed) → runAt s at d kind ≡ Refused r → objectAt s at d ≡ Refused r → objectAt s at d ≡ p
-    → runAt s at d kind ≡ andOn p (λ i. runAt s i d kind)
-both-refuse s kind at d r p run object o = run ∙ ap (λ (x : Passed). andOn x (λ i. runAt s i d kind)) (sym object ∙ o)
+both-refuse : (padding : Bool) (s : List ℕ) (kind at d : ℕ) (r : Refusal) (p : Passed) → runAt padding s at d kind ≡ Refused r → objectAt padding s at d ≡ Refused r → objectAt padding s at d ≡ p
+    → runAt padding s at d kind ≡ andOn p (λ i. runAt padding s i d kind)
+both-refuse padding s kind at d r p run object o = run ∙ ap (λ (x : Passed). andOn x (λ i. runAt padding s i d kind)) (sym object ∙ o)
 
-by-header-met : (s : List ℕ) (kind at : ℕ) (h : Header) → headerAt s at ≡ h → Meets s kind at (metBy kind at h)
-by-header-met s kind at (header.Refused r) q = λ d p o.
-    both-refuse s kind at d r p (run-at s at d kind (header.Refused r) q) (object-at s at d (header.Refused r) q) o
-by-header-met s kind at (header.End k u) q =
-    pick-all (Meets s kind at) (eqb k kind) _ _
-    (λ t d. run-at s at d kind (header.End k u) q ∙ rw t)
-    (λ t d p o. both-refuse s kind at d (faultAt 4 at) p (run-at s at d kind (header.End k u) q ∙ rw t) (object-at s at d (header.End k u) q) o)
-by-header-met s kind at (header.Start k c n u) q = λ d p o. run-start s at d kind k c n u q p o ∙ and-onward p (λ i. runAt s i d kind)
+by-header-met : (padding : Bool) (s : List ℕ) (kind at : ℕ) (h : Header) → headerAt s at ≡ h → Meets padding s kind at (metBy kind at h)
+by-header-met padding s kind at (header.Refused r) q = λ d p o.
+    both-refuse padding s kind at d r p (run-at padding s at d kind (header.Refused r) q) (object-at padding s at d (header.Refused r) q) o
+by-header-met padding s kind at (header.End k u) q =
+    pick-all (Meets padding s kind at) (eqb k kind) _ _
+    (λ t d. run-at padding s at d kind (header.End k u) q ∙ rw t)
+    (λ t d p o. both-refuse padding s kind at d (faultAt 4 at) p (run-at padding s at d kind (header.End k u) q ∙ rw t) (object-at padding s at d (header.End k u) q) o)
+by-header-met padding s kind at (header.Start k c n u) q = λ d p o. run-start padding s at d kind k c n u q p o ∙ and-onward p (λ i. runAt padding s i d kind)
 
-module _ (s : List ℕ) (kind at w : ℕ) (is : shortNumber s at ≡ w) (low : w % 8 ≡ 0) where
+module _ (padding : Bool) (s : List ℕ) (kind at w : ℕ) (is : shortNumber s at ≡ w) (low : w % 8 ≡ 0) where
   start-here : headerAt s at ≡ header.Start (w / 8 % 64) (eqb (w / 4 % 2) 1) (w / 8 / 64) 2
   unfolding startOf
   start-here = short-start s at (ap (λ (x : ℕ). x % 4) is ∙ omega arith) ∙ rw is
 
-  object-met : Meets s kind at met.Object
-  object-met = by-header-met s kind at (header.Start (w / 8 % 64) (eqb (w / 4 % 2) 1) (w / 8 / 64) 2) start-here
+  object-met : Meets padding s kind at met.Object
+  object-met = by-header-met padding s kind at (header.Start (w / 8 % 64) (eqb (w / 4 % 2) 1) (w / 8 / 64) 2) start-here
 
-  plain-met : w / 8 / 64 ≤ length s - at - 2 → w / 8 / 64 ≤ 127 → Meets s kind at (met.Plain (at + 2 + w / 8 / 64))
+  plain-met : w / 8 / 64 ≤ length s - at - 2 → w / 8 / 64 ≤ 127 → Meets padding s kind at (met.Plain (at + 2 + w / 8 / 64))
   plain-met fits few = λ d.
       let e = at + 2 + w / 8 / 64 in
-      let x = next-plain s at d w is (omega arith) few fits (omega arith) in
-      let a = next-ahead s at d (next.Past e) x in
-      (run-start s at d kind (w / 8 % 64) (eqb (w / 4 % 2) 1) (w / 8 / 64) 2 start-here (To e) (object-next-on s at d (next.Past e) x), a .0, a .1)
+      let x = next-plain padding s at d w is (omega arith) few fits (omega arith) in
+      let a = next-ahead padding s at d (next.Past e) x in
+      (run-start padding s at d kind (w / 8 % 64) (eqb (w / 4 % 2) 1) (w / 8 / 64) 2 start-here (To e) (object-next-on padding s at d (next.Past e) x), a .0, a .1)
 
-  start-met : Meets s kind at (plainOn s at (w / 8 / 64))
+  start-met : Meets padding s kind at (plainOn s at (w / 8 / 64))
   start-met =
-      pick-all (Meets s kind at) (ltb (length s - at - 2) (w / 8 / 64)) _ _ (λ t. object-met)
+      pick-all (Meets padding s kind at) (ltb (length s - at - 2) (w / 8 / 64)) _ _ (λ t. object-met)
       (λ t.
-      pick-all (Meets s kind at) (ltb 127 (w / 8 / 64)) _ _ (λ u. object-met)
+      pick-all (Meets padding s kind at) (ltb 127 (w / 8 / 64)) _ _ (λ u. object-met)
       (λ u. plain-met (ltb-false (length s - at - 2) (w / 8 / 64) t) (ltb-false 127 (w / 8 / 64) u)))
 
-met-here : (s : List ℕ) (kind at : ℕ) → Meets s kind at (metAt s kind at)
+met-here : (padding : Bool) (s : List ℕ) (kind at : ℕ) → Meets padding s kind at (metAt s kind at)
 unfolding metAt
-met-here s kind at =
-    pick-all (Meets s kind at) (eqb (shortNumber s at % 8) 0) _ _
-    (λ t. start-met s kind at (shortNumber s at) refl (eqb-true (shortNumber s at % 8) 0 t))
-    (λ t. by-header-met s kind at (headerAt s at) refl)
+met-here padding s kind at =
+    pick-all (Meets padding s kind at) (eqb (shortNumber s at % 8) 0) _ _
+    (λ t. start-met padding s kind at (shortNumber s at) refl (eqb-true (shortNumber s at % 8) 0 t))
+    (λ t. by-header-met padding s kind at (headerAt s at) refl)
 
-pub met-is : (s : List ℕ) (kind at : ℕ) (m : Met) → metAt s kind at ≡ m → Meets s kind at m
-met-is s kind at m e = subst (Meets s kind at) e (met-here s kind at)
+pub met-is : (padding : Bool) (s : List ℕ) (kind at : ℕ) (m : Met) → metAt s kind at ≡ m → Meets padding s kind at m
+met-is padding s kind at m e = subst (Meets padding s kind at) e (met-here padding s kind at)

@@ -65,9 +65,9 @@ pub short-room : (s : List ℕ) (at w low : ℕ) → shortNumber s at ≡ w → 
 short-room s at w low is e h = short-there s at (λ x. let y : w ≡ 3 = sym is ∙ x in omega arith) .0
 
 -- so many bytes of data that are there
-pub short-data : (s : List ℕ) (at n : ℕ) → n ≤ 127 → n ≤ length s - at → dataPast s at n ≡ To (at + n)
+pub short-data : (padding : Bool) (s : List ℕ) (at n : ℕ) → n ≤ 127 → n ≤ length s - at → dataPast padding s at n ≡ To (at + n)
 unfolding dataPast lengthAt
-short-data s at n h l = let x : n ≡ escape → ⊥ = λ e. omega arith in rw (ne-eqb n escape x, le-ltb (length s - at) n l)
+short-data padding s at n h l = let x : n ≡ escape → ⊥ = λ e. omega arith in rw (ne-eqb n escape x, le-ltb (length s - at) n l)
 
 -- ---- what a layout has there
 
@@ -88,9 +88,9 @@ short-is w kind compound e =
     (λ b. impossible (let x = rw (a, b) at e in cc)))
     (λ a. impossible (let x = rw a at e in cc))
 
-pub short-start-on : (s : List ℕ) (outer kind at w : ℕ) (compound room : Bool) → shortNumber s at ≡ w → shortIs w kind compound ≡ true → room ≡ true
-    → w / 8 / 64 < 128 → startOn s outer kind compound room at (headerAt s at) ≡ At (at + 2) (w / 8 / 64)
+pub short-start-on : (padding : Bool) (s : List ℕ) (outer kind at w : ℕ) (compound room : Bool) → shortNumber s at ≡ w → shortIs w kind compound ≡ true → room ≡ true
+    → w / 8 / 64 < 128 → startOn padding s outer kind compound room at (headerAt s at) ≡ At (at + 2) (w / 8 / 64)
 unfolding startOf lengthAt
-short-start-on s outer kind at w compound room is e r l =
+short-start-on padding s outer kind at w compound room is e r l =
     let h = short-is w kind compound e in
     rw (short-start s at (ap (λ (x : ℕ). x % 4) is ∙ h .0), is, eq-eqb (w / 8 % 64) kind (h .1), h .2, r, ne-eqb (w / 8 / 64) escape (λ x. omega arith))

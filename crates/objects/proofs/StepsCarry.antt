@@ -16,7 +16,7 @@ use Rattle.laws.proofs.Cases.{by-bool, by-lt, impossible}
 use Rattle.laws.proofs.Parts.{same-part}
 use Rattle.laws.proofs.Agreement.{agree-less, Same, same-less, same-on}
 use Rattle.numbers.specs.Refusals.{faultAt}
-use Rattle.numbers.specs.Compact.{readCompact}
+use Rattle.numbers.specs.Compact.{compactFor}
 use Rattle.numbers.specs.Guid.{guidAt}
 use Rattle.numbers.specs.ExtendedGuid.{readExtendedGuid}
 use Rattle.numbers.specs.Serial.{readSerial}
@@ -32,7 +32,7 @@ use Rattle.numbers.specs.declared.serial.Serial.{Serial}
 use Rattle.numbers.specs.declared.serial.ReadSerial.{ReadSerial}
 use Rattle.numbers.specs.declared.serial.ReadSerial.the-variants as serial
 use Rattle.numbers.proofs.Within.{ExtendedGuidWithin, extended-guid-within, SerialWithin, serial-within}
-use Rattle.numbers.proofs.OwnBytes.{compact-own, extended-guid-own, serial-own}
+use Rattle.numbers.proofs.OwnBytes.{compact-for-own, extended-guid-own, serial-own}
 use Rattle.objects.specs.Header.{headerAt, lengthAt}
 use Rattle.objects.specs.Nesting.{runAt}
 use Rattle.objects.specs.Steps.{no, placeOf, valueOf, valued, need, fixedIn, numberOn, number, numberIsOn, numberIs, nullIdOn, nullId, skip, guidHere, onGuid, idOn, idHere, onId, serialOn, serialHere, onSerial, sameBit, lengthTo, startOn, startHere, lengthIs, startOfLength, endOn, endHere, nextIs, insideOn, inside, runHere, closedAt, inRun}
@@ -385,36 +385,36 @@ pub carries-skip : (n : ℕ) → Carries (λ s c. skip s n c)
 unfolding skip
 carries-skip n = record { fault = λ s r. refl; took = λ s p u q v e. skip-took n s p u q v e }
 
-number-took : (s : List ℕ) (p u q v : ℕ) (r : Compact) → readCompact (drop p s) ≡ r → numberOn p r ≡ At q v → Took number s p u q v
+number-took : (padding : Bool) (s : List ℕ) (p u q v : ℕ) (r : Compact) → compactFor padding (drop p s) ≡ r → numberOn p r ≡ At q v → Took (number padding) s p u q v
 unfolding number
-number-took s p u q v (compact.Value x n) a e =
+number-took padding s p u q v (compact.Value x n padded) a e =
     let y : p + n ≡ q = cc in
     let w : x ≡ v = cc in
-    let f = compact-fits s p x n a in
-    record { size = n; past = sym y; there = λ t p′ i. rw (compact-own (drop p s) (drop p′ t) x n a (f .0) i, w) }
-number-took s p u q v (compact.Refused r) a e = impossible (cc)
+    let f = compact-fits padding s p x n padded a in
+    record { size = n; past = sym y; there = λ t p′ i. rw (compact-for-own padding (drop p s) (drop p′ t) x n padded a (f .0) i, w) }
+number-took padding s p u q v (compact.Refused r) a e = impossible (cc)
 
-pub carries-number : Carries number
+pub carries-number : (padding : Bool) → Carries (number padding)
 unfolding number
-carries-number = record { fault = λ s r. refl; took = λ s p u q v e. number-took s p u q v (readCompact (drop p s)) refl e }
+carries-number padding = record { fault = λ s r. refl; took = λ s p u q v e. number-took padding s p u q v (compactFor padding (drop p s)) refl e }
 
-number-is-took : (x k : ℕ) (s : List ℕ) (p u q v : ℕ) (r : Compact) → readCompact (drop p s) ≡ r → numberIsOn x k p r ≡ At q v
-    → Took (λ t c. numberIs t x k c) s p u q v
+number-is-took : (padding : Bool) (x k : ℕ) (s : List ℕ) (p u q v : ℕ) (r : Compact) → compactFor padding (drop p s) ≡ r → numberIsOn x k p r ≡ At q v
+    → Took (λ t c. numberIs padding t x k c) s p u q v
 unfolding numberIs
-number-is-took x k s p u q v (compact.Value y n) a e =
+number-is-took padding x k s p u q v (compact.Value y n padded) a e =
     by-bool (eqb y x)
     (λ b.
     let z : At (p + n) y ≡ At q v = rw b at e in
     let w : p + n ≡ q = cc in
     let o : y ≡ v = cc in
-    let f = compact-fits s p y n a in
-    record { size = n; past = sym w; there = λ t p′ i. rw (compact-own (drop p s) (drop p′ t) y n a (f .0) i, b, o) })
+    let f = compact-fits padding s p y n padded a in
+    record { size = n; past = sym w; there = λ t p′ i. rw (compact-for-own padding (drop p s) (drop p′ t) y n padded a (f .0) i, b, o) })
     (λ b. let z : no k p ≡ At q v = rw b at e in impossible (cc))
-number-is-took x k s p u q v (compact.Refused r) a e = impossible (cc)
+number-is-took padding x k s p u q v (compact.Refused r) a e = impossible (cc)
 
-pub carries-number-is : (x k : ℕ) → Carries (λ s c. numberIs s x k c)
+pub carries-number-is : (padding : Bool) (x k : ℕ) → Carries (λ s c. numberIs padding s x k c)
 unfolding numberIs
-carries-number-is x k = record { fault = λ s r. refl; took = λ s p u q v e. number-is-took x k s p u q v (readCompact (drop p s)) refl e }
+carries-number-is padding x k = record { fault = λ s r. refl; took = λ s p u q v e. number-is-took padding x k s p u q v (compactFor padding (drop p s)) refl e }
 
 -- ---- fields that are more than a number, with what they hold
 
@@ -566,7 +566,7 @@ gives-serial of free = gives-item serial-item of free
 -- ---- a start
 
 -- the header that a start read, and the data's length behind it
-pub record Opened (s : List ℕ) (kind : ℕ) (compound room : Bool) (p from v : ℕ) : Type 0 where
+pub record Opened (padding : Bool) (s : List ℕ) (kind : ℕ) (compound room : Bool) (p from v : ℕ) : Type 0 where
   pub bit : Bool
   pub field : ℕ
   pub used : ℕ
@@ -574,21 +574,21 @@ pub record Opened (s : List ℕ) (kind : ℕ) (compound room : Bool) (p from v :
   pub start : headerAt s p ≡ header.Start kind bit field used
   pub same : sameBit bit compound ≡ true
   pub free : room ≡ true
-  pub true-length : lengthAt s (p + used) field ≡ length′.Is v (p + used + rest)
+  pub true-length : lengthAt padding s (p + used) field ≡ length′.Is v (p + used + rest)
   pub past : from ≡ p + (used + rest)
 
 length-to : (l : Length) (from v : ℕ) → lengthTo l ≡ At from v → l ≡ length′.Is v from
 length-to (length′.Is v′ f) from v e = cc
 length-to (length′.Refused r) from v e = impossible (cc)
 
-opened-on : (s : List ℕ) (outer kind : ℕ) (compound room : Bool) (p from v : ℕ) (h : Header) → headerAt s p ≡ h
-    → startOn s outer kind compound room p h ≡ At from v → Opened s kind compound room p from v
-opened-on s outer kind compound room p from v (header.Refused r) e q = impossible (cc)
-opened-on s outer kind compound room p from v (header.End k u) e q =
+opened-on : (padding : Bool) (s : List ℕ) (outer kind : ℕ) (compound room : Bool) (p from v : ℕ) (h : Header) → headerAt s p ≡ h
+    → startOn padding s outer kind compound room p h ≡ At from v → Opened padding s kind compound room p from v
+opened-on padding s outer kind compound room p from v (header.Refused r) e q = impossible (cc)
+opened-on padding s outer kind compound room p from v (header.End k u) e q =
     by-bool (eqb k outer)
     (λ b. let z : no 5 p ≡ At from v = rw b at q in impossible (cc))
     (λ b. let z : no 4 p ≡ At from v = rw b at q in impossible (cc))
-opened-on s outer kind compound room p from v (header.Start k bit n u) e q =
+opened-on padding s outer kind compound room p from v (header.Start k bit n u) e q =
     by-bool (eqb k kind)
     (λ b.
     by-bool (sameBit bit compound)
@@ -596,9 +596,9 @@ opened-on s outer kind compound room p from v (header.Start k bit n u) e q =
     by-bool room
     (λ d.
     let i : k ≡ kind = eqb-true k kind b in
-    let z : lengthTo (lengthAt s (p + u) n) ≡ At from v = rw (b, c, d) at q in
-    let l = length-to (lengthAt s (p + u) n) from v z in
-    let w = length-fits-at s (p + u) n (length′.Is v from) l in
+    let z : lengthTo (lengthAt padding s (p + u) n) ≡ At from v = rw (b, c, d) at q in
+    let l = length-to (lengthAt padding s (p + u) n) from v z in
+    let w = length-fits-at padding s (p + u) n (length′.Is v from) l in
     let y : from ≡ p + u + (from - (p + u)) = omega arith in
     record {
       bit = bit;
@@ -615,51 +615,51 @@ opened-on s outer kind compound room p from v (header.Start k bit n u) e q =
     (λ c. let z : no 5 p ≡ At from v = rw (b, c) at q in impossible (cc)))
     (λ b. let z : no 5 p ≡ At from v = rw b at q in impossible (cc))
 
-pub opened-from : (s : List ℕ) (outer kind : ℕ) (compound room : Bool) (p u from v : ℕ) → startHere s outer kind compound room (At p u) ≡ At from v
-    → Opened s kind compound room p from v
+pub opened-from : (padding : Bool) (s : List ℕ) (outer kind : ℕ) (compound room : Bool) (p u from v : ℕ) → startHere padding s outer kind compound room (At p u) ≡ At from v
+    → Opened padding s kind compound room p from v
 unfolding startHere
-opened-from s outer kind compound room p u from v q = opened-on s outer kind compound room p from v (headerAt s p) refl q
+opened-from padding s outer kind compound room p u from v q = opened-on padding s outer kind compound room p from v (headerAt s p) refl q
 
 -- the header there
-opened-there : (s : List ℕ) (kind : ℕ) (compound room : Bool) (p from v : ℕ) (o : Opened s kind compound room p from v) (t : List ℕ) (p′ : ℕ)
+opened-there : (padding : Bool) (s : List ℕ) (kind : ℕ) (compound room : Bool) (p from v : ℕ) (o : Opened padding s kind compound room p from v) (t : List ℕ) (p′ : ℕ)
     → Same s p t p′ (o .used + o .rest) → headerAt t p′ ≡ header.Start kind (o .bit) (o .field) (o .used)
-opened-there s kind compound room p from v o t p′ a =
+opened-there padding s kind compound room p from v o t p′ a =
     start-local s p t p′ kind (o .bit) (o .field) (o .used) (o .start) (same-less s p t p′ (o .used + o .rest) (o .used) (omega arith) a)
 
-start-at : (outer kind : ℕ) (compound room bit : Bool) (t : List ℕ) (p u n used v from : ℕ) → headerAt t p ≡ header.Start kind bit n used
-    → sameBit bit compound ≡ true → room ≡ true → lengthAt t (p + used) n ≡ length′.Is v from → startHere t outer kind compound room (At p u) ≡ At from v
+pub start-at : (padding : Bool) (outer kind : ℕ) (compound room bit : Bool) (t : List ℕ) (p u n used v from : ℕ) → headerAt t p ≡ header.Start kind bit n used
+    → sameBit bit compound ≡ true → room ≡ true → lengthAt padding t (p + used) n ≡ length′.Is v from → startHere padding t outer kind compound room (At p u) ≡ At from v
 unfolding startHere
-start-at outer kind compound room bit t p u n used v from h b r l = rw (h, eq-eqb kind kind refl, b, r, l)
+start-at padding outer kind compound room bit t p u n used v from h b r l = rw (h, eq-eqb kind kind refl, b, r, l)
 
-start-took : (outer kind : ℕ) (compound room : Bool) (s : List ℕ) (p u q v : ℕ) → startHere s outer kind compound room (At p u) ≡ At q v
-    → Took (λ t c. startHere t outer kind compound room c) s p u q v
-start-took outer kind compound room s p u q v e =
-    let o = opened-from s outer kind compound room p u q v e in
+start-took : (padding : Bool) (outer kind : ℕ) (compound room : Bool) (s : List ℕ) (p u q v : ℕ) → startHere padding s outer kind compound room (At p u) ≡ At q v
+    → Took (λ t c. startHere padding t outer kind compound room c) s p u q v
+start-took padding outer kind compound room s p u q v e =
+    let o = opened-from padding s outer kind compound room p u q v e in
     record {
       size = o .used + o .rest;
       past = o .past;
       there =
           λ t p′ a.
-          start-at outer kind compound room (o .bit) t p′ u (o .field) (o .used) v (p′ + o .used + o .rest) (opened-there s kind compound room p q v o t p′ a) (o .same) (o .free)
-          (length-local s (p + o .used) t (p′ + o .used) (o .field) v (o .rest) (o .true-length) (same-on s p t p′ (o .used) (o .rest) a))
+          start-at padding outer kind compound room (o .bit) t p′ u (o .field) (o .used) v (p′ + o .used + o .rest) (opened-there padding s kind compound room p q v o t p′ a) (o .same) (o .free)
+          (length-local padding s (p + o .used) t (p′ + o .used) (o .field) v (o .rest) (o .true-length) (same-on s p t p′ (o .used) (o .rest) a))
           ∙ ap (λ (m : ℕ). At m v) (omega arith);
     }
 
-pub carries-start : (outer kind : ℕ) (compound room : Bool) → Carries (λ s c. startHere s outer kind compound room c)
+pub carries-start : (padding : Bool) (outer kind : ℕ) (compound room : Bool) → Carries (λ s c. startHere padding s outer kind compound room c)
 unfolding startHere
-carries-start outer kind compound room = record { fault = λ s r. refl; took = λ s p u q v e. start-took outer kind compound room s p u q v e }
+carries-start padding outer kind compound room = record { fault = λ s r. refl; took = λ s p u q v e. start-took padding outer kind compound room s p u q v e }
 
 -- whether a start of another type stands there
-pub gives-next-is : (x outer kind : ℕ) (compound room : Bool) → Gives (λ s c. startHere s outer kind compound room c) (λ s c. nextIs s x c)
+pub gives-next-is : (padding : Bool) (x outer kind : ℕ) (compound room : Bool) → Gives (λ s c. startHere padding s outer kind compound room c) (λ s c. nextIs s x c)
 unfolding nextIs
-gives-next-is x outer kind compound room =
+gives-next-is padding x outer kind compound room =
     record {
       alike =
           λ s p u n v e t p′ a.
-          let o = opened-from s outer kind compound room p u (p + n) v e in
+          let o = opened-from padding s outer kind compound room p u (p + n) v e in
           let z : n ≡ o .used + o .rest = let y = o .past in omega arith in
           let b : Same s p t p′ (o .used + o .rest) = rw z at a in
-          rw (opened-there s kind compound room p (p + n) v o t p′ b, o .start);
+          rw (opened-there padding s kind compound room p (p + n) v o t p′ b, o .start);
     }
 
 length-is-moves : (n : ℕ) (x p u q v : ℕ) → lengthIs n x (At p u) ≡ At q v → (u ≡ n) × (At p u ≡ At q v)
@@ -669,33 +669,33 @@ length-is-moves n x p u q v e =
     (λ b. let z : At p u ≡ At q v = rw b at e in (eqb-true u n b, z))
     (λ b. let z : no 5 x ≡ At q v = rw b at e in impossible (cc))
 
-length-is-at : (n x : ℕ) (c : Reading) (q v : ℕ) → lengthIs n x c ≡ At q v → (c ≡ At q v) × (v ≡ n)
+pub length-is-at : (n x : ℕ) (c : Reading) (q v : ℕ) → lengthIs n x c ≡ At q v → (c ≡ At q v) × (v ≡ n)
 unfolding lengthIs
 length-is-at n x (At p u) q v e = let w = length-is-moves n x p u q v e in (w .1, let z : u ≡ v = cc in sym z ∙ w .0)
 length-is-at n x (Refused r) q v e = impossible (cc)
 
-start-of-length-took : (outer kind : ℕ) (compound room : Bool) (n : ℕ) (s : List ℕ) (p u q v : ℕ) → startOfLength s outer kind compound room n (At p u) ≡ At q v
-    → Took (λ t c. startOfLength t outer kind compound room n c) s p u q v
+start-of-length-took : (padding : Bool) (outer kind : ℕ) (compound room : Bool) (n : ℕ) (s : List ℕ) (p u q v : ℕ) → startOfLength padding s outer kind compound room n (At p u) ≡ At q v
+    → Took (λ t c. startOfLength padding t outer kind compound room n c) s p u q v
 unfolding startOfLength lengthIs
-start-of-length-took outer kind compound room n s p u q v e =
-    let w = length-is-at n (placeOf (At p u)) (startHere s outer kind compound room (At p u)) q v e in
-    let k = start-took outer kind compound room s p u q v (w .0) in
+start-of-length-took padding outer kind compound room n s p u q v e =
+    let w = length-is-at n (placeOf (At p u)) (startHere padding s outer kind compound room (At p u)) q v e in
+    let k = start-took padding outer kind compound room s p u q v (w .0) in
     record { size = k .size; past = k .past; there = λ t p′ a. rw (k .there t p′ a, eq-eqb v n (w .1)) }
 
-pub carries-start-of-length : (outer kind : ℕ) (compound room : Bool) (n : ℕ) → Carries (λ s c. startOfLength s outer kind compound room n c)
+pub carries-start-of-length : (padding : Bool) (outer kind : ℕ) (compound room : Bool) (n : ℕ) → Carries (λ s c. startOfLength padding s outer kind compound room n c)
 unfolding startOfLength startHere lengthIs
-carries-start-of-length outer kind compound room n =
-    record { fault = λ s r. refl; took = λ s p u q v e. start-of-length-took outer kind compound room n s p u q v e }
+carries-start-of-length padding outer kind compound room n =
+    record { fault = λ s r. refl; took = λ s p u q v e. start-of-length-took padding outer kind compound room n s p u q v e }
 
-pub gives-next-is-of-length : (x outer kind : ℕ) (compound room : Bool) (n : ℕ)
-    → Gives (λ s c. startOfLength s outer kind compound room n c) (λ s c. nextIs s x c)
+pub gives-next-is-of-length : (padding : Bool) (x outer kind : ℕ) (compound room : Bool) (n : ℕ)
+    → Gives (λ s c. startOfLength padding s outer kind compound room n c) (λ s c. nextIs s x c)
 unfolding startOfLength
-gives-next-is-of-length x outer kind compound room n =
+gives-next-is-of-length padding x outer kind compound room n =
     record {
       alike =
           λ s p u m v e t p′ a.
-          let w = length-is-at n (placeOf (At p u)) (startHere s outer kind compound room (At p u)) (p + m) v e in
-          gives-next-is x outer kind compound room .alike s p u m v (w .0) t p′ a;
+          let w = length-is-at n (placeOf (At p u)) (startHere padding s outer kind compound room (At p u)) (p + m) v e in
+          gives-next-is padding x outer kind compound room .alike s p u m v (w .0) t p′ a;
     }
 
 -- ---- an end
@@ -755,24 +755,24 @@ gives-next-is-end x kind =
 
 -- ---- a start that does not stand there: what does not depend on the fault
 
-module _ {A : Type 0} (of : List ℕ → Reading → A) (faulted : (s t : List ℕ) (r q : Refusal) → of s (Refused r) ≡ of t (Refused q)) (outer kind : ℕ)
+module _ (padding : Bool) {A : Type 0} (of : List ℕ → Reading → A) (faulted : (s t : List ℕ) (r q : Refusal) → of s (Refused r) ≡ of t (Refused q)) (outer kind : ℕ)
     (compound room : Bool) where
   abbrev tried : List ℕ → Reading → Reading
-  tried s c = startHere s outer kind compound room c
+  tried s c = startHere padding s outer kind compound room c
 
   other-start : (s : List ℕ) (p u k : ℕ) (b : Bool) (n used : ℕ) → headerAt s p ≡ header.Start k b n used → eqb k kind ≡ false → tried s (At p u) ≡ no 5 p
   unfolding startHere
   other-start s p u k b n used h e = rw (h, e)
 
   -- where a start of another type is read
-  pub gives-other-start : (o k : ℕ) (b r : Bool) → eqb k kind ≡ false → Gives (λ s c. startHere s o k b r c) (λ s c. of s (tried s c))
+  pub gives-other-start : (o k : ℕ) (b r : Bool) → eqb k kind ≡ false → Gives (λ s c. startHere padding s o k b r c) (λ s c. of s (tried s c))
   gives-other-start o k b r e =
       record {
         alike =
             λ s p u n v h t p′ a.
-            let w = opened-from s o k b r p u (p + n) v h in
+            let w = opened-from padding s o k b r p u (p + n) v h in
             let z : n ≡ w .used + w .rest = let y = w .past in omega arith in
-            let i = opened-there s k b r p (p + n) v w t p′ (rw z at a) in
+            let i = opened-there padding s k b r p (p + n) v w t p′ (rw z at a) in
             ap (of t) (other-start t p′ u k (w .bit) (w .field) (w .used) i e) ∙ faulted t s (faultAt 5 p′) (faultAt 5 p)
             ∙ ap (of s) (sym (other-start s p u k (w .bit) (w .field) (w .used) (w .start) e));
       }
@@ -799,31 +799,35 @@ module _ {A : Type 0} (of : List ℕ → Reading → A) (faulted : (s t : List �
 
 -- ---- well-nested contents
 
-inside-on : (r : Passed) (e v : ℕ) → insideOn r ≡ At e v → (r ≡ passed.To e) × (0 ≡ v)
+pub inside-on : (r : Passed) (e v : ℕ) → insideOn r ≡ At e v → (r ≡ passed.To e) × (0 ≡ v)
 inside-on (passed.To x) e v q = (cc, cc)
 inside-on (passed.Refused r) e v q = impossible (cc)
 
-inside-took : (d kind : ℕ) (s : List ℕ) (p u q v : ℕ) → inside s d kind (At p u) ≡ At q v → Took (λ t c. inside t d kind c) s p u q v
+inside-took : (padding : Bool) (d kind : ℕ) (s : List ℕ) (p u q v : ℕ) → inside padding s d kind (At p u) ≡ At q v → Took (λ t c. inside padding t d kind c) s p u q v
 unfolding inside
-inside-took d kind s p u q v e =
-    let w = inside-on (runAt s p d kind) q v e in
-    let n = run-next s p d kind q (w .0) in
+inside-took padding d kind s p u q v e =
+    let w = inside-on (runAt padding s p d kind) q v e in
+    let n = run-next padding s p d kind q (w .0) in
     let y : q ≡ p + (q - p) = omega arith in
-    let z : runAt s p d kind ≡ passed.To (p + (q - p)) = w .0 ∙ ap (λ (m : ℕ). passed.To m) y in
-    record { size = q - p; past = y; there = λ t p′ a. rw (run-local s p t p′ d kind (q - p) z a, ← w .1) }
+    let z : runAt padding s p d kind ≡ passed.To (p + (q - p)) = w .0 ∙ ap (λ (m : ℕ). passed.To m) y in
+    record { size = q - p; past = y; there = λ t p′ a. rw (run-local padding s p t p′ d kind (q - p) z a, ← w .1) }
 
-pub carries-inside : (d kind : ℕ) → Carries (λ s c. inside s d kind c)
+pub carries-inside : (padding : Bool) (d kind : ℕ) → Carries (λ s c. inside padding s d kind c)
 unfolding inside
-carries-inside d kind = record { fault = λ s r. refl; took = λ s p u q v e. inside-took d kind s p u q v e }
+carries-inside padding d kind = record { fault = λ s r. refl; took = λ s p u q v e. inside-took padding d kind s p u q v e }
 
 -- ---- a data run: its fields are a function of its bytes alone
 
-record Closed (n m : ℕ) (f : Reading) (from q v : ℕ) : Type 0 where
-  past : q ≡ from + m
-  whole : n ≤ m
-  anywhere : (from′ : ℕ) → closedAt (At from′ n) m f ≡ At (from′ + m) v
+-- what a run that was closed is: all of it is there, and its fields read it to its end
+pub record Closed (n m : ℕ) (f : Reading) (from q v : ℕ) : Type 0 where
+  pub past : q ≡ from + m
+  pub whole : n ≤ m
+  pub read : ℕ
+  pub fields : f ≡ At read v
+  pub all : m ≤ read
+  pub anywhere : (from′ : ℕ) → closedAt (At from′ n) m f ≡ At (from′ + m) v
 
-closed-from : (n m : ℕ) (f : Reading) (from q v : ℕ) → closedAt (At from n) m f ≡ At q v → Closed n m f from q v
+pub closed-from : (n m : ℕ) (f : Reading) (from q v : ℕ) → closedAt (At from n) m f ≡ At q v → Closed n m f from q v
 unfolding closedAt
 closed-from n m (Refused r) from q v e = impossible (cc)
 closed-from n m (At i w) from q v e =
@@ -836,7 +840,7 @@ closed-from n m (At i w) from q v e =
     let z : At (from + m) w ≡ At q v = rw (le-ltb _ _ l, le-ltb _ _ k) at e in
     let y : from + m ≡ q = cc in
     let x : w ≡ v = cc in
-    record { past = sym y; whole = k; anywhere = λ from′. rw (le-ltb _ _ l, le-ltb _ _ k, x) }))
+    record { past = sym y; whole = k; read = i; fields = ap (At i) x; all = l; anywhere = λ from′. rw (le-ltb _ _ l, le-ltb _ _ k, x) }))
 
 run-took : (fields : List ℕ → Reading) (s : List ℕ) (p u q v : ℕ) → inRun s fields (At p u) ≡ At q v → Took (λ t c. inRun t fields c) s p u q v
 unfolding runHere

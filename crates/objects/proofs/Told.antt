@@ -46,9 +46,9 @@ stops s at placed (To e) go short a h = absurd (omega arith)
 stops s at placed (Refused r) go short a h = refl
 
 -- a run stops at a refusal of its object
-pub told-stops : (s : List ℕ) (at d : ℕ) (placed : Bool) (go : ℕ → Passed) (n : ℕ) → length s < refusedFrom
-    → n ≡ toldNumber placed (objectAt s at d) → refusedFrom ≤ n → n ≡ toldNumber placed (andOn (objectAt s at d) go)
-told-stops s at d placed go n short t h = t ∙ stops s at placed (objectAt s at d) go short (object-ahead s at d) (rw t at h)
+pub told-stops : (padding : Bool) (s : List ℕ) (at d : ℕ) (placed : Bool) (go : ℕ → Passed) (n : ℕ) → length s < refusedFrom
+    → n ≡ toldNumber placed (objectAt padding s at d) → refusedFrom ≤ n → n ≡ toldNumber placed (andOn (objectAt padding s at d) go)
+told-stops padding s at d placed go n short t h = t ∙ stops s at placed (objectAt padding s at d) go short (object-ahead padding s at d) (rw t at h)
 
 -- ---- a refusal, by both
 
@@ -77,8 +77,8 @@ told-both s at p n q short a t u h = rw (t, u) (both s at p short a (rw t at h))
 
 -- ---- where a fault stands
 
-pub refused-within : (s : List ℕ) (at d : ℕ) (r : Refusal) → at ≤ length s → objectAt s at d ≡ Refused r → r .place ≤ length s
-refused-within s at d r h q = subst (Ahead s at) q (object-ahead s at d) .1 h
+pub refused-within : (padding : Bool) (s : List ℕ) (at d : ℕ) (r : Refusal) → at ≤ length s → objectAt padding s at d ≡ Refused r → r .place ≤ length s
+refused-within padding s at d r h q = subst (Ahead s at) q (object-ahead padding s at d) .1 h
 
 -- behind the input there is no header
 header-behind : (s : List ℕ) (at : ℕ) (h : Header) → length s < at → Fits at (length s - at) h → h ≡ header.Refused (faultAt 2 at)
@@ -86,8 +86,8 @@ header-behind s at (header.Refused r) l w = ap header.Refused w
 header-behind s at (header.End k u) l w = absurd (omega arith)
 header-behind s at (header.Start k c n u) l w = absurd (omega arith)
 
-pub object-behind : (s : List ℕ) (at d : ℕ) → length s < at → objectAt s at d ≡ Refused (faultAt 2 at)
-object-behind s at d l = object-at s at d (header.Refused (faultAt 2 at)) (header-behind s at (headerAt s at) l (header-fits s at))
+pub object-behind : (padding : Bool) (s : List ℕ) (at d : ℕ) → length s < at → objectAt padding s at d ≡ Refused (faultAt 2 at)
+object-behind padding s at d l = object-at padding s at d (header.Refused (faultAt 2 at)) (header-behind s at (headerAt s at) l (header-fits s at))
 
-pub run-behind : (s : List ℕ) (at d kind : ℕ) → length s < at → runAt s at d kind ≡ Refused (faultAt 2 at)
-run-behind s at d kind l = run-at s at d kind (header.Refused (faultAt 2 at)) (header-behind s at (headerAt s at) l (header-fits s at))
+pub run-behind : (padding : Bool) (s : List ℕ) (at d kind : ℕ) → length s < at → runAt padding s at d kind ≡ Refused (faultAt 2 at)
+run-behind padding s at d kind l = run-at padding s at d kind (header.Refused (faultAt 2 at)) (header-behind s at (headerAt s at) l (header-fits s at))

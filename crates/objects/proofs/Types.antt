@@ -13,9 +13,9 @@ use Rattle.objects.specs.declared.header.Header.the-variants.{End}
 use Rattle.objects.specs.declared.reading.Reading.the-variants.{At}
 use Rattle.objects.proofs.HeadersRead.{end-bounds}
 
-pub nothing-ends : (s : List ℕ) (kind : ℕ) (compound room : Bool) (at v k u : ℕ) → AllBytes s → headerAt s at ≡ End k u
-    → startHere s nothingOpen kind compound room (At at v) ≡ no 4 at
+pub nothing-ends : (padding : Bool) (s : List ℕ) (kind : ℕ) (compound room : Bool) (at v k u : ℕ) → AllBytes s → headerAt s at ≡ End k u
+    → startHere padding s nothingOpen kind compound room (At at v) ≡ no 4 at
 unfolding startHere
-nothing-ends s kind compound room at v k u b e =
+nothing-ends padding s kind compound room at v k u b e =
     let h = end-bounds s at k u b e in
     rw (e, ne-eqb k nothingOpen (λ z. omega arith))

@@ -8,6 +8,7 @@ use mathlib.Core.List.{List}
 use Prim.Native.Nat.{ℕ, _+_, _-_, _<_, _≤_}
 use native.Mathlib.Omega.{arith}
 use lib.ListN.{length}
+use Rattle.numbers.specs.Compact.{paddingTaken}
 use Rattle.laws.proofs.Agreement.{Agree, agree-less, agree-drop}
 use Rattle.numbers.specs.Refusals.{faultAt}
 use Rattle.objects.specs.Header.{headerOf, headerAt, lengthAt, lengthened, withLength, wholeHeader}
@@ -31,7 +32,7 @@ lengthened-within s k c u (length′.Refused r) p h (inl e) = rw e (h, inl refl)
 lengthened-within s k c u (length′.Refused r) p h (inr e) = rw e (h, inr refl)
 
 with-length-within : (s : List ℕ) (h : Header) → Fits 0 (length s) h → WholeWithin (length s) (withLength s h)
-with-length-within s (Start k c n u) w = lengthened-within s k c u (lengthAt s u n) (w .0) (w .1) (length-fits s u n)
+with-length-within s (Start k c n u) w = lengthened-within s k c u (lengthAt paddingTaken s u n) (w .0) (w .1) (length-fits paddingTaken s u n)
 with-length-within s (End k u) w = w
 with-length-within s (Refused r) w = rw w (omega arith, inl refl)
 
@@ -51,21 +52,21 @@ front : (s : List ℕ) → headerAt s 0 ≡ headerOf 0 s
 unfolding headerAt
 front s = refl
 
-lengthened-own : (s t : List ℕ) (k : ℕ) (c : Bool) (n u : ℕ) (l : Length) → headerOf 0 s ≡ Start k c n u → lengthAt s u n ≡ l → u ≤ length s
+lengthened-own : (s t : List ℕ) (k : ℕ) (c : Bool) (n u : ℕ) (l : Length) → headerOf 0 s ≡ Start k c n u → lengthAt paddingTaken s u n ≡ l → u ≤ length s
     → WholeOwn s t (lengthened k c l)
 unfolding wholeHeader
 lengthened-own s t k c n u (Is v from) e q h =
     λ a.
-    let w : LengthFits s u (Is v from) = subst (LengthFits s u) q (length-fits s u n) in
+    let w : LengthFits s u (Is v from) = subst (LengthFits s u) q (length-fits paddingTaken s u n) in
     let f : headerOf 0 t ≡ Start k c n u = sym (front t) ∙ start-local s 0 t 0 k c n u (front s ∙ e) (agree-less s t from u (omega arith) a) in
     let i : u + (from - u) ≡ from = omega arith in
-    let g = length-local s u t u n v (from - u) (rw i q) (agree-drop s t u (from - u) (rw i a)) in
+    let g = length-local paddingTaken s u t u n v (from - u) (rw i q) (agree-drop s t u (from - u) (rw i a)) in
     rw (f, g, i)
 lengthened-own s t k c n u (length′.Refused r) e q h = tt
 
 with-length-own : (s t : List ℕ) (h : Header) → headerOf 0 s ≡ h → Fits 0 (length s) h → WholeOwn s t (withLength s h)
 unfolding wholeHeader
-with-length-own s t (Start k c n u) e w = lengthened-own s t k c n u (lengthAt s u n) e refl (w .1)
+with-length-own s t (Start k c n u) e w = lengthened-own s t k c n u (lengthAt paddingTaken s u n) e refl (w .1)
 with-length-own s t (End k u) e w =
     λ a. let f : headerOf 0 t ≡ End k u = sym (front t) ∙ end-local s 0 t 0 k u (front s ∙ e) a in rw f
 with-length-own s t (Refused r) e w = tt

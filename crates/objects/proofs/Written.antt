@@ -1,6 +1,7 @@
 -- What was written reads back: each step, where its own bytes w stand, goes on behind them. `drop at s ≡ w ++ t` says that w
 -- stands at `at`.
 -- Assumes nothing.
+use mathlib.Core.Bool.{Bool}
 use mathlib.Core.Path.{_≡_, refl, sym, ap, _∙_}
 use mathlib.Core.List.{List, [], _++_, append-assoc, append-nil}
 use Prim.Native.Nat.{ℕ, _+_, _-_, _^_, _<_, _≤_}
@@ -18,7 +19,7 @@ use Rattle.numbers.specs.declared.guid.Guid.{Guid}
 use Rattle.numbers.specs.declared.extended_guid.ExtendedGuid.{ExtendedGuid}
 use Rattle.numbers.specs.declared.extended_guid.ExtendedGuid.the-variants as id
 use Rattle.numbers.specs.declared.serial.Serial.{Serial}
-use Rattle.numbers.proofs.RoundTrip.{read-written}
+use Rattle.numbers.proofs.RoundTrip.{written-unpadded}
 use Rattle.numbers.proofs.Guids.{length-guid, guid-read-written}
 use Rattle.numbers.proofs.ExtendedGuids.{extended-guid-read-written}
 use Rattle.numbers.proofs.Serials.{serial-read-written}
@@ -72,13 +73,13 @@ reads-fixed u n least most k x b l m =
           rw (le-ltb _ _ r, e, le-ltb _ _ l, le-ltb _ _ m, length-bytes n x);
     }
 
-pub reads-number : (u v : ℕ) → v < 2 ^ 64 → Reads number u (compactBytes v) v
+pub reads-number : (padding : Bool) (u v : ℕ) → v < 2 ^ 64 → Reads (number padding) u (compactBytes v) v
 unfolding number
-reads-number u v b = record { here = λ s at t h. rw (h, read-written v b t) }
+reads-number padding u v b = record { here = λ s at t h. rw (h, written-unpadded padding v b t) }
 
-pub reads-number-is : (u x k : ℕ) → x < 2 ^ 64 → Reads (λ s c. numberIs s x k c) u (compactBytes x) x
+pub reads-number-is : (padding : Bool) (u x k : ℕ) → x < 2 ^ 64 → Reads (λ s c. numberIs padding s x k c) u (compactBytes x) x
 unfolding numberIs
-reads-number-is u x k b = record { here = λ s at t h. rw (h, read-written x b t, eq-eqb x x refl) }
+reads-number-is padding u x k b = record { here = λ s at t h. rw (h, written-unpadded padding x b t, eq-eqb x x refl) }
 
 pub reads-skip : (u : ℕ) (w : List ℕ) → Reads (λ s c. skip s (length w) c) u w 0
 unfolding skip

@@ -10,10 +10,12 @@ use mathlib.Core.Bool.{true, false}
 use Prim.Native.Nat.{ℕ}
 use mathlib.Core.List.{List, [], _∷_}
 use native.Mathlib.Omega.{arith}
+use lib.Count.{trailingZeros}
 use Rattle.laws.specs.Bytes.{le, bytes}
 use Rattle.laws.specs.Placed.{placed}
 use Rattle.numbers.specs.Refusals.{Told, faultAt, tooShort}
-use Rattle.numbers.specs.Compact.{formAt, readCompact, formFrom, formOf, marked, sizeOf, compactBytes}
+use Rattle.numbers.specs.Compact.{paddingTaken, readForm, readCompact, compactFor, formFrom, formOf, withForm, sizeOf, compactBytes}
+use Rattle.numbers.specs.Compact as compact
 use Rattle.numbers.specs.Calls.{single, written}
 use Rattle.numbers.specs.declared.refusal.Wrote.the-variants as wrote
 use Rattle.objects.specs.Header.{startOf, endOf, sized, headerOf, headerAt, lengthAt, wholeHeader, startNumber, longStart, startBytes, endBytes}
@@ -42,8 +44,13 @@ twice-the-length h =
 
 -- the true length that `02 00 FE FF` lacks would stand at 4, not at 0
 lacks-at-front : ReadsHeader (0x02 ∷ 0x00 ∷ 0xFE ∷ 0xFF ∷ []) (Refused (faultAt 2 0)) → ⊥
-unfolding single wholeHeader headerOf sized startOf lengthAt le readCompact formAt
+unfolding single wholeHeader headerOf sized startOf lengthAt le readCompact compactFor
 lacks-at-front h = let z : _≡_ {A = ℕ} 0 4 = ap (λ (t : Told). t .place) h in omega arith
+
+-- a padded true length is taken, and not refused with 3
+padding-refused : ReadsHeader (0x02 ∷ 0x00 ∷ 0xFE ∷ 0xFF ∷ 0x01 ∷ []) (Refused (faultAt 3 4)) → ⊥
+unfolding single wholeHeader headerOf sized startOf lengthAt le readCompact compactFor readForm compact.compactValue sizeOf trailingZeros
+padding-refused h = let z : _≡_ {A = ℕ} 3 0 = ap (λ (t : Told). t .number) h in omega arith
 
 -- ---- write_start
 
@@ -56,7 +63,7 @@ sixteen-bits exit h =
 
 -- a length of 32767 has its compact integer behind the header: 7 bytes, not 4
 needs-header : WritesStart 1 true 32767 [] (wrote.Refused (tooShort 4)) [] → ⊥
-unfolding written startBytes longStart startNumber bytes compactBytes formOf formFrom marked sizeOf
+unfolding written startBytes longStart startNumber bytes compactBytes formOf formFrom withForm sizeOf
 needs-header h = let z : _≡_ {A = ℕ} 4 7 = ap (λ (t : Told). t .needed) (h .0) in omega arith
 
 -- ---- write_end
@@ -73,29 +80,29 @@ byte-behind h = let z = h .1 in let y : _≡_ {A = ℕ} 0 9 = cc in omega arith
 -- ---- pass_object
 
 -- `0C 00 05` ends behind its end, not behind its own data
-end-left-out : objectAt (0x0C ∷ 0x00 ∷ 0x05 ∷ []) 0 16 ≡ passed.To 2 → ⊥
+end-left-out : objectAt paddingTaken (0x0C ∷ 0x00 ∷ 0x05 ∷ []) 0 16 ≡ passed.To 2 → ⊥
 unfolding objectAt objectD dataPast lengthAt headerAt headerOf sized startOf endOf le iterate turns
 end-left-out h = let z : _≡_ {A = ℕ} 3 2 = cc in omega arith
 
 -- with no level left it is 6
-too-deep : objectAt (0x0C ∷ 0x00 ∷ 0x05 ∷ []) 0 0 ≡ passed.To 3 → ⊥
+too-deep : objectAt paddingTaken (0x0C ∷ 0x00 ∷ 0x05 ∷ []) 0 0 ≡ passed.To 3 → ⊥
 unfolding objectAt objectD dataPast lengthAt headerAt headerOf sized startOf endOf le iterate turns
 too-deep h = impossible (cc)
 
 -- with one level left it is taken, and not refused one level before the depth
-one-level-less : objectAt (0x0C ∷ 0x00 ∷ 0x05 ∷ []) 0 1 ≡ passed.Refused (faultAt 6 0) → ⊥
+one-level-less : objectAt paddingTaken (0x0C ∷ 0x00 ∷ 0x05 ∷ []) 0 1 ≡ passed.Refused (faultAt 6 0) → ⊥
 unfolding objectAt objectD dataPast lengthAt headerAt headerOf sized startOf endOf le iterate turns
 one-level-less h = impossible (cc)
 
 -- ---- pass_run
 
 -- `09` ends type 2, and not the open object of type 1
-other-end : runAt (0x09 ∷ []) 0 16 1 ≡ passed.To 1 → ⊥
+other-end : runAt paddingTaken (0x09 ∷ []) 0 16 1 ≡ passed.To 1 → ⊥
 unfolding runAt objectAt objectD dataPast lengthAt headerAt headerOf sized startOf endOf le iterate turns
 other-end h = impossible (cc)
 
 -- a run that the input ends in has no end: 2, and not behind the input
-no-end : runAt (0x08 ∷ 0x00 ∷ []) 0 16 1 ≡ passed.To 2 → ⊥
+no-end : runAt paddingTaken (0x08 ∷ 0x00 ∷ []) 0 16 1 ≡ passed.To 2 → ⊥
 unfolding runAt objectAt objectD dataPast lengthAt headerAt headerOf sized startOf endOf le iterate turns
 no-end h = impossible (cc)
 

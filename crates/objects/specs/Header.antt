@@ -10,7 +10,7 @@ use lib.Dec.{ltb, eqb}
 use Rattle.laws.specs.Pick.{pick}
 use Rattle.laws.specs.Bytes.{le, bytes}
 use Rattle.numbers.specs.Refusals.{faultAt}
-use Rattle.numbers.specs.Compact.{readCompact, compactBytes}
+use Rattle.numbers.specs.Compact.{paddingTaken, compactFor, compactBytes}
 use Rattle.numbers.specs.declared.compact.Compact.{Compact}
 use Rattle.numbers.specs.declared.compact.Compact.the-variants as compact
 use Rattle.objects.specs.declared.header.Header.{Header}
@@ -42,27 +42,28 @@ headerOf at t =
 unfoldable pub headerAt : List ℕ → ℕ → Header
 headerAt s at = headerOf at (drop at s)
 
--- ---- "A 32-bit start with length 32,767 is followed by a compact integer, the true length": an item of its own
+-- ---- "A 32-bit start with length 32,767 is followed by a compact integer, the true length": an item of its own, which may be padded
+-- where padding is taken
 
 abbrev pub escape : ℕ
 escape = 32767
 
 -- the data's length, and the place where the data begins
 abbrev pub lengthOn : ℕ → Compact → Length
-lengthOn at (compact.Value v n) = Is v (at + n)
+lengthOn at (compact.Value v n padded) = Is v (at + n)
 lengthOn at (compact.Refused r) = length′.Refused (faultAt (r .number) at)
 
 -- behind a header with the length n that ends at `at`
-unfoldable pub lengthAt : List ℕ → ℕ → ℕ → Length
-lengthAt s at n = pick (eqb n escape) (lengthOn at (readCompact (drop at s))) (Is n at)
+unfoldable pub lengthAt : Bool → List ℕ → ℕ → ℕ → Length
+lengthAt padding s at n = pick (eqb n escape) (lengthOn at (compactFor padding (drop at s))) (Is n at)
 
--- a single header, true length included
+-- a single header, true length included: padding is taken
 abbrev pub lengthened : ℕ → Bool → Length → Header
 lengthened k c (Is v from) = Start k c v from
 lengthened k c (length′.Refused r) = Refused r
 
 abbrev pub withLength : List ℕ → Header → Header
-withLength t (Start k c n u) = lengthened k c (lengthAt t u n)
+withLength t (Start k c n u) = lengthened k c (lengthAt paddingTaken t u n)
 withLength t (End k u) = End k u
 withLength t (Refused r) = Refused r
 

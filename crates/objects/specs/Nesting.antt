@@ -1,8 +1,9 @@
 -- One object and a run of objects (document 01, 'Objects within objects'): "Length counts the object's own data only. .. A
 -- compound object then holds a run of objects, each of which may hold a run again, and an end of its own type. A plain
--- object has no end." The depth is how many compound objects may still be opened.
+-- object has no end." The depth is how many compound objects may still be opened; a true length may be padded where padding is taken.
 -- Assumes nothing.
 use Prim.Native.Nat.{ℕ, zero, suc, _+_, _-_}
+use mathlib.Core.Bool.{Bool}
 use mathlib.Core.List.{List}
 use lib.ListN.{length}
 use lib.Dec.{ltb, eqb}
@@ -25,8 +26,8 @@ dataOn s (length′.Is v from) = pick (ltb (length s - from) v) (Refused (faultA
 dataOn s (length′.Refused r) = Refused r
 
 -- the place behind the data of a header with the length n that ends at `at`
-unfoldable pub dataPast : List ℕ → ℕ → ℕ → Passed
-dataPast s at n = dataOn s (lengthAt s at n)
+unfoldable pub dataPast : Bool → List ℕ → ℕ → ℕ → Passed
+dataPast padding s at n = dataOn s (lengthAt padding s at n)
 
 abbrev pub andOn : Passed → (ℕ → Passed) → Passed
 andOn (To e) go = go e
@@ -48,19 +49,19 @@ runOf object s kind at = iterate (λ i. runTurn object kind i (headerAt s i)) (�
 
 -- ---- one object: 4 for an end; 6 for a compound start past the depth, before its true length and its data
 
-abbrev pub objectBy : (ℕ → Passed → Passed) → List ℕ → ℕ → Header → Passed
-objectBy inside s at (header.Refused r) = Refused r
-objectBy inside s at (header.End k u) = Refused (faultAt 4 at)
-objectBy inside s at (header.Start k c n u) = pick c (inside k (dataPast s (at + u) n)) (dataPast s (at + u) n)
+abbrev pub objectBy : Bool → (ℕ → Passed → Passed) → List ℕ → ℕ → Header → Passed
+objectBy padding inside s at (header.Refused r) = Refused r
+objectBy padding inside s at (header.End k u) = Refused (faultAt 4 at)
+objectBy padding inside s at (header.Start k c n u) = pick c (inside k (dataPast padding s (at + u) n)) (dataPast padding s (at + u) n)
 
-unfoldable pub objectD : ℕ → List ℕ → ℕ → Passed
-objectD zero s at = objectBy (λ k p. Refused (faultAt 6 at)) s at (headerAt s at)
-objectD (suc d) s at = objectBy (λ k p. andOn p (λ e. runOf (λ i. objectD d s i) s k e)) s at (headerAt s at)
+unfoldable pub objectD : Bool → ℕ → List ℕ → ℕ → Passed
+objectD padding zero s at = objectBy padding (λ k p. Refused (faultAt 6 at)) s at (headerAt s at)
+objectD padding (suc d) s at = objectBy padding (λ k p. andOn p (λ e. runOf (λ i. objectD padding d s i) s k e)) s at (headerAt s at)
 
 -- ---- at a place of the input, with the depth left
 
-unfoldable pub objectAt : List ℕ → ℕ → ℕ → Passed
-objectAt s at d = objectD d s at
+unfoldable pub objectAt : Bool → List ℕ → ℕ → ℕ → Passed
+objectAt padding s at d = objectD padding d s at
 
-unfoldable pub runAt : List ℕ → ℕ → ℕ → ℕ → Passed
-runAt s at d kind = runOf (λ i. objectAt s i d) s kind at
+unfoldable pub runAt : Bool → List ℕ → ℕ → ℕ → ℕ → Passed
+runAt padding s at d kind = runOf (λ i. objectAt padding s i d) s kind at

@@ -41,22 +41,22 @@ abbrev pub opening : ℕ → Passed → Next
 opening k (To e) = next.Opens k e
 opening k (Refused r) = next.Refused r
 
-abbrev pub nextOn : List ℕ → ℕ → ℕ → Header → Next
-nextOn s at d (header.Refused r) = next.Refused r
-nextOn s at d (header.End k u) = next.Ends k (at + u)
-nextOn s at d (header.Start k c n u) =
-    pick c (pick (eqb d 0) (next.Refused (faultAt 6 at)) (opening k (dataPast s (at + u) n))) (passing (dataPast s (at + u) n))
+abbrev pub nextOn : Bool → List ℕ → ℕ → ℕ → Header → Next
+nextOn padding s at d (header.Refused r) = next.Refused r
+nextOn padding s at d (header.End k u) = next.Ends k (at + u)
+nextOn padding s at d (header.Start k c n u) =
+    pick c (pick (eqb d 0) (next.Refused (faultAt 6 at)) (opening k (dataPast padding s (at + u) n))) (passing (dataPast padding s (at + u) n))
 
-unfoldable pub nextAt : List ℕ → ℕ → ℕ → Next
-nextAt s at d = nextOn s at d (headerAt s at)
+unfoldable pub nextAt : Bool → List ℕ → ℕ → ℕ → Next
+nextAt padding s at d = nextOn padding s at d (headerAt s at)
 
 -- ---- an object, from there
 
-abbrev pub objectOn : List ℕ → ℕ → ℕ → Next → Passed
-objectOn s at d (next.Refused r) = Refused r
-objectOn s at d (next.Ends k e) = Refused (faultAt 4 at)
-objectOn s at d (next.Past e) = To e
-objectOn s at d (next.Opens k e) = runAt s e (d - 1) k
+abbrev pub objectOn : Bool → List ℕ → ℕ → ℕ → Next → Passed
+objectOn padding s at d (next.Refused r) = Refused r
+objectOn padding s at d (next.Ends k e) = Refused (faultAt 4 at)
+objectOn padding s at d (next.Past e) = To e
+objectOn padding s at d (next.Opens k e) = runAt padding s e (d - 1) k
 
 -- ---- the short start of a compound object
 

@@ -1,7 +1,7 @@
 -- The steps of which every layout is made, on a state that does nothing after a fault, so that the first fault from left to
 -- right stays: "Within an input, items .. are read left to right and the first at fault gives the place; at one item the
--- lowest number counts." A layout is a chain of steps, `At 0 0 ▹ number s ▹ ..`. The state carries the place and the number
--- that was read last.
+-- lowest number counts." A layout is a chain of steps, `At 0 0 ▹ number padding s ▹ ..`. The state carries the place and the number
+-- that was read last. A step that reads a compact integer is told whether padding is taken (document 02, Q-10: "Every caller decides").
 -- Assumes nothing.
 use Prim.Native.Nat.{ℕ, _+_, _-_, _≤_}
 use mathlib.Core.Path.{_≡_}
@@ -12,7 +12,7 @@ use lib.Dec.{ltb, eqb}
 use Rattle.laws.specs.Pick.{pick}
 use Rattle.laws.specs.Bytes.{le}
 use Rattle.numbers.specs.Refusals.{faultAt}
-use Rattle.numbers.specs.Compact.{readCompact}
+use Rattle.numbers.specs.Compact.{compactFor}
 use Rattle.numbers.specs.Guid.{guidAt}
 use Rattle.numbers.specs.ExtendedGuid.{readExtendedGuid}
 use Rattle.numbers.specs.Serial.{readSerial}
@@ -89,19 +89,19 @@ fixedIn s n least most k c =
 
 -- a compact integer: its own 2 and 3
 abbrev pub numberOn : ℕ → Compact → Reading
-numberOn at (compact.Value v n) = At (at + n) v
+numberOn at (compact.Value v n padded) = At (at + n) v
 numberOn at (compact.Refused r) = no (r .number) at
 
-unfoldable pub number : List ℕ → Reading → Reading
-number s c = then c (λ at. numberOn at (readCompact (drop at s)))
+unfoldable pub number : Bool → List ℕ → Reading → Reading
+number padding s c = then c (λ at. numberOn at (compactFor padding (drop at s)))
 
 -- a compact integer that must be x: its own 2 and 3, then k
 abbrev pub numberIsOn : ℕ → ℕ → ℕ → Compact → Reading
-numberIsOn x k at (compact.Value v n) = pick (eqb v x) (At (at + n) v) (no k at)
+numberIsOn x k at (compact.Value v n padded) = pick (eqb v x) (At (at + n) v) (no k at)
 numberIsOn x k at (compact.Refused r) = no (r .number) at
 
-unfoldable pub numberIs : List ℕ → ℕ → ℕ → Reading → Reading
-numberIs s x k c = then c (λ at. numberIsOn x k at (readCompact (drop at s)))
+unfoldable pub numberIs : Bool → List ℕ → ℕ → ℕ → Reading → Reading
+numberIs padding s x k c = then c (λ at. numberIsOn x k at (compactFor padding (drop at s)))
 
 -- an extended GUID that must be null: its own 2 and 3, then k
 abbrev pub nullIdOn : ℕ → ℕ → ReadExtendedGuid → Reading
@@ -163,12 +163,12 @@ lengthTo (length′.Refused r) = Refused r
 -- An end of another type, or with nothing open, is 4; an end of the open object's own type, where the layout still needs an
 -- object, is 5 (D-9). Then 5 for another type or compound bit, then 9 where there is no room for one more, then the true
 -- length's own 2 and 3 (D-4).
-abbrev pub startOn : List ℕ → ℕ → ℕ → Bool → Bool → ℕ → Header → Reading
-startOn s outer kind compound room at (header.Refused r) = Refused r
-startOn s outer kind compound room at (header.End k u) = pick (eqb k outer) (no 5 at) (no 4 at)
-startOn s outer kind compound room at (header.Start k b n u) =
+abbrev pub startOn : Bool → List ℕ → ℕ → ℕ → Bool → Bool → ℕ → Header → Reading
+startOn padding s outer kind compound room at (header.Refused r) = Refused r
+startOn padding s outer kind compound room at (header.End k u) = pick (eqb k outer) (no 5 at) (no 4 at)
+startOn padding s outer kind compound room at (header.Start k b n u) =
     pick (eqb k kind)
-    (pick (sameBit b compound) (pick room (lengthTo (lengthAt s (at + u) n)) (no 9 at)) (no 5 at))
+    (pick (sameBit b compound) (pick room (lengthTo (lengthAt padding s (at + u) n)) (no 9 at)) (no 5 at))
     (no 5 at)
 
 -- the type of no object: nothing is open
@@ -176,8 +176,8 @@ abbrev pub nothingOpen : ℕ
 nothingOpen = 0xFFFF
 
 -- the start of an object of this type and compound bit, inside an open object of type `outer`
-unfoldable pub startHere : List ℕ → ℕ → ℕ → Bool → Bool → Reading → Reading
-startHere s outer kind compound room c = then c (λ at. startOn s outer kind compound room at (headerAt s at))
+unfoldable pub startHere : Bool → List ℕ → ℕ → ℕ → Bool → Bool → Reading → Reading
+startHere padding s outer kind compound room c = then c (λ at. startOn padding s outer kind compound room at (headerAt s at))
 
 -- "A data length that the layout fixes .. is judged at the header, after any fault in its true length": 5 at p
 unfoldable pub lengthIs : ℕ → ℕ → Reading → Reading
@@ -185,8 +185,8 @@ lengthIs n p (At from v) = pick (eqb v n) (At from v) (no 5 p)
 lengthIs n p (Refused r) = Refused r
 
 -- the same start, with the length that the layout fixes
-unfoldable pub startOfLength : List ℕ → ℕ → ℕ → Bool → Bool → ℕ → Reading → Reading
-startOfLength s outer kind compound room n c = lengthIs n (placeOf c) (startHere s outer kind compound room c)
+unfoldable pub startOfLength : Bool → List ℕ → ℕ → ℕ → Bool → Bool → ℕ → Reading → Reading
+startOfLength padding s outer kind compound room n c = lengthIs n (placeOf c) (startHere padding s outer kind compound room c)
 
 -- the end of the open object of type `kind`: 4 for another end, 5 for an object
 abbrev pub endOn : ℕ → ℕ → Header → Reading
@@ -212,8 +212,8 @@ abbrev pub insideOn : Passed → Reading
 insideOn (passed.To e) = At e 0
 insideOn (passed.Refused r) = Refused r
 
-unfoldable pub inside : List ℕ → ℕ → ℕ → Reading → Reading
-inside s d kind c = then c (λ at. insideOn (runAt s at d kind))
+unfoldable pub inside : Bool → List ℕ → ℕ → ℕ → Reading → Reading
+inside padding s d kind c = then c (λ at. insideOn (runAt padding s at d kind))
 
 -- "After the last end any byte is 5."
 unfoldable pub finish : List ℕ → Reading → Reading

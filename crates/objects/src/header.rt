@@ -6,6 +6,7 @@ ghost use Rattle.objects.specs.Header.{startOf, endOf, sized, headerOf, 
 ghost use Rattle.objects.specs.Calls.{ReadsHeader};
 use numbers::bytes::read_le;
 use numbers::compact::Compact;
+use numbers::compact::PADDING_TAKEN;
 use numbers::refusal::LONGEST_INPUT;
 use numbers::refusal::Refusal;
 use numbers::refusal::at_place;
@@ -102,9 +103,9 @@ pub(crate) fn header_at(s: &[u8], at: usize) -> Header
     header_of(&s[at..], at)
 }
 
-// The true length, behind a header with the length n that ends at `at`.
-pub(crate) fn length_at(s: &[u8], at: usize, n: u64) -> Length
-    ensures { λ r. ⌜ r ≡ lengthAt (now (s .entry)) at n ⌝ }
+// The true length, behind a header with the length n that ends at `at`; a padded one is 3 unless padding is taken.
+pub(crate) fn length_at(s: &[u8], at: usize, n: u64, padding: bool) -> Length
+    ensures { λ r. ⌜ r ≡ lengthAt padding (now (s .entry)) at n ⌝ }
 {
     if n != ESCAPE {
         return Length::Is(n, at);
@@ -112,18 +113,18 @@ pub(crate) fn length_at(s: &[u8], at: usize, n: u64) -> Length
     if s.len() < at {
         return Length::Refused(at_place(2, at));
     }
-    match numbers::compact::item(&s[at..]) {
-        Compact::Value(v, m) => Length::Is(v, at + m),
+    match numbers::compact::item(&s[at..], padding) {
+        Compact::Value(v, m, _) => Length::Is(v, at + m),
         Compact::Refused(r) => Length::Refused(at_place(r.number, at)),
     }
 }
 
-// The header at the front of a part, true length included.
+// The header at the front of a part, true length included. By itself a header takes padding.
 fn item(s: &[u8]) -> Header
     ensures { λ r. ⌜ r ≡ wholeHeader (now (s .entry)) ⌝ }
 {
     match header_of(s, 0) {
-        Header::Start(kind, compound, n, used) => match length_at(s, used, n) {
+        Header::Start(kind, compound, n, used) => match length_at(s, used, n, PADDING_TAKEN) {
             Length::Is(v, from) => Header::Start(kind, compound, v, from),
             Length::Refused(r) => Header::Refused(r),
         },
@@ -133,7 +134,7 @@ fn item(s: &[u8]) -> Header
 }
 
 // A single header. Ruled out (proofs/WrongAnswers): type 0x2F for `7A 02 08 00`; a missing true length told at 0, where the
-// header stands whole.
+// header stands whole; 3 for a padded true length.
 pub fn read_header(s: &[u8]) -> Header
     ensures { λ r. ⌜ ReadsHeader (now (s .entry)) r ⌝ }
 {

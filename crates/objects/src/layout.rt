@@ -31,10 +31,10 @@ pub const ROOM: bool = true;
 pub const NO_ROOM: bool = false;
 
 // The place where the data begins, with its length as the number.
-fn length_to(s: &[u8], at: usize, n: u64) -> Reading
-    ensures { λ r. ⌜ r ≡ lengthTo (lengthAt (now (s .entry)) at n) ⌝ }
+fn length_to(s: &[u8], at: usize, n: u64, padding: bool) -> Reading
+    ensures { λ r. ⌜ r ≡ lengthTo (lengthAt padding (now (s .entry)) at n) ⌝ }
 {
-    match length_at(s, at, n) {
+    match length_at(s, at, n, padding) {
         Length::Is(v, from) => Reading::At(from, v),
         Length::Refused(r) => Reading::Refused(r),
     }
@@ -43,12 +43,20 @@ fn length_to(s: &[u8], at: usize, n: u64) -> Reading
 impl Reading {
     // The start of an object of this type and compound bit, inside an open object of type `outer`; 9 without room for one
     // more. The number is then the length of its data.
-    pub fn start(self, s: &[u8], outer: u64, kind: u64, compound: bool, room: bool) -> Reading
-        ensures { λ r. ⌜ r ≡ startHere (now (s .entry)) outer kind compound room self ⌝ }
+    pub fn start(
+        self,
+        s: &[u8],
+        outer: u64,
+        kind: u64,
+        compound: bool,
+        room: bool,
+        padding: bool,
+    ) -> Reading
+        ensures { λ r. ⌜ r ≡ startHere padding (now (s .entry)) outer kind compound room self ⌝ }
     {
         match self {
             Reading::Refused(r) => Reading::Refused(r),
-            Reading::At(at, _) => start_at(s, at, outer, kind, compound, room),
+            Reading::At(at, _) => start_at(s, at, outer, kind, compound, room, padding),
         }
     }
 
@@ -76,10 +84,11 @@ impl Reading {
         compound: bool,
         room: bool,
         n: u64,
+        padding: bool,
     ) -> Reading
-        ensures { λ r. ⌜ r ≡ startOfLength (now (s .entry)) outer kind compound room n self ⌝ }
+        ensures { λ r. ⌜ r ≡ startOfLength padding (now (s .entry)) outer kind compound room n self ⌝ }
     {
-        self.start(s, outer, kind, compound, room)
+        self.start(s, outer, kind, compound, room, padding)
             .length_is(n, self.place())
     }
 
@@ -104,12 +113,12 @@ impl Reading {
     }
 
     // Well-nested contents up to the end of the open object of type `kind`.
-    pub fn inside(self, s: &[u8], depth: usize, kind: u64) -> Reading
-        ensures { λ r. ⌜ r ≡ inside (now (s .entry)) depth kind self ⌝ }
+    pub fn inside(self, s: &[u8], depth: usize, kind: u64, padding: bool) -> Reading
+        ensures { λ r. ⌜ r ≡ inside padding (now (s .entry)) depth kind self ⌝ }
     {
         match self {
             Reading::Refused(r) => Reading::Refused(r),
-            Reading::At(at, _) => match pass_run(s, at, depth, kind) {
+            Reading::At(at, _) => match pass_run(s, at, depth, kind, padding) {
                 Passed::To(e) => Reading::At(e, 0),
                 Passed::Refused(r) => Reading::Refused(r),
             },
@@ -220,8 +229,16 @@ fn short_is(w: u64, kind: u64, compound: bool) -> bool
 }
 
 // The start that `Reading::start` asks for, by its two bytes where they are one; a length of over 127 does not come in two bytes.
-fn start_at(s: &[u8], at: usize, outer: u64, kind: u64, compound: bool, room: bool) -> Reading
-    ensures { λ r. ⌜ r ≡ startOn (now (s .entry)) outer kind compound room at (headerAt (now (s .entry)) at) ⌝ }
+fn start_at(
+    s: &[u8],
+    at: usize,
+    outer: u64,
+    kind: u64,
+    compound: bool,
+    room: bool,
+    padding: bool,
+) -> Reading
+    ensures { λ r. ⌜ r ≡ startOn padding (now (s .entry)) outer kind compound room at (headerAt (now (s .entry)) at) ⌝ }
 {
     if room {
         let w = short_number(s, at);
@@ -232,7 +249,7 @@ fn start_at(s: &[u8], at: usize, outer: u64, kind: u64, compound: bool, room: bo
             }
         }
     }
-    start_by_header(s, at, outer, kind, compound, room)
+    start_by_header(s, at, outer, kind, compound, room, padding)
 }
 
 fn start_by_header(
@@ -242,8 +259,9 @@ fn start_by_header(
     kind: u64,
     compound: bool,
     room: bool,
+    padding: bool,
 ) -> Reading
-    ensures { λ r. ⌜ r ≡ startOn (now (s .entry)) outer kind compound room at (headerAt (now (s .entry)) at) ⌝ }
+    ensures { λ r. ⌜ r ≡ startOn padding (now (s .entry)) outer kind compound room at (headerAt (now (s .entry)) at) ⌝ }
 {
     match header_at(s, at) {
         Header::Refused(r) => Reading::Refused(r),
@@ -260,7 +278,7 @@ fn start_by_header(
             let same = same_bit(b, compound);
             if same {
                 if room {
-                    return length_to(s, at + used, n);
+                    return length_to(s, at + used, n, padding);
                 }
                 return Reading::Refused(at_place(9, at));
             }

@@ -17,6 +17,7 @@ use crate::header::header_at;
 use crate::header::left_of;
 use crate::header::length_at;
 use crate::header::short_number;
+use numbers::compact::PADDING_TAKEN;
 use numbers::refusal::Refusal;
 use numbers::refusal::at_place;
 
@@ -27,10 +28,10 @@ pub enum Passed {
 }
 
 // The place behind the data of a header with the length n that ends at `at`.
-fn data_past(s: &[u8], at: usize, n: u64) -> Passed
-    ensures { λ r. ⌜ r ≡ dataPast (now (s .entry)) at n ⌝ }
+fn data_past(s: &[u8], at: usize, n: u64, padding: bool) -> Passed
+    ensures { λ r. ⌜ r ≡ dataPast padding (now (s .entry)) at n ⌝ }
 {
-    match length_at(s, at, n) {
+    match length_at(s, at, n, padding) {
         Length::Refused(r) => Passed::Refused(r),
         Length::Is(v, from) => {
             let left = left_of(s.len(), from);
@@ -52,8 +53,8 @@ enum Next {
 }
 
 // The same told by its header, of any form, with so many compound objects still to be opened.
-fn next_by_header(s: &[u8], at: usize, depth: usize) -> Next
-    ensures { λ r. ⌜ r ≡ nextAt (now (s .entry)) at depth ⌝ }
+fn next_by_header(s: &[u8], at: usize, depth: usize, padding: bool) -> Next
+    ensures { λ r. ⌜ r ≡ nextAt padding (now (s .entry)) at depth ⌝ }
 {
     match header_at(s, at) {
         Header::Refused(r) => Next::Refused(r),
@@ -63,12 +64,12 @@ fn next_by_header(s: &[u8], at: usize, depth: usize) -> Next
                 if depth == 0 {
                     return Next::Refused(at_place(6, at));
                 }
-                match data_past(s, at + used, n) {
+                match data_past(s, at + used, n, padding) {
                     Passed::Refused(r) => Next::Refused(r),
                     Passed::To(e) => Next::Opens(kind, e),
                 }
             } else {
-                match data_past(s, at + used, n) {
+                match data_past(s, at + used, n, padding) {
                     Passed::Refused(r) => Next::Refused(r),
                     Passed::To(e) => Next::Past(e),
                 }
@@ -122,15 +123,15 @@ fn told_refusal(r: Refusal, placed: bool) -> usize
 // The object at a place of the input, with so many compound objects still to be opened: the run inside it has one level fewer. What comes
 // back is the place behind it, or a refusal as one number; that is why the place must lie within the input, as a fault's place then does
 // too. A short start and any other lead to one call of `read_run`.
-fn read_object(s: &[u8], at: usize, depth: usize, placed: bool) -> usize
+fn read_object(s: &[u8], at: usize, depth: usize, placed: bool, padding: bool) -> usize
     requires { ⌜ at ≤ length (now s) ⌝ }
-    ensures { λ r. ⌜ r ≡ toldNumber placed (objectAt (now (s .entry)) at depth) ⌝ }
+    ensures { λ r. ⌜ r ≡ toldNumber placed (objectAt padding (now (s .entry)) at depth) ⌝ }
 {
     let w = short_number(s, at);
     let mut kind = w / 8 % SHORT_TYPES;
     let mut inside = opened_at(s, at, w, depth);
     if inside == 0 {
-        match next_by_header(s, at, depth) {
+        match next_by_header(s, at, depth, padding) {
             Next::Refused(r) => return told_refusal(r, placed),
             Next::Past(e) => return e,
             Next::Ends(_, _) => return told_refusal(at_place(4, at), placed),
@@ -140,7 +141,7 @@ fn read_object(s: &[u8], at: usize, depth: usize, placed: bool) -> usize
             }
         }
     }
-    read_run(s, inside, depth - 1, kind, placed)
+    read_run(s, inside, depth - 1, kind, placed, padding)
 }
 
 // What a run meets at a place: a plain object with a short header, and the place behind it; the run's own end, and the place behind it; or
@@ -151,11 +152,11 @@ enum Met {
     Object,
 }
 
-// The same as `met_at`, by a header of any form that is no short start of a plain object.
+// The same as `met_at`, by a header of any form that is no short start of a plain object. Only an end counts, which has no true length.
 fn met_by_header(s: &[u8], at: usize, kind: u64) -> Met
     ensures { λ r. ⌜ r ≡ metBy kind at (headerAt (now (s .entry)) at) ⌝ }
 {
-    match next_by_header(s, at, 0) {
+    match next_by_header(s, at, 0, PADDING_TAKEN) {
         Next::Refused(_) => Met::Object,
         Next::Past(_) => Met::Object,
         Next::Opens(_, _) => Met::Object,
@@ -201,9 +202,9 @@ fn met_at(s: &[u8], at: usize, kind: u64) -> Met
 }
 
 // Objects up to the end of the open object of type `kind`; what comes back is as of `read_object`.
-fn read_run(s: &[u8], at: usize, depth: usize, kind: u64, placed: bool) -> usize
+fn read_run(s: &[u8], at: usize, depth: usize, kind: u64, placed: bool, padding: bool) -> usize
     requires { ⌜ at ≤ length (now s) ⌝ }
-    ensures { λ r. ⌜ r ≡ toldNumber placed (runAt (now (s .entry)) at depth kind) ⌝ }
+    ensures { λ r. ⌜ r ≡ toldNumber placed (runAt padding (now (s .entry)) at depth kind) ⌝ }
 {
     let mut i = at;
     loop {
@@ -213,7 +214,7 @@ fn read_run(s: &[u8], at: usize, depth: usize, kind: u64, placed: bool) -> usize
             }
             Met::Ended(e) => return e,
             Met::Object => {
-                let e = read_object(s, i, depth, placed);
+                let e = read_object(s, i, depth, placed, padding);
                 if REFUSED <= e {
                     return e;
                 }
@@ -225,32 +226,32 @@ fn read_run(s: &[u8], at: usize, depth: usize, kind: u64, placed: bool) -> usize
 
 // The object at a place of the input, as a `Passed`. What is refused is read once more, for the fault's place, and nothing else is read
 // twice. Ruled out (proofs/WrongAnswers): `0C 00 05` ended at 2, behind its own data; the same taken with no level left.
-pub fn pass_object(s: &[u8], at: usize, depth: usize) -> Passed
-    ensures { λ r. ⌜ r ≡ objectAt (now (s .entry)) at depth ⌝ }
+pub fn pass_object(s: &[u8], at: usize, depth: usize, padding: bool) -> Passed
+    ensures { λ r. ⌜ r ≡ objectAt padding (now (s .entry)) at depth ⌝ }
 {
     if s.len() < at {
         return Passed::Refused(at_place(2, at));
     }
-    let e = read_object(s, at, depth, false);
+    let e = read_object(s, at, depth, false, padding);
     if e < REFUSED {
         return Passed::To(e);
     }
-    let place = read_object(s, at, depth, true) - REFUSED;
+    let place = read_object(s, at, depth, true, padding) - REFUSED;
     Passed::Refused(at_place((e - REFUSED) as u8, place))
 }
 
 // A run, as a `Passed`, like an object. Ruled out (proofs/WrongAnswers): `09`, an end of type 2, taken for one of type 1; a run without
 // an end.
-pub(crate) fn pass_run(s: &[u8], at: usize, depth: usize, kind: u64) -> Passed
-    ensures { λ r. ⌜ r ≡ runAt (now (s .entry)) at depth kind ⌝ }
+pub(crate) fn pass_run(s: &[u8], at: usize, depth: usize, kind: u64, padding: bool) -> Passed
+    ensures { λ r. ⌜ r ≡ runAt padding (now (s .entry)) at depth kind ⌝ }
 {
     if s.len() < at {
         return Passed::Refused(at_place(2, at));
     }
-    let e = read_run(s, at, depth, kind, false);
+    let e = read_run(s, at, depth, kind, false, padding);
     if e < REFUSED {
         return Passed::To(e);
     }
-    let place = read_run(s, at, depth, kind, true) - REFUSED;
+    let place = read_run(s, at, depth, kind, true, padding) - REFUSED;
     Passed::Refused(at_place((e - REFUSED) as u8, place))
 }

@@ -105,9 +105,9 @@ impl Reading {
         }
     }
 
-    // A compact integer, with its own 2 and 3.
-    pub fn number(self, s: &[u8]) -> Reading
-        ensures { λ r. ⌜ r ≡ number (now (s .entry)) self ⌝ }
+    // A compact integer, with its own 2 and 3, which is for padding that is not taken.
+    pub fn number(self, s: &[u8], padding: bool) -> Reading
+        ensures { λ r. ⌜ r ≡ number padding (now (s .entry)) self ⌝ }
     {
         match self {
             Reading::Refused(r) => Reading::Refused(r),
@@ -115,8 +115,8 @@ impl Reading {
                 if s.len() < at {
                     return Reading::Refused(at_place(2, at));
                 }
-                match numbers::compact::item(&s[at..]) {
-                    Compact::Value(v, n) => Reading::At(at + n, v),
+                match numbers::compact::item(&s[at..], padding) {
+                    Compact::Value(v, n, _) => Reading::At(at + n, v),
                     Compact::Refused(r) => Reading::Refused(at_place(r.number, at)),
                 }
             }
@@ -124,8 +124,8 @@ impl Reading {
     }
 
     // A compact integer that must be x; else k at its place.
-    pub fn number_is(self, s: &[u8], x: u64, k: u8) -> Reading
-        ensures { λ r. ⌜ r ≡ numberIs (now (s .entry)) x k self ⌝ }
+    pub fn number_is(self, s: &[u8], x: u64, k: u8, padding: bool) -> Reading
+        ensures { λ r. ⌜ r ≡ numberIs padding (now (s .entry)) x k self ⌝ }
     {
         match self {
             Reading::Refused(r) => Reading::Refused(r),
@@ -133,8 +133,8 @@ impl Reading {
                 if s.len() < at {
                     return Reading::Refused(at_place(2, at));
                 }
-                match numbers::compact::item(&s[at..]) {
-                    Compact::Value(v, n) => {
+                match numbers::compact::item(&s[at..], padding) {
+                    Compact::Value(v, n, _) => {
                         if v == x {
                             return Reading::At(at + n, v);
                         }

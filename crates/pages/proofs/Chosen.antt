@@ -1,51 +1,55 @@
--- The wanted among the elements of the working tables: those of the rows still to come, turn by turn; and the elements that flags
--- leave are those that filters leave in and the ranges do not know.
+-- The wanted among the elements of the working tables: those that are queued still to come, turn by turn; the elements that flags choose are
+-- those that filters leave in and the ranges do not know; and the groups that have one of these are the wanted groups.
 -- Assumes nothing.
-use mathlib.Core.Path.{_≡_, refl, _∙_}
+use mathlib.Core.Path.{_≡_, refl, subst}
 use mathlib.Core.Bool.{Bool, true, false, not}
 use mathlib.Core.List.{List, [], _∷_, _++_, map}
-use Prim.Native.Nat.{ℕ, _+_, _-_, _≤_, _<_}
+use Prim.Native.Nat.{ℕ, zero, suc, _+_, _≤_, _<_}
 use native.Mathlib.Omega.{arith}
 use native.Mathlib.Numerals.{add-one}
-use lib.ListN.{length, drop, getD}
-use lib.Seq.{drop-cons}
+use lib.ListN.{length, take, drop, getD, drop-of-length-le, length-take}
+use lib.Seq.{drop-cons, getD-take, length-take-le}
 use lib.Dec.{eqb}
-use borrow.Author.Tests.{eq-eqb, ne-eqb}
 use Rattle.laws.specs.Pick.{pick}
+use Rattle.objects.specs.declared.reading.Reading.the-variants.{At}
+use Rattle.talk.specs.Each.{Each}
 use Rattle.talk.specs.Wanted.{keep, isWanted, wanted}
 use Rattle.talk.specs.declared.range.Range.{Range}
+use Rattle.talk.proofs.Things.{each-so}
 use Rattle.store.specs.declared.element.Element.{Element}
-use Rattle.request.specs.Meaning.{Filter, leftIn, letsIn}
-use Rattle.store.specs.Tables.{elementInRow, elementsInRows}
+use Rattle.store.specs.Tables.{elementInRow, elementsInRows, elementsIn}
+use Rattle.order.specs.Order.{ordered}
+use Rattle.order.specs.Groups.{groups}
+use Rattle.order.specs.Queue.{chosen, elementsAt, queuedIn}
+use Rattle.order.proofs.GroupMembers.{some-share}
+use Rattle.order.proofs.Grouping.{members-share}
+use Rattle.request.specs.Meaning.{filtersRead, leftIn, letsIn}
 use Rattle.request.specs.Choice.{flagOf, flagsOf, setFlags}
-use Rattle.store.proofs.Elements.{elements-turn, elements-end}
-use Rattle.pages.specs.Choice.{isKnown, wantedIn}
-use Rattle.pages.specs.Tables.{chosen, chosenIn}
+use Rattle.pages.specs.Choice.{knowsKey, isKnown, letsGroup, wantedIn}
+use Rattle.pages.specs.Held.{wantedFlags, isWantedHere, groupsWanted}
+use Rattle.pages.specs.declared.deciding.Asked.{Asked}
 
--- ---- those of the rows from i on
+-- ---- those that are queued from place i on
 
-abbrev pub chosenFrom : List ℕ → List ℕ → ℕ → List ℕ → ℕ → List Element
-chosenFrom rows ids n flags i = chosen (elementsInRows rows ids i (n - i)) (drop i flags)
+abbrev pub queuedFrom : List ℕ → List ℕ → ℕ → List ℕ → ℕ → List Element
+queuedFrom rows ids w queue i = elementsAt rows ids (drop i (take w queue))
 
-pub chosen-start : (rows ids : List ℕ) (n : ℕ) (flags : List ℕ) → chosenIn rows ids n flags ≡ chosenFrom rows ids n flags 0
-chosen-start rows ids n flags =
-    let e : n - 0 ≡ n = omega arith in
-    rw e
+each-behind : (P : Element → Type 0) (rows ids : List ℕ) (i : ℕ) (l : List ℕ) → Each P (elementsAt rows ids l) → Each P (elementsAt rows ids (drop i l))
+each-behind P rows ids zero l e = e
+each-behind P rows ids (suc i) [] e = tt
+each-behind P rows ids (suc i) (j ∷ l) e = each-behind P rows ids i l (e .1)
 
-module _ (rows ids : List ℕ) (n : ℕ) (flags : List ℕ) (i : ℕ) (h : i < n) (g : i < length flags) where
-  chosen-turn : chosenFrom rows ids n flags i ≡ pick (eqb (getD flags i 0) 0) (chosenFrom rows ids n flags (i + 1)) (elementInRow rows ids i ∷ chosenFrom rows ids n flags (i + 1))
-  unfolding chosen
-  chosen-turn = rw (elements-turn rows ids i n h, drop-cons flags i 0 g, add-one i)
+module _ (rows ids : List ℕ) (w : ℕ) (queue : List ℕ) (i : ℕ) where
+  pub queued-one : i < w → w ≤ length queue → {x : Element} → x ≡ elementInRow rows ids (getD queue i 0) → queuedFrom rows ids w queue i ≡ x ∷ queuedFrom rows ids w queue (i + 1)
+  queued-one h g x-is =
+      let l : i < length (take w queue) = omega (arith, length-take-le w queue g) in
+      rw (drop-cons (take w queue) i 0 l, getD-take w queue i 0 h, add-one i, x-is)
 
-  pub chosen-not : getD flags i 0 ≡ 0 → chosenFrom rows ids n flags i ≡ chosenFrom rows ids n flags (i + 1)
-  chosen-not e = chosen-turn ∙ rw (eq-eqb (getD flags i 0) 0 e)
+  pub queued-each : (P : Element → Type 0) → i < w → w ≤ length queue → Each P (queuedIn rows ids w queue) → P (elementInRow rows ids (getD queue i 0))
+  queued-each P h g e = (subst (Each P) (queued-one h g refl) (each-behind P rows ids i (take w queue) e)) .0
 
-  pub chosen-one : (getD flags i 0 ≡ 0 → ⊥) → {x : Element} → x ≡ elementInRow rows ids i → chosenFrom rows ids n flags i ≡ x ∷ chosenFrom rows ids n flags (i + 1)
-  chosen-one e x-is = chosen-turn ∙ rw (ne-eqb (getD flags i 0) 0 e, x-is)
-
-pub chosen-none : (rows ids : List ℕ) (n : ℕ) (flags : List ℕ) (i : ℕ) → n ≤ i → chosenFrom rows ids n flags i ≡ []
-unfolding chosen
-chosen-none rows ids n flags i h = rw (elements-end rows ids i n h)
+  pub queued-none : w ≤ i → queuedFrom rows ids w queue i ≡ []
+  queued-none h = let l : length (take w queue) ≤ i = omega (arith, length-take w queue) in rw (drop-of-length-le (take w queue) l)
 
 -- ---- those that are wanted
 
@@ -63,8 +67,46 @@ unfolding chosen setFlags flagsOf keep
 chosen-wanted known lets [] d = refl
 chosen-wanted known lets (x ∷ xs) d = rw (chosen-wanted known lets xs d) (flag-wanted (known x) (lets x) _ _)
 
--- the flags as filters set them, cleared where the ranges know the element
-pub chosen-are-wanted : (fs : List Filter) (l : List Range) (all : List Element) (d : List ℕ)
-    → chosen all (setFlags (isKnown l) 0 all (flagsOf (letsIn fs all) ++ d)) ≡ wantedIn fs l all
-unfolding letsIn wantedIn wanted isWanted isKnown
-chosen-are-wanted fs l all d = chosen-wanted (isKnown l) (λ (x : Element). leftIn fs all x true) all d
+-- ---- the flag of each says whether it is wanted
+
+flag-says : (known lets : Bool) → pick known 0 (flagOf lets) ≡ pick (pick lets (not known) false) 1 0
+unfolding flagOf
+flag-says true true = refl
+flag-says true false = refl
+flag-says false true = refl
+flag-says false false = refl
+
+flags-from : (known lets : Element → Bool) (rows ids : List ℕ) (i n : ℕ) (d : List ℕ) (j : ℕ) → j < n
+    → getD (setFlags known 0 (elementsInRows rows ids i n) (flagsOf (map lets (elementsInRows rows ids i n)) ++ d)) j 0
+    ≡ pick (pick (lets (elementInRow rows ids (i + j))) (not (known (elementInRow rows ids (i + j)))) false) 1 0
+unfolding setFlags flagsOf elementsInRows
+flags-from known lets rows ids i zero d j h = absurd (omega arith)
+flags-from known lets rows ids i (suc n) d zero h =
+    let e : i + 0 ≡ i = omega arith in
+    rw e (flag-says (known (elementInRow rows ids i)) (lets (elementInRow rows ids i)))
+flags-from known lets rows ids i (suc n) d (suc j) h =
+    let e : i + suc j ≡ suc i + j = omega arith in
+    rw e (flags-from known lets rows ids (suc i) n d j (omega arith))
+
+pub flags-say : (q : List ℕ) (a : Asked) (known : List Range) (rows ids : List ℕ) (n : ℕ) (behind : List ℕ) (i : ℕ) → i < n
+    → getD (wantedFlags q a known (elementsIn rows ids n) behind) i 0 ≡ pick (isWantedHere q a known (elementsIn rows ids n) (elementInRow rows ids i)) 1 0
+unfolding letsIn
+flags-say q a known rows ids n behind i h =
+    let e : 0 + i ≡ i = omega arith in
+    rw e at
+    (flags-from (isKnown known) (λ (x : Element). leftIn (filtersRead (a .count) q (At (a .place) 0)) (elementsIn rows ids n) x true) rows ids 0 n behind i h)
+
+-- ---- the groups with a wanted member are those that are wanted, since all members have the serial number of their group
+
+pub keep-same : {E : Type 0} (test other : E → Bool) (l : List E) → Each (λ (x : E). test x ≡ other x) l → keep test l ≡ keep other l
+unfolding keep
+keep-same test other [] h = refl
+keep-same test other (x ∷ l) h = rw (h .0, keep-same test other l (h .1))
+
+pub groups-are-wanted : (q : List ℕ) (a : Asked) (known : List Range) (all : List Element)
+    → groupsWanted q a known all ≡ wantedIn (filtersRead (a .count) q (At (a .place) 0)) known all
+unfolding wantedIn wanted isWanted letsGroup isKnown
+groups-are-wanted q a known all =
+    let lets : Element → Bool = λ x. leftIn (filtersRead (a .count) q (At (a .place) 0)) all x true in
+    keep-same _ _ (groups (ordered all))
+    (each-so _ _ (groups (ordered all)) (λ g h. some-share lets (knowsKey known) g h) (members-share (ordered all)))

@@ -7,60 +7,25 @@ use Prim.Native.Nat.{ℕ, _+_, _≤_}
 use native.Mathlib.Omega.{arith}
 use lib.ListN.{length, length-append}
 use borrow.Author.Tests.{ne-eqb}
-use Rattle.laws.specs.Bytes.{bytes}
 use Rattle.laws.proofs.Parts.{part-length}
-use Rattle.numbers.specs.Compact.{sizeOf, formFrom, formOf, compactBytes}
 use Rattle.numbers.specs.ExtendedGuid.{extendedGuidBytes}
 use Rattle.numbers.specs.declared.extended_guid.ExtendedGuid.{ExtendedGuid}
 use Rattle.numbers.specs.declared.extended_guid.ExtendedGuid.the-variants.{Null, Named}
-use Rattle.objects.specs.Header.{startBytes, longStart, endBytes}
+use Rattle.objects.specs.Header.{startBytes, endBytes}
 use Rattle.objects.proofs.HeaderForms.{length-own}
 use Rattle.talk.specs.Each.{Each}
 use Rattle.talk.specs.declared.range.Range.{Range}
-use Rattle.store.specs.Written.{packageFront}
 use Rattle.store.specs.KnowledgeWritten.{rangesBytes, cellFront, cellBack, knowledgeBytes}
+use Rattle.store.specs.Held.{storedBytes, elementsBytes, packageOf}
 use Rattle.store.specs.declared.element.Element.{Element}
-use Rattle.store.proofs.ElementWritten.{compact-most, named-most}
+use Rattle.store.proofs.ElementWritten.{named-most}
 use Rattle.store.proofs.KnowledgeLengths as knowledge
-use Rattle.pages.specs.Choice.{storedLength}
-use Rattle.pages.specs.Written.{versionBytes, answerSignature, responseBytes, storedBytes, elementsBytes, subResponseData, subResponseBytes, changesData, changesBytes, endsBytes, answerBytes, partialByte, packageOf}
-use Rattle.pages.specs.Tables.{answerFront, answerMiddle, wholeOf, fixedLength}
-
--- ---- what is the same in each answer
-
-pub length-versions : (signature : ℕ) → length (versionBytes signature) ≡ 12
-unfolding versionBytes bytes
-length-versions signature = refl
-
-pub length-front : (length (versionBytes answerSignature) ≡ 12) × (length (startBytes 0x62 true 1) ≡ 4) × (length (startBytes 0x15 true 1) ≡ 2) × (length answerFront ≡ 20)
-unfolding answerFront versionBytes responseBytes packageFront startBytes longStart bytes
-length-front = (refl, refl, refl, refl)
-
-pub length-back : (length (endBytes 0x15) ≡ 1) × (length (endBytes 0x41) ≡ 2) × (length (endBytes 0x62) ≡ 2) × (length endsBytes ≡ 4)
-unfolding endsBytes endBytes bytes
-length-back = (refl, refl, refl, refl)
-
--- ---- the sub-response
-
-pub length-two : length (compactBytes 2) ≡ 1
-unfolding compactBytes sizeOf formOf formFrom bytes
-length-two = refl
-
-pub length-sub-data : (id : ℕ) → length (subResponseData id) ≡ length (compactBytes id) + 2
-unfolding subResponseData
-length-sub-data id =
-    length-append (compactBytes id) (compactBytes 2 ++ (0 ∷ []))
-    ∙ (let a = length-append (compactBytes 2) (0 ∷ []) in let b = length-two in omega arith)
-
--- where its data is as long as was told
-pub length-sub-start : (id n : ℕ) → n ≡ length (compactBytes id) → length (startBytes 0x41 true (n + 2)) ≡ 4
-length-sub-start id n e = length-own 0x41 true (n + 2) refl (let m = compact-most id in omega arith)
-
-pub length-sub : (id : ℕ) → length (subResponseBytes id) ≡ 6 + length (compactBytes id)
-unfolding subResponseBytes
-length-sub id =
-    length-append (startBytes 0x41 true (length (subResponseData id))) (subResponseData id)
-    ∙ (let d = length-sub-data id in let m = compact-most id in let a = length-own 0x41 true (length (subResponseData id)) refl (omega arith) in omega arith)
+use Rattle.request.specs.Message.{queryChangesRequest}
+use Rattle.request.specs.Response.{subResponseBytes, endsBytes, answerFront}
+use Rattle.request.proofs.ResponseLengths.{length-front, length-back, length-two, length-sub}
+use Rattle.order.specs.Groups.{storedLength}
+use Rattle.pages.specs.Written.{changesData, changesBytes, answerBytes, partialByte}
+use Rattle.pages.specs.Tables.{answerMiddle, wholeOf, fixedLength}
 
 -- ---- the storage index
 
@@ -83,13 +48,18 @@ length-changes index partial =
     ∙ (let d = length-changes-data index partial in let m = extended-most index in let a = length-own 0x5F false (length (changesData index partial)) refl (omega arith) in omega arith)
 
 pub length-middle : (id : ℕ) (index : ExtendedGuid) (partial : Bool)
-    → length (answerMiddle id index partial) ≡ 1 + (length (subResponseBytes id) + length (changesBytes index partial))
+    → length (answerMiddle id index partial) ≡ 1 + (length (subResponseBytes queryChangesRequest id) + length (changesBytes index partial))
 unfolding answerMiddle
 length-middle id index partial =
-    length-append (endBytes 0x15) (subResponseBytes id ++ changesBytes index partial)
-    ∙ (let a = length-append (subResponseBytes id) (changesBytes index partial) in let b = length-back in omega arith)
+    length-append (endBytes 0x15) (subResponseBytes queryChangesRequest id ++ changesBytes index partial)
+    ∙ (let a = length-append (subResponseBytes queryChangesRequest id) (changesBytes index partial) in let b = length-back in omega arith)
 
 -- ---- the elements, each of which stands in the store
+
+pub stored-append : (xs ys : List Element) → storedLength (xs ++ ys) ≡ storedLength xs + storedLength ys
+unfolding storedLength
+stored-append [] ys = omega arith
+stored-append (x ∷ xs) ys = omega (arith, stored-append xs ys)
 
 abbrev pub AllWithin : List ℕ → List Element → Type 0
 AllWithin s page = Each (λ (x : Element). x .place + x .length ≤ length s) page
@@ -104,7 +74,7 @@ elements-length s (x ∷ xs) w =
 -- ---- the whole
 
 -- with a range there is a cell knowledge
-whole-some : (fixed stored ranges spelled : ℕ) → (ranges ≡ 0 → ⊥) → wholeOf fixed stored ranges spelled ≡ fixed + 25 + stored + spelled
+pub whole-some : (fixed stored ranges spelled : ℕ) → (ranges ≡ 0 → ⊥) → wholeOf fixed stored ranges spelled ≡ fixed + 25 + stored + spelled
 unfolding wholeOf
 whole-some fixed stored ranges spelled h = rw (ne-eqb ranges 0 h)
 
@@ -159,7 +129,8 @@ answer-length s id index page partial l w =
       length-parts s id index page partial l,
       elements-length s page w,
       length-middle id index partial,
-      length-sub id,
+      length-two,
+      length-sub queryChangesRequest id,
       length-changes index partial,
       length-knowledge (storedLength page) (fixedLength id index) l,
     )

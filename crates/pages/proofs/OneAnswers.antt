@@ -1,5 +1,5 @@
--- The answering call determines its answer and all three lent buffers: any two that its promise allows are equal. What is decided
--- is known by what tells it, too.
+-- Each answering call determines its answer and all that it is lent: any two that its promise allows are equal. What is decided is
+-- known by what tells it, too.
 -- Assumes nothing.
 use mathlib.Core.Path.{_≡_, refl, sym, ap, _∙_}
 use mathlib.Core.Bool.{Bool, true, false}
@@ -13,7 +13,7 @@ use Rattle.laws.proofs.OneAnswer.{Telling, one-answer}
 use Rattle.numbers.proofs.OneAnswers.{refuses-telling, values-of}
 use Rattle.numbers.specs.Refusals.{Told}
 use Rattle.pages.specs.Decision.{tellDecided}
-use Rattle.pages.specs.Answer.{Outcome, tellAnswered, Gives, Answers}
+use Rattle.pages.specs.Answer.{Outcome, tellAnswered, Tells, TellsLength, WritesAnswer}
 use Rattle.pages.specs.declared.page.Decided.the-variants as decided
 use Rattle.pages.specs.declared.answer.Answered.{Answered}
 use Rattle.pages.specs.declared.answer.Answered.the-variants as answer
@@ -51,12 +51,20 @@ decided-telling (decided.Short n) (decided.Sent k w r m) q = let v = values-of _
 decided-telling (decided.Short n) decided.Crowded q = let z : _≡_ {A = ℕ} 14 9 = ap (λ (t : Told). t .number) q in absurd (omega arith)
 decided-telling (decided.Short n) (decided.Short m) q = ap decided.Short (ap (λ (t : Told). t .needed) q)
 
-module _ (o : Outcome) (r t : Answered) (rows rows′ rows″ ranges ranges′ ranges″ out out′ out″ : List ℕ) where
-  gives-one : Gives o r rows rows′ ranges ranges′ out out′ → Gives o t rows rows″ ranges ranges″ out out″
-      → (r ≡ t) × (rows′ ≡ rows″) × (ranges′ ≡ ranges″) × (out′ ≡ out″)
-  gives-one a b = (one-answer answer-telling (a .0) (b .0), a .1 ∙ sym (b .1), a .2 ∙ sym (b .2), a .3 ∙ sym (b .3))
+-- what is told and both tables; and the output
 
-pub answers-one : (s q : List ℕ) (r t : Answered) (rows rows′ rows″ ranges ranges′ ranges″ out out′ out″ : List ℕ)
-    → Answers s q r rows rows′ ranges ranges′ out out′ → Answers s q t rows rows″ ranges ranges″ out out″
+pub tells-one : (o : Outcome) (r t : Answered) (rows rows′ rows″ ranges ranges′ ranges″ : List ℕ) → Tells o r rows rows′ ranges ranges′ → Tells o t rows rows″ ranges ranges″
+    → (r ≡ t) × (rows′ ≡ rows″) × (ranges′ ≡ ranges″)
+tells-one o r t rows rows′ rows″ ranges ranges′ ranges″ a b = (one-answer answer-telling (a .0) (b .0), a .1 ∙ sym (b .1), a .2 ∙ sym (b .2))
+
+pub length-one : (s q : List ℕ) (offered : ℕ) (r t : Answered) (rows rows′ rows″ ranges ranges′ ranges″ : List ℕ)
+    → TellsLength s q offered r rows rows′ ranges ranges′ → TellsLength s q offered t rows rows″ ranges ranges″
+    → (r ≡ t) × (rows′ ≡ rows″) × (ranges′ ≡ ranges″)
+length-one s q offered r t rows rows′ rows″ ranges ranges′ ranges″ a b = tells-one _ r t rows rows′ rows″ ranges ranges′ ranges″ a b
+
+pub writes-one : (s q : List ℕ) (r t : Answered) (rows rows′ rows″ ranges ranges′ ranges″ out out′ out″ : List ℕ)
+    → WritesAnswer s q r rows rows′ ranges ranges′ out out′ → WritesAnswer s q t rows rows″ ranges ranges″ out out″
     → (r ≡ t) × (rows′ ≡ rows″) × (ranges′ ≡ ranges″) × (out′ ≡ out″)
-answers-one s q r t rows rows′ rows″ ranges ranges′ ranges″ out out′ out″ a b = gives-one _ r t rows rows′ rows″ ranges ranges′ ranges″ out out′ out″ a b
+writes-one s q r t rows rows′ rows″ ranges ranges′ ranges″ out out′ out″ a b =
+    let x = tells-one _ r t rows rows′ rows″ ranges ranges′ ranges″ (a .0, a .1, a .2) (b .0, b .1, b .2) in
+    (x .0, x .1, x .2, a .3 ∙ sym (b .3))

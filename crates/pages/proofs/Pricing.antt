@@ -3,26 +3,20 @@
 -- Assumes nothing.
 use mathlib.Core.Path.{_≡_, sym, ap, _∙_}
 use mathlib.Core.List.{List, [], _∷_, _++_}
-use Prim.Native.Nat.{ℕ, zero, suc, _+_, _-_, _*_, _^_, _≤_, _<_}
+use Prim.Native.Nat.{ℕ, zero, suc, _+_, _-_, _*_, _≤_}
 use native.Mathlib.Omega.{arith}
 use lib.ListN.{length, take, drop, length-append}
 use lib.Seq.{drop-at}
 use borrow.Author.Tests.{le-leb}
-use Rattle.talk.specs.Each.{Each}
-use Rattle.talk.specs.Ranges.{absorb, insert, Normal, AllFit}
+use Rattle.talk.specs.Ranges.{absorb, insert}
 use Rattle.talk.specs.declared.range.Range.{Range}
-use Rattle.talk.proofs.Bounds.{insert-fits}
-use Rattle.talk.proofs.Insertion.{normal-insert}
-use Rattle.ranges.specs.Ranged.{rangeOf}
 use Rattle.ranges.specs.RangeTable.{FirstNotBefore, rangeAt, rangesAt, numbersOf, laidRanges, laidIn}
 use Rattle.store.specs.KnowledgeWritten.{rangeBytes, rangesBytes}
-use Rattle.store.specs.Written.{keyGuid}
+use Rattle.store.specs.Held.{serialRange, rangesWith}
 use Rattle.store.specs.declared.element.Element.{Element}
-use Rattle.store.proofs.KnowledgeFits.{range-fits}
 use Rattle.ranges.proofs.OneAnswers.{rows-before-one}
 use Rattle.ranges.proofs.RangeRows.{insert-at, length-rows, add-done, laid-rows}
 use Rattle.store.proofs.KnowledgeLengths.{data-most, range-is}
-use Rattle.pages.specs.Choice.{serialRange, rangesWith}
 use Rattle.pages.specs.Tables.{laidWith, laidAll, Priced}
 use Rattle.pages.specs.declared.price.Price.{Price}
 
@@ -124,27 +118,8 @@ laid-law t t′ count x p q h d =
     add-done t count (p .at) (p .next) (p .range) (insert x (rangesAt t 0 count)) (q .form) t′ (omega (arith, q .spread)) d .1 in
     e ∙ simp (le-leb _ _ k)
 
--- ---- the ranges and the table after elements were taken
+-- ---- the table after elements were taken: its rows hold the ranges
 
--- an element's serial number is a range that holds a number
-serial-some : (x : Element) → serialRange x .from ≤ serialRange x .to
-unfolding serialRange rangeOf
-serial-some x = omega arith
-
-pub normal-with : (xs : List Element) (l : List Range) → Normal l → Normal (rangesWith l xs)
-unfolding rangesWith
-normal-with [] l n = n
-normal-with (x ∷ xs) l n = normal-with xs (insert (serialRange x) l) (normal-insert (serialRange x) l (serial-some x) n)
-
--- where the serial numbers are of 64 bits, so are the ranges with them
-pub fit-with : (xs : List Element) (l : List Range) → Each (λ (x : Element). x .serial .number < 2 ^ 64) xs → AllFit l → AllFit (rangesWith l xs)
-unfolding rangesWith serialRange
-fit-with [] l h f = f
-fit-with (x ∷ xs) l h f =
-    fit-with xs (insert (serialRange x) l) (h .1)
-    (insert-fits (serialRange x) l (range-fits (keyGuid (x .serial)) (x .serial .number) (x .serial .number) (h .0) (h .0)) f)
-
--- the table's rows hold the ranges
 pub rows-laid : (xs : List Element) (l : List Range) (t : List ℕ) → rangesAt t 0 (length l) ≡ l
     → rangesAt (laidAll xs l t) 0 (length (rangesWith l xs)) ≡ rangesWith l xs
 unfolding laidAll rangesWith

@@ -1,4 +1,4 @@
--- When the answering call refuses, and with what: 13, 1, 14 and 9 for a page, each exactly when document 01's table says, in its
+-- When the answering calls refuse, and with what: 13, 1, 14 and 9 for a page, each exactly when document 01's table says, in its
 -- order: "13; the store's faults; the request's; then 9 for a page; then 14."
 -- Assumes nothing.
 use mathlib.Core.Path.{_≡_, refl, sym, ap, subst, _∙_}
@@ -24,7 +24,7 @@ use Rattle.request.specs.declared.message.Request.the-variants as request
 use Rattle.request.proofs.Places as asked
 use Rattle.request.proofs.Whole.{over-long-read}
 use Rattle.pages.specs.Decision.{mostCarried, decision}
-use Rattle.store.specs.Tables.{rowNumbers}
+use Rattle.order.specs.Order.{rankedNumbers}
 use Rattle.pages.specs.Answer.{Ask, Outcome, refused, answered, numberIn, pageRanges, pageBytes, pageMeasure, onDecided, pageDecided, pageOutcome, askOf, onRequest, onStore, outcome, knowledgeNumbers, answerOf}
 use Rattle.pages.specs.Cases.{Asks, OverLong, smallest, TooShort, Sends}
 use Rattle.pages.specs.declared.page.Decided.{Decided}
@@ -69,16 +69,16 @@ asked-outcome s q a room h = stored-on s q room (storeWalk s .last) (h .store-re
 pub asked-most : (s q : List ℕ) (a : Ask) → Asks s q a → a .most ≡ mostCarried
 asked-most s q a h = ap (λ (y : Ask). y .most) (h .asked)
 
--- ---- 13: "store table under 1,536 numbers or knowledge table under 2,048"
+-- ---- 13: "store table under 1,536 numbers or knowledge table under 2,048"; 1,792 by document 02, Q-14
 
-pub thirteen-if : (s q : List ℕ) (rows ranges room : ℕ) → (rows < rowNumbers) ⊎ (ranges < knowledgeNumbers) → answerOf s q rows ranges room ≡ refused (faultAt 13 0)
+pub thirteen-if : (s q : List ℕ) (rows ranges room : ℕ) → (rows < rankedNumbers) ⊎ (ranges < knowledgeNumbers) → answerOf s q rows ranges room ≡ refused (faultAt 13 0)
 unfolding answerOf
-thirteen-if s q rows ranges room (inl h) = rw (lt-ltb rows rowNumbers h)
-thirteen-if s q rows ranges room (inr h) = by-lt rows rowNumbers (λ l. rw (lt-ltb rows rowNumbers l)) (λ l. rw (le-ltb rows rowNumbers l, lt-ltb ranges knowledgeNumbers h))
+thirteen-if s q rows ranges room (inl h) = rw (lt-ltb rows rankedNumbers h)
+thirteen-if s q rows ranges room (inr h) = by-lt rows rankedNumbers (λ l. rw (lt-ltb rows rankedNumbers l)) (λ l. rw (le-ltb rows rankedNumbers l, lt-ltb ranges knowledgeNumbers h))
 
-pub tables-fine : (s q : List ℕ) (rows ranges room : ℕ) → rowNumbers ≤ rows → knowledgeNumbers ≤ ranges → answerOf s q rows ranges room ≡ outcome s q room
+pub tables-fine : (s q : List ℕ) (rows ranges room : ℕ) → rankedNumbers ≤ rows → knowledgeNumbers ≤ ranges → answerOf s q rows ranges room ≡ outcome s q room
 unfolding answerOf
-tables-fine s q rows ranges room h g = rw (le-ltb rows rowNumbers h, le-ltb ranges knowledgeNumbers g)
+tables-fine s q rows ranges room h g = rw (le-ltb rows rankedNumbers h, le-ltb ranges knowledgeNumbers g)
 
 -- the other refusals have other numbers
 fault-number : (s : List ℕ) (r : Refusal) → storeWalk s .last ≡ reading.Refused r → (1 ≤ r .number) × (r .number ≤ 12)
@@ -100,9 +100,9 @@ never-thirteen-on s q room _ (page a x) h =
 pub never-thirteen : (s q : List ℕ) (room : ℕ) → numberIn (outcome s q room) ≡ 13 → ⊥
 never-thirteen s q room h = never-thirteen-on s q room (outcome s q room) (course s q room) h
 
-pub thirteen-only-if : (s q : List ℕ) (rows ranges room : ℕ) → numberIn (answerOf s q rows ranges room) ≡ 13 → (rows < rowNumbers) ⊎ (ranges < knowledgeNumbers)
+pub thirteen-only-if : (s q : List ℕ) (rows ranges room : ℕ) → numberIn (answerOf s q rows ranges room) ≡ 13 → (rows < rankedNumbers) ⊎ (ranges < knowledgeNumbers)
 thirteen-only-if s q rows ranges room h =
-    by-lt rows rowNumbers inl
+    by-lt rows rankedNumbers inl
     (λ a. by-lt ranges knowledgeNumbers inr (λ b. absurd (never-thirteen s q room (ap numberIn (sym (tables-fine s q rows ranges room a b)) ∙ h))))
 
 -- ---- 1: "an input is over 16,777,216 bytes"; the request's comes after all of the store's faults

@@ -23,7 +23,7 @@ both-hold true true c h = (refl, refl)
 both-hold true false c h = impossible (cc)
 both-hold false b c h = impossible (cc)
 
-sendable-both : (most limit room j stored ranges whole : ℕ) → isSendable most limit room j stored ranges whole ≡ true
+pub sendable-both : (most limit room j stored ranges whole : ℕ) → isSendable most limit room j stored ranges whole ≡ true
     → (leb ranges most ≡ true) × (leb whole room ≡ true)
 unfolding isSendable
 sendable-both most limit room j stored ranges whole h = both-hold (leb ranges most) (leb whole room) (pick (leb j 1) true (leb stored limit)) h
@@ -56,7 +56,7 @@ module _ (most limit room : ℕ) (m : Measure) (n : ℕ) where
       greatest-one (sendable most limit room m) n (pageCount (sendable most limit room m) n) k (page-greatest (sendable most limit room m) n)
       (record { most = h; every = every; stop = stop })
 
-  some-taken : (k : ℕ) → 0 < k → k ≤ n → Every (sendable most limit room m) k → (k < n → sendable most limit room m (suc k) ≡ false)
+  pub some-taken : (k : ℕ) → 0 < k → k ≤ n → Every (sendable most limit room m) k → (k < n → sendable most limit room m (suc k) ≡ false)
       → sent m n k ≡ decision most limit room m n
   unfolding decision
   some-taken k p h every stop =

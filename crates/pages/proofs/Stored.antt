@@ -1,109 +1,82 @@
--- What the working tables hold after a store and a request were read into them.
+-- What a store that was read, and a request, leave behind: a fault or none, and what the working table of ranges holds. And what stands
+-- ready after deciding, as it is told and written.
 -- Assumes nothing.
-use mathlib.Core.Path.{_≡_, refl, sym, ap, subst, _∙_}
-use mathlib.Core.List.{List, []}
-use Prim.Native.Nat.{ℕ, zero, suc, _+_, _*_, _^_, _≤_, _<_}
+use mathlib.Core.Path.{_≡_, refl, sym, ap, _∙_}
+use mathlib.Core.Bool.{Bool, true, false}
+use mathlib.Core.List.{List, [], _++_}
+use Prim.Native.Nat.{ℕ, _*_, _≤_}
 use native.Mathlib.Omega.{arith}
-use lib.ListN.{length, drop, length-append}
-use lib.Seq.{take-at}
-use Rattle.laws.specs.Bytes.{AllBytes}
-use Rattle.laws.proofs.Cases.{by-lt, impossible}
-use Rattle.numbers.specs.Refusals.{longestInput}
+use lib.ListN.{length, drop, replicate, length-replicate}
+use lib.Dec.{ltb}
+use borrow.Author.Tests.{ltb-false}
+use Rattle.laws.specs.Pick.{pick}
+use Rattle.laws.specs.Placed.{laid}
+use Rattle.laws.proofs.Cases.{impossible}
+use Rattle.laws.proofs.Placing.{laid-front}
+use Rattle.numbers.specs.Refusals.{faultAt}
 use Rattle.numbers.specs.declared.refusal.Refusal.{Refusal}
 use Rattle.objects.specs.declared.reading.Reading.{Reading}
 use Rattle.objects.specs.declared.reading.Reading.the-variants as reading
-use Rattle.talk.specs.Each.{Each}
+use Rattle.ranges.specs.RangeTable.{rangeWidth, rangesAt}
+use Rattle.ranges.proofs.RangeRows.{length-rows}
 use Rattle.store.specs.Knowledge.{mostSaid, saidNumbers}
-use Rattle.store.specs.Store.{storeWalk, storedOf, storeAnswer, WalkedTo, Stands}
-use Rattle.store.specs.Tables.{rowWidth, idWidth, mostElements, rowNumbers, rowsOf, idsOf, elementInRow, elementsInRows, elementsIn}
-use Rattle.store.specs.declared.element.Element.{Element}
-use Rattle.store.specs.declared.package.Stored.{Stored}
+use Rattle.store.specs.Store.{storedOf}
+use Rattle.store.specs.Tables.{rowNumbers, mostElements, idWidth, elementsIn}
+use Rattle.order.specs.Order.{ordered, rankedRows, rankedWidth, rankedNumbers}
 use Rattle.store.specs.declared.package.Stored.the-variants as stored
-use Rattle.store.proofs.Found.{store-most, rows-length, ids-length, laid-long, store-holds}
-use Rattle.store.proofs.Chains.{over-long, store-read}
-use Rattle.store.proofs.ElementFits.{ElementFits, elements-fit}
+use Rattle.store.proofs.Elements.{length-elements}
 use Rattle.request.specs.Message.{requestIn, ReadsRequest}
 use Rattle.request.specs.declared.message.Request.{Request}
 use Rattle.request.specs.declared.message.Request.the-variants as request
-use Rattle.store.proofs.Elements.{elements-held}
 use Rattle.request.proofs.Whole.{request-table-free, request-held, asked-filters, asked-known}
-use Rattle.pages.specs.Tables.{StoreHeld}
-use Rattle.pages.specs.Answer.{onRequest, onStore, outcome, refused}
-use Rattle.pages.specs.Held.{RequestHeld}
+use Rattle.pages.specs.Tables.{sentBytes}
+use Rattle.pages.specs.Answer.{Outcome, refused, outcome, knowledgeNumbers, answerOf, rangeRows, answerTold, rowsAfter, rangesAfter, outputAfter, Tells, Gives}
+use Rattle.pages.specs.Held.{RequestHeld, WorkingTables, Ready, Follows}
+use Rattle.pages.specs.declared.answer.Answered.the-variants as answer
+use Rattle.pages.specs.declared.deciding.Reckoned.{Reckoned}
+use Rattle.pages.specs.declared.deciding.Reckoned.the-variants as reckoned
+use Rattle.pages.specs.declared.write.Sending.{Sending}
 
--- ---- the store
+-- ---- the lent tables: one is too short, or none
 
--- what holds of each element holds of the one of row i
-each-at : (P : Element → Type 0) (rows ids : List ℕ) (k n i : ℕ) → i < n → Each P (elementsInRows rows ids k n) → P (elementInRow rows ids (k + i))
-unfolding elementsInRows
-each-at P rows ids k zero i h e = absurd (omega arith)
-each-at P rows ids k (suc n) zero h e = let q : k + 0 ≡ k = omega arith in rw q (e .0)
-each-at P rows ids k (suc n) (suc i) h e = let q : k + suc i ≡ suc k + i = omega arith in rw q (each-at P rows ids (suc k) n i (omega arith) (e .1))
+tables-on : (a b : Bool) (x y : Outcome) → pick a true b ≡ true → pick a x (pick b x y) ≡ x
+tables-on true b x y h = refl
+tables-on false true x y h = refl
+tables-on false false x y h = impossible (cc)
 
-holds-stands : (m n : ℕ) (c : Reading) → storedOf m c ≡ stored.Holds n → Stands c
+tables-off : (a b : Bool) (x y : Outcome) → pick a true b ≡ false → pick a x (pick b x y) ≡ y
+tables-off true b x y h = impossible (cc)
+tables-off false true x y h = impossible (cc)
+tables-off false false x y h = refl
+
+module _ (s q : List ℕ) (rows ranges room : ℕ) where
+  pub tables-short : pick (ltb rows rankedNumbers) true (ltb ranges knowledgeNumbers) ≡ true → answerOf s q rows ranges room ≡ refused (faultAt 13 0)
+  unfolding answerOf
+  tables-short h = tables-on (ltb rows rankedNumbers) (ltb ranges knowledgeNumbers) _ _ h
+
+  pub tables-long : pick (ltb rows rankedNumbers) true (ltb ranges knowledgeNumbers) ≡ false → answerOf s q rows ranges room ≡ outcome s q room
+  unfolding answerOf
+  tables-long h = tables-off (ltb rows rankedNumbers) (ltb ranges knowledgeNumbers) _ _ h
+
+both-long : (a b : Bool) → pick a true b ≡ false → (a ≡ false) × (b ≡ false)
+both-long true b h = impossible (cc)
+both-long false true h = impossible (cc)
+both-long false false h = (refl, refl)
+
+pub tables-room : (rows ranges : ℕ) → pick (ltb rows rankedNumbers) true (ltb ranges knowledgeNumbers) ≡ false → (rankedNumbers ≤ rows) × (knowledgeNumbers ≤ ranges)
+tables-room rows ranges h = let x = both-long _ _ h in (ltb-false rows rankedNumbers (x .0), ltb-false ranges knowledgeNumbers (x .1))
+
+-- ---- the store: a fault stands, or none
+
+pub last-refused : (m : ℕ) (r : Refusal) (c : Reading) → storedOf m c ≡ stored.Refused r → c ≡ reading.Refused r
 unfolding storedOf
-holds-stands m n (reading.At e v) q = tt
-holds-stands m n (reading.Refused r) q = impossible (cc)
+last-refused m r (reading.At e v) h = impossible (cc)
+last-refused m r (reading.Refused r′) h = let e : r′ ≡ r = cc in ap reading.Refused e
 
-pub store-held : (s rows ids rows′ ids′ : List ℕ) (n : ℕ) → AllBytes s → rowNumbers ≤ length rows → mostElements * idWidth ≤ length ids
-    → WalkedTo (storeWalk s) (stored.Holds n) rows rows′ ids ids′ → StoreHeld s rows′ ids′ n
-store-held s rows ids rows′ ids′ n b h g w =
-    let els = storeWalk s .elements in
-    let c : length els ≡ n = store-holds s n (sym (w .0)) .0 in
-    let m : length els ≤ mostElements = store-most s in
-    let t = holds-stands (length els) n (storeWalk s .last) (sym (w .0)) in
-    let l : elementsIn rows′ ids′ n ≡ els = rw (w .1, w .2, ← c) (elements-held els (drop (length els * rowWidth) rows) (drop (length els * idWidth) ids)) in
-    record {
-      count = sym c;
-      held = l;
-      rows-are = rw (w .1, ← c) (take-at (rowsOf els) (drop (length els * rowWidth) rows) (length els * rowWidth) (rows-length els));
-      most = omega arith;
-      stand = record {
-        row-room = rw (w .1) (omega (arith, length-append (rowsOf els) (drop (length els * rowWidth) rows), rows-length els));
-        id-room = rw (w .2) (omega (arith, length-append (idsOf els) (drop (length els * idWidth) ids), ids-length els));
-      };
-      short = by-lt longestInput (length s) (λ k. absurd (over-long s k t)) (λ k. k);
-      fits = elements-fit s b (store-read s t);
-    }
-
--- both tables are as long as they were
-pub store-long : (s rows ids rows′ ids′ : List ℕ) (r : Stored) → length rows ≡ rowNumbers → length ids ≡ mostElements * idWidth
-    → WalkedTo (storeWalk s) r rows rows′ ids ids′ → (rowNumbers ≡ length rows′) × (mostElements * idWidth ≡ length ids′)
-store-long s rows ids rows′ ids′ r l g w = laid-long (storeWalk s) rows ids rows′ ids′ (store-most s) l g (w .1) (w .2)
-
--- row by row: where an element stands, and the number of its id
-module _ {s rows ids : List ℕ} {n : ℕ} (h : StoreHeld s rows ids n) where
-  fits-row : (i : ℕ) → i < n → ElementFits s (elementInRow rows ids i)
-  fits-row i k =
-      let z : 0 + i ≡ i = omega arith in
-      rw z at (each-at (ElementFits s) rows ids 0 n i k (subst (Each (ElementFits s)) (sym (h .held)) (h .fits)))
-
-  pub short-row : (i : ℕ) → i < n → elementInRow rows ids i .length ≤ 2 ^ 24
-  short-row i k = let a = fits-row i k .0 in let b = h .short in omega arith
-
-  pub id-row : (i : ℕ) → i < n → elementInRow rows ids i .id .number < 2 ^ 32
-  id-row i k = fits-row i k .1
-
--- the outcome then goes on with the request, or is the store's fault
-store-on : (s q : List ℕ) (room m n : ℕ) (c : Reading) → storedOf m c ≡ stored.Holds n
-    → onStore s (storeWalk s .elements) q room c ≡ onRequest s (storeWalk s .elements) q room (requestIn q [])
-unfolding storedOf onStore
-store-on s q room m n (reading.At e v) h = refl
-store-on s q room m n (reading.Refused r) h = impossible (cc)
-
-pub store-fine : (s q : List ℕ) (room n : ℕ) → storeAnswer (storeWalk s) ≡ stored.Holds n
-    → outcome s q room ≡ onRequest s (storeWalk s .elements) q room (requestIn q [])
-unfolding outcome
-store-fine s q room n h = store-on s q room (length (storeWalk s .elements)) n (storeWalk s .last) h
-
-store-off : (s q : List ℕ) (room m : ℕ) (r : Refusal) (c : Reading) → storedOf m c ≡ stored.Refused r → onStore s (storeWalk s .elements) q room c ≡ refused r
-unfolding storedOf onStore
-store-off s q room m r (reading.At e v) h = impossible (cc)
-store-off s q room m r (reading.Refused r′) h = let e : r′ ≡ r = cc in ap refused e
-
-pub store-faulty : (s q : List ℕ) (room : ℕ) (r : Refusal) → storeAnswer (storeWalk s) ≡ stored.Refused r → outcome s q room ≡ refused r
-unfolding outcome
-store-faulty s q room r h = store-off s q room (length (storeWalk s .elements)) r (storeWalk s .last) h
+pub last-read : (m n : ℕ) (c : Reading) → storedOf m c ≡ stored.Holds n → (e : ℕ) × (v : ℕ) × (c ≡ reading.At e v)
+unfolding storedOf
+last-read m n (reading.At e v) h = (e, v, refl)
+last-read m n (reading.Refused r) h = impossible (cc)
 
 -- ---- the request
 
@@ -130,3 +103,43 @@ request-read q t t′ id most limit place count k c h r =
       carried = c;
       room = rw (r .1, l .long) h;
     }
+
+-- ---- working tables of zeros have their lengths
+
+pub new-tables : WorkingTables (replicate rowNumbers 0) (replicate (mostElements * idWidth) 0) (replicate saidNumbers 0) (replicate mostElements 0)
+new-tables =
+    record {
+      elements-long = length-replicate {A = ℕ} rowNumbers 0;
+      ids-long = length-replicate {A = ℕ} (mostElements * idWidth) 0;
+      known-long = length-replicate {A = ℕ} saidNumbers 0;
+      queue-long = length-replicate {A = ℕ} mostElements 0;
+    }
+
+-- ---- what deciding answered stands ready, or is the refusal
+
+module _ (o : Outcome) (s : List ℕ) (room : ℕ) (x : Reckoned) (elements ids known queue : List ℕ) (h : Follows o s room x elements ids known queue) where
+  pub page-follows : (page : Sending) (whole n : ℕ) → x ≡ reckoned.Page page whole n → Ready o s room page whole n elements ids known queue
+  page-follows page whole n e = rw e at h
+
+  pub refusal-follows : (r : Refusal) → x ≡ reckoned.Refused r → o ≡ refused r
+  refusal-follows r e = rw e at h
+
+-- ---- what stands ready is told, and written
+
+module _ {o : Outcome} {s : List ℕ} {room : ℕ} {page : Sending} {whole n : ℕ} {elements ids known queue : List ℕ}
+    (h : Ready o s room page whole n elements ids known queue) where
+  pub ready-tells : (rows rows′ ranges ranges′ : List ℕ)
+      → rows′ ≡ rankedRows (ordered (elementsIn elements ids n)) ++ drop (n * rankedWidth) rows
+      → ranges′ ≡ rangeRows (rangesAt known 0 (page .ranges)) ++ drop (page .ranges * rangeWidth) ranges
+      → Tells o (answer.Sent whole n (page .ranges)) rows rows′ ranges ranges′
+  unfolding answerTold rowsAfter rangesAfter
+  ready-tells rows rows′ ranges ranges′ a b =
+      let l = length-elements elements ids 0 n in
+      let r = length-rows known 0 (page .ranges) in
+      rw (h .outcome-is, l, r, ← h .whole-is) (refl, a, b)
+
+  pub ready-gives : (rows rows′ ranges ranges′ out out′ : List ℕ) → Tells o (answer.Sent whole n (page .ranges)) rows rows′ ranges ranges′
+      → out′ ≡ laid 0 (sentBytes s elements ids queue page known) out
+      → Gives o (answer.Sent whole n (page .ranges)) rows rows′ ranges ranges′ out out′
+  unfolding outputAfter
+  ready-gives rows rows′ ranges ranges′ out out′ a b = (a .0, a .1, a .2, b ∙ laid-front (sentBytes s elements ids queue page known) out ∙ rw (h .outcome-is))

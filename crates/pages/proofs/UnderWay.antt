@@ -16,24 +16,21 @@ use Rattle.talk.proofs.PageRule.{every-none, every-more}
 use Rattle.ranges.specs.RangeTable.{rangeWidth, rangesAt}
 use Rattle.store.specs.Knowledge.{mostSaid}
 use Rattle.store.specs.KnowledgeWritten.{rangesBytes}
+use Rattle.store.specs.Held.{serialRange, rangesWith}
 use Rattle.store.specs.declared.element.Element.{Element}
 use Rattle.ranges.proofs.RangeRows.{length-rows, laid-rows, length-laid}
-use Rattle.pages.specs.Choice.{serialRange, rangesWith, storedLength}
+use Rattle.order.specs.Groups.{storedLength}
 use Rattle.pages.specs.Decision.{isSendable, sendable, decision}
 use Rattle.pages.specs.Tables.{stopped, ended, takenIn, wholeOf, laidWith, laidAll, Priced, tableMeasure, Decides}
 use Rattle.pages.specs.declared.page.Bounds.{Bounds}
 use Rattle.pages.specs.declared.page.Decided.{Decided}
 use Rattle.pages.specs.declared.page.Page.{Page}
 use Rattle.pages.specs.declared.price.Price.{Price}
+use Rattle.pages.proofs.Lengths.{stored-append}
 use Rattle.pages.proofs.Stops.{sendable-ranges, stop-law, end-law, taken-stopped, taken-ended}
 use Rattle.pages.proofs.Pricing.{bytes-most}
 
 -- ---- one element more
-
-stored-more : (xs : List Element) (x : Element) → storedLength (xs ++ (x ∷ [])) ≡ storedLength xs + x .length
-unfolding storedLength
-stored-more [] x = omega arith
-stored-more (y ∷ xs) x = omega (arith, stored-more xs x)
 
 ranges-more : (xs : List Element) (x : Element) (l : List Range) → rangesWith l (xs ++ (x ∷ [])) ≡ insert (serialRange x) (rangesWith l xs)
 unfolding rangesWith
@@ -56,10 +53,11 @@ module _ (w : List Element) (k : ℕ) {x : Element} {r : List Element} (h : drop
   pub one-left : k < length w
   one-left = omega (arith, length-drop k w, ap length h)
 
-  stored-next : storedLength (take (suc k) w) ≡ storedLength (take k w) + x .length
-  stored-next = rw take-next (stored-more (take k w) x)
+  pub stored-next : storedLength (take (suc k) w) ≡ storedLength (take k w) + x .length
+  unfolding storedLength
+  stored-next = rw take-next (omega (arith, stored-append (take k w) (x ∷ [])))
 
-  ranges-next : (l : List Range) → rangesWith l (take (suc k) w) ≡ insert (serialRange x) (rangesWith l (take k w))
+  pub ranges-next : (l : List Range) → rangesWith l (take (suc k) w) ≡ insert (serialRange x) (rangesWith l (take k w))
   ranges-next l = rw take-next (ranges-more (take k w) x l)
 
   laid-next : (l : List Range) (t : List ℕ) → laidAll (take (suc k) w) l t ≡ laidWith x (rangesWith l (take k w)) (laidAll (take k w) l t)
@@ -73,7 +71,7 @@ pub record Under (w : List Element) (l : List Range) (t₀ : List ℕ) (b : Boun
   pub within : p .count ≤ length w
   pub few : p .count ≤ p .place
   pub stored : p .bytes ≡ storedLength (take (p .count) w)
-  pub small : p .bytes ≤ 2 ^ 24 * p .place
+  pub small : p .bytes ≤ 2 ^ 32 * p .place
   pub carried : p .ranges ≤ mostSaid
   pub room : p .ranges * rangeWidth ≤ length t₀
   pub held : rangesAt t 0 (p .ranges) ≡ rangesWith l (take (p .count) w)
@@ -111,25 +109,6 @@ module _ {w : List Element} {l : List Range} {t₀ : List ℕ} {b : Bounds} {ahe
   -- what is still to come, said in another way
   pub under-same : {ahead′ : List Element} → ahead ≡ ahead′ → Under w l t₀ b ahead′ t p
   under-same e = rw e at u
-
-  -- the element at the place is not wanted
-  pub under-pass : {ahead′ : List Element} → ahead ≡ ahead′
-      → Under w l t₀ b ahead′ t (record { count = p .count; bytes = p .bytes; place = p .place + 1; ranges = p .ranges; spelled = p .spelled })
-  under-pass e =
-      record {
-        rest = u .rest ∙ e;
-        within = u .within;
-        few = omega (arith, u .few);
-        stored = u .stored;
-        small = omega (arith, u .small);
-        carried = u .carried;
-        room = u .room;
-        held = u .held;
-        spelled = u .spelled;
-        laid = u .laid;
-        same-length = u .same-length;
-        every = u .every;
-      }
 
   -- a decision that takes what was taken is what deciding promises
   decides : {d : Decided} → takenIn d ≡ p .count → d ≡ decision (b .most) (b .limit) (b .room) (tableMeasure (b .fixed) l w) (length w) → Decides w l b d t₀ t
@@ -180,7 +159,7 @@ module _ {w : List Element} {l : List Range} {t₀ : List ℕ} {b : Bounds} {x :
       (stop-law (b .most) (b .limit) (b .room) (tableMeasure (b .fixed) l w) (length w) (p .count) (one-left w (p .count) (u .rest)) (u .every) (sym sendable-then ∙ f)))
 
   -- the page with it is sendable
-  pub under-take : (t′ : List ℕ) → b .most ≤ mostSaid → b .most * rangeWidth ≤ length t₀ → x .length ≤ 2 ^ 24 → t′ ≡ laidWith x (rangesAt t 0 (p .ranges)) t
+  pub under-take : (t′ : List ℕ) → b .most ≤ mostSaid → b .most * rangeWidth ≤ length t₀ → x .length ≤ 2 ^ 32 → t′ ≡ laidWith x (rangesAt t 0 (p .ranges)) t
       → isSendable (b .most) (b .limit) (b .room) (p .count + 1) (p .bytes + x .length) (q .ranges) (wholeOf (b .fixed) (p .bytes + x .length) (q .ranges) (q .spelled)) ≡ true
       → Under w l t₀ b r t′ (record { count = p .count + 1; bytes = p .bytes + x .length; place = p .place + 1; ranges = q .ranges; spelled = q .spelled })
   under-take t′ most room light d f =

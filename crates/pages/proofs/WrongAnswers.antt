@@ -1,38 +1,50 @@
--- For each part of the answering call, wrong answers that its promise rules out, each tried on a named input.
+-- For each part of the answering calls, wrong answers that its promise rules out, each tried on a named input.
 -- Assumes nothing.
-use mathlib.Core.Path.{_≡_, ap}
+use mathlib.Core.Path.{_≡_, refl, ap, _∙_}
 use mathlib.Core.Bool.{true, false}
 use mathlib.Core.List.{List, [], _∷_}
+use mathlib.Core.Logic.{inl}
 use Prim.Native.Nat.{ℕ}
 use native.Mathlib.Omega.{arith}
 use lib.ListN.{length, getD, length-append}
-use Rattle.laws.specs.Bytes.{bytes, be}
+use Rattle.laws.specs.Bytes.{le, bytes, be}
 use Rattle.laws.proofs.Cases.{impossible}
-use Rattle.numbers.specs.Compact.{compactBytes, sizeOf, formOf, formFrom, marked}
+use Rattle.numbers.specs.Compact.{compactBytes, sizeOf, formOf, formFrom, withForm}
 use Rattle.numbers.specs.ExtendedGuid.{extendedGuidBytes}
 use Rattle.numbers.specs.Guid.{swapped}
 use Rattle.numbers.specs.Refusals.{faultAt}
-use Rattle.numbers.specs.declared.guid.Guid.{Guid}
-use Rattle.numbers.specs.declared.extended_guid.ExtendedGuid.the-variants.{Null, Named}
+use Rattle.numbers.specs.declared.extended_guid.ExtendedGuid.the-variants.{Null}
+use Rattle.objects.specs.Header.{headerAt, headerOf, sized, startOf, endOf, lengthAt}
+use Rattle.objects.specs.Steps.{valued, fixedIn, startOfLength, lengthIs, placeOf, startHere, runHere, closedAt, inside, skip, nextIs, endHere, finish}
 use Rattle.talk.specs.Ranges.{range, within, holds, insert}
-use Rattle.talk.specs.declared.range.Range.{Range}
-use Rattle.ranges.specs.Ranged.{rangeOf, knows}
+use Rattle.ranges.specs.Ranged.{knows}
 use Rattle.store.specs.KnowledgeWritten.{rangeGuid, rangeBytes, rangesBytes}
+use Rattle.store.specs.Held.{rangesWith, StoreHeld}
+use Rattle.store.specs.Store.{packageStart, walkFrom, storeWalk, nothingOf, beginningOf}
+use Rattle.store.proofs.Beginning.{nothing-held}
 use Rattle.store.proofs.KnowledgeLengths.{length-range}
 use Rattle.ranges.specs.RangeTable.{rangesAt}
 use Rattle.store.specs.declared.element.Key.{Key}
 use Rattle.store.specs.declared.element.Element.{Element}
 use Rattle.request.specs.Choice.{setFlags}
-use Rattle.pages.specs.Choice.{isKnown, serialRange, rangesWith, storedLength, storageIndex}
+use Rattle.request.specs.Message.{queryChangesRequest, requestKnowing, knowledgePart, versions, userAgent, subRequest, queryChanges, arguments, constraint, packagePart, identified, constrainedFrom, requestEnd, requestAnswer, requestIn, inRequest}
+use Rattle.request.specs.Filter.{filtersFrom}
+use Rattle.request.specs.Response.{subResponseData}
+use Rattle.order.specs.Groups.{storedLength}
+use Rattle.pages.specs.Choice.{isKnown}
 use Rattle.pages.specs.Decision.{isSendable, decision}
-use Rattle.pages.specs.Written.{changesData, subResponseData, partialByte}
+use Rattle.pages.specs.Written.{changesData, partialByte}
 use Rattle.pages.specs.Tables.{wholeOf, fixedLength, Priced, Decides}
-use Rattle.pages.specs.Answer.{rangeRows, answerOf, answerTold, rowsAfter, Answers}
+use Rattle.pages.specs.Answer.{rangeRows, answerOf, answerTold, tellAnswered, rowsAfter, TellsLength, WritesAnswer}
 use Rattle.pages.specs.declared.price.Price.{Price}
 use Rattle.pages.specs.declared.page.Bounds.{Bounds}
 use Rattle.pages.specs.declared.page.Decided.{Decided}
 use Rattle.pages.specs.declared.page.Decided.the-variants.{Sent, Crowded, Short}
+use Rattle.pages.specs.Held.{reckonedFor, reckonedOf, RequestReckoned, StoreReckoned}
 use Rattle.pages.specs.declared.answer.Answered.the-variants as answer
+use Rattle.pages.specs.declared.deciding.Reckoned.{Reckoned}
+use Rattle.pages.specs.declared.deciding.Reckoned.the-variants as reckoned
+use Rattle.pages.proofs.Refusing.{thirteen-if}
 
 abbrev key : ℕ → Key
 key n = record { low = 0; high = 0; number = n }
@@ -40,9 +52,6 @@ key n = record { low = 0; high = 0; number = n }
 -- an element of this type, its id and its serial number numbered n
 abbrev element : ℕ → ℕ → Element
 element kind n = record { place = 3; length = 46; kind = kind; id = key n; serial = key n }
-
-abbrev zeros : Guid
-zeros = record { low = 0; high = 0 }
 
 -- ---- clear_known: a known one stays wanted; an unknown one does not
 
@@ -53,26 +62,6 @@ known-kept h = impossible (cc)
 unknown-cleared : setFlags (isKnown (range 0 0 1 4 ∷ [])) 0 (element 5 5 ∷ []) (1 ∷ []) ≡ 0 ∷ [] → ⊥
 unfolding setFlags isKnown knows swapped be bytes holds within
 unknown-cleared h = impossible (cc)
-
--- ---- storage_index: null though there is one; the first element's, of whatever type
-
-index-missed : Null ≡ storageIndex (element 5 1 ∷ element 1 2 ∷ []) → ⊥
-unfolding storageIndex
-index-missed h = impossible (cc)
-
-index-of-any : Named zeros 1 ≡ storageIndex (element 5 1 ∷ element 1 2 ∷ []) → ⊥
-unfolding storageIndex
-index-of-any h = impossible (cc)
-
--- ---- serial_range: all numbers up to the serial number; a range of the number 0
-
-up-to-it : range 0 0 0 7 ≡ serialRange (element 5 7) → ⊥
-unfolding serialRange rangeOf swapped be bytes
-up-to-it h = let z : _≡_ {A = ℕ} 0 7 = ap (λ (x : Range). x .from) h in omega arith
-
-of-zero : range 0 0 0 0 ≡ serialRange (element 5 7) → ⊥
-unfolding serialRange rangeOf swapped be bytes
-of-zero h = let z : _≡_ {A = ℕ} 0 7 = ap (λ (x : Range). x .to) h in omega arith
 
 -- ---- price_of, in an empty table: no row for a new range; its GUID not counted
 
@@ -159,16 +148,72 @@ not-marked : 0 ∷ 0 ∷ [] ≡ changesData Null true → ⊥
 unfolding changesData extendedGuidBytes partialByte
 not-marked h = impossible (cc)
 
-put-named : 0x03 ∷ 0x0B ∷ 0 ∷ [] ≡ subResponseData 1 → ⊥
-unfolding subResponseData compactBytes sizeOf formOf formFrom bytes marked
+put-named : 0x03 ∷ 0x0B ∷ 0 ∷ [] ≡ subResponseData queryChangesRequest 1 → ⊥
+unfolding subResponseData compactBytes sizeOf formOf formFrom bytes withForm
 put-named h = let z : _≡_ {A = ℕ} 0x0B 5 = ap (λ (l : List ℕ). getD l 1 0) h in omega arith
 
--- ---- answer: with a table too short, the store's fault before 13; a number of a table put to 0
+-- ---- deciding, of no store: another number than 2; a queue that is written to
 
-fault-first : Answers [] [] (answer.Refused (faultAt 2 0)) (7 ∷ []) (7 ∷ []) [] [] [] [] → ⊥
+another-fault : StoreReckoned [] [] 0 (reckoned.Refused (faultAt 3 0)) [] [] [] [] [] [] [] [] → ⊥
+unfolding reckonedOf storeWalk packageStart startOfLength lengthIs placeOf startHere skip walkFrom nextIs endHere finish headerAt headerOf
+another-fault h = let z : _≡_ {A = ℕ} 3 2 = ap numberOf (h .0) in omega arith
+  where
+    numberOf : Reckoned → ℕ
+    numberOf (reckoned.Page page whole n) = 0
+    numberOf (reckoned.Refused r) = r .number
+
+queue-written : StoreReckoned [] [] 0 (reckoned.Refused (faultAt 2 0)) [] [] [] [] [] [] (7 ∷ []) (0 ∷ []) → ⊥
+unfolding storeWalk packageStart startOfLength lengthIs placeOf startHere skip walkFrom nextIs endHere finish headerAt headerOf
+queue-written h = impossible (cc (h .4))
+
+-- of a store without elements, `AC 02 00 55`, and no request: the first input for the second; a table of ranges that is written to
+
+abbrev empty : List ℕ
+empty = 0xAC ∷ 0x02 ∷ 0x00 ∷ 0x55 ∷ []
+
+empty-held : StoreHeld empty [] [] 0
+unfolding beginningOf nothingOf packageStart startOfLength lengthIs placeOf startHere skip nextIs endHere finish headerAt headerOf sized startOf endOf lengthAt le
+empty-held = nothing-held empty refl
+
+first-input : RequestReckoned [] [] [] 0 0 (reckoned.Refused (faultAt 2 0)) [] [] [] [] → ⊥
+unfolding reckonedFor requestKnowing knowledgePart versions userAgent subRequest queryChanges arguments constraint packagePart identified constrainedFrom filtersFrom requestEnd requestAnswer requestIn fixedIn valued skip startHere lengthIs startOfLength runHere closedAt inside endHere nextIs finish placeOf le
+first-input h = let z : _≡_ {A = ℕ} 0 1 = ap inputOf (h empty empty-held .0) in omega arith
+  where
+    inputOf : Reckoned → ℕ
+    inputOf (reckoned.Page page whole n) = 0
+    inputOf (reckoned.Refused r) = r .input
+
+ranges-written : RequestReckoned [] [] [] 0 0 (reckoned.Refused (inRequest (faultAt 2 0))) (7 ∷ []) (0 ∷ []) [] [] → ⊥
+unfolding requestKnowing knowledgePart versions userAgent subRequest queryChanges arguments constraint packagePart identified constrainedFrom filtersFrom requestEnd requestAnswer requestIn fixedIn valued skip startHere lengthIs startOfLength runHere closedAt inside endHere nextIs finish placeOf le
+ranges-written h = impossible (cc (h empty empty-held .1))
+
+-- ---- length and write: with a table too short, the store's fault before 13; a number of a table put to 0; 13 below 1,536 numbers alone,
+-- which rows without their ranks would take
+
+told-fault-first : TellsLength [] [] 0 (answer.Refused (faultAt 2 0)) (7 ∷ []) (7 ∷ []) [] [] → ⊥
 unfolding answerOf answerTold
-fault-first h = let z : _≡_ {A = ℕ} 2 13 = ap (λ t. t .number) (h .0) in omega arith
+told-fault-first h = let z : _≡_ {A = ℕ} 2 13 = ap (λ t. t .number) (h .0) in omega arith
 
-table-cleared : Answers [] [] (answer.Refused (faultAt 13 0)) (7 ∷ []) (0 ∷ []) [] [] [] [] → ⊥
+told-table-cleared : TellsLength [] [] 0 (answer.Refused (faultAt 13 0)) (7 ∷ []) (0 ∷ []) [] [] → ⊥
 unfolding answerOf rowsAfter
-table-cleared h = impossible (cc (h .1))
+told-table-cleared h = impossible (cc (h .1))
+
+told-without-room-for-ranks : (rows rows′ ranges ranges′ : List ℕ) → length rows ≡ 1791 → TellsLength [] [] 0 (answer.Refused (faultAt 2 0)) rows rows′ ranges ranges′ → ⊥
+unfolding answerTold
+told-without-room-for-ranks rows rows′ ranges ranges′ e h =
+    let z : _≡_ {A = ℕ} 2 13 = ap (λ t. t .number) (h .0) ∙ ap (λ o. tellAnswered (answerTold o) .number) (thirteen-if [] [] (length rows) (length ranges) 0 (inl (omega arith))) in
+    omega arith
+
+written-fault-first : WritesAnswer [] [] (answer.Refused (faultAt 2 0)) (7 ∷ []) (7 ∷ []) [] [] [] [] → ⊥
+unfolding answerOf answerTold
+written-fault-first h = let z : _≡_ {A = ℕ} 2 13 = ap (λ t. t .number) (h .0) in omega arith
+
+written-table-cleared : WritesAnswer [] [] (answer.Refused (faultAt 13 0)) (7 ∷ []) (0 ∷ []) [] [] [] [] → ⊥
+unfolding answerOf rowsAfter
+written-table-cleared h = impossible (cc (h .1))
+
+written-without-room-for-ranks : (rows rows′ ranges ranges′ out out′ : List ℕ) → length rows ≡ 1791 → WritesAnswer [] [] (answer.Refused (faultAt 2 0)) rows rows′ ranges ranges′ out out′ → ⊥
+unfolding answerTold
+written-without-room-for-ranks rows rows′ ranges ranges′ out out′ e h =
+    let z : _≡_ {A = ℕ} 2 13 = ap (λ t. t .number) (h .0) ∙ ap (λ o. tellAnswered (answerTold o) .number) (thirteen-if [] [] (length rows) (length ranges) (length out) (inl (omega arith))) in
+    omega arith

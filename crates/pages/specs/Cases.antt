@@ -1,6 +1,6 @@
--- The cases of the answering call, in the words of document 01's table: what is asked where both inputs are read, when an input is
+-- The cases of the answering calls, in the words of document 01's table: what is asked where both inputs are read, when an input is
 -- over-long, when the smallest page is too much, and what is sent where nothing is refused. The laws of proofs/PageCases and
--- proofs/Refusing say that the call follows them exactly.
+-- proofs/Refusing say that both calls follow them exactly.
 -- Assumes nothing.
 use mathlib.Core.Path.{_≡_}
 use mathlib.Core.List.{List, []}
@@ -32,7 +32,7 @@ pub record Asks (s q : List ℕ) (a : Ask) : Type 0 where
 abbrev pub OverLong : List ℕ → List ℕ → Type 0
 OverLong s q = (longestInput < length s) ⊎ (Stands (storeWalk s .last) × (longestInput < length q))
 
--- "the page of 1 (of 0, if nothing is wanted)"
+-- "the page of 1 (of 0, if nothing is wanted)": 14 "reports the length for the first group" (document 02, Q-3)
 abbrev pub smallest : Ask → ℕ
 smallest a = min 1 (length (a .wanted))
 

@@ -1,18 +1,14 @@
--- Which elements are wanted, and what the knowledge is with those that are sent: "Wanted = filters leave it in, and the
--- knowledge lacks its serial number."
+-- Which groups are wanted: "Wanted = filters leave it in, and the knowledge lacks its serial number." With document 02, Q-3, this is said of
+-- groups: "The filters let a group in as soon as they let one member in."
 -- Assumes nothing.
-use Prim.Native.Nat.{ℕ, _+_}
 use mathlib.Core.Bool.{Bool, true}
-use mathlib.Core.List.{List, [], _∷_}
-use lib.Dec.{eqb}
-use Rattle.laws.specs.Pick.{pick}
-use Rattle.numbers.specs.declared.extended_guid.ExtendedGuid.{ExtendedGuid}
-use Rattle.numbers.specs.declared.extended_guid.ExtendedGuid.the-variants.{Null, Named}
-use Rattle.talk.specs.Ranges.{insert}
+use mathlib.Core.List.{List}
 use Rattle.talk.specs.Wanted.{wanted}
 use Rattle.talk.specs.declared.range.Range.{Range}
 use Rattle.store.specs.Written.{keyGuid}
-use Rattle.ranges.specs.Ranged.{rangeOf, knows}
+use Rattle.ranges.specs.Ranged.{knows}
+use Rattle.order.specs.Order.{ordered}
+use Rattle.order.specs.Groups.{Group, members, groupSerial, groups, someOf}
 use Rattle.store.specs.declared.element.Key.{Key}
 use Rattle.store.specs.declared.element.Element.{Element}
 use Rattle.request.specs.Meaning.{Filter, leftIn}
@@ -24,25 +20,11 @@ knowsKey l k = knows l (keyGuid k) (k .number)
 unfoldable pub isKnown : List Range → Element → Bool
 isKnown l x = knowsKey l (x .serial)
 
--- "Wanted elements are considered in store order"
-unfoldable pub wantedIn : List Filter → List Range → List Element → List Element
-wantedIn fs l all = wanted (λ (x : Element). x .serial) (λ (x : Element). leftIn fs all x true) (knowsKey l) all
+-- a group is let in with one of its members. A filter sees the elements in the store's own order
+unfoldable pub letsGroup : List Filter → List Element → Group → Bool
+letsGroup fs all g = someOf (λ (x : Element). leftIn fs all x true) (members g)
 
--- an element's serial number as a range
-unfoldable pub serialRange : Element → Range
-serialRange x = rangeOf (keyGuid (x .serial)) (x .serial .number) (x .serial .number)
-
--- the ranges with the serial numbers of some elements, one after the other (D-20)
-unfoldable pub rangesWith : List Range → List Element → List Range
-rangesWith l [] = l
-rangesWith l (x ∷ xs) = rangesWith (insert (serialRange x) l) xs
-
--- "its elements' stored lengths sum"
-unfoldable pub storedLength : List Element → ℕ
-storedLength [] = 0
-storedLength (x ∷ xs) = x .length + storedLength xs
-
--- "the extended GUID of the first element of type 1 in the store (null if none)"
-unfoldable pub storageIndex : List Element → ExtendedGuid
-storageIndex [] = Null
-storageIndex (x ∷ xs) = pick (eqb (x .kind) 1) (Named (keyGuid (x .id)) (x .id .number)) (storageIndex xs)
+-- "Wanted elements are considered in store order", which is row order with document 02, Q-14, and with Q-3 they are groups: 'Demands 2 and 3
+-- read "row order" for "store order"', and "take groups in this order"
+unfoldable pub wantedIn : List Filter → List Range → List Element → List Group
+wantedIn fs l all = wanted groupSerial (letsGroup fs all) (knowsKey l) (groups (ordered all))

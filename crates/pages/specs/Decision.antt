@@ -1,5 +1,6 @@
--- Document 01, 'One page', over numbers alone: what a page of the first j wanted elements asks in stored bytes, in ranges and in
--- the answer's whole length decides how many are sent. "A page of 1 has no byte limit. A page of more is allowed if its
+-- Document 01, 'One page', over numbers alone: what a page of the first j wanted groups asks in stored bytes, in ranges and in
+-- the answer's whole length decides how many are sent. (Document 02, Q-3: a group "counts as one in the page rule: the first group has no
+-- byte limit", and where document 01 says elements it is groups.) "A page of 1 has no byte limit. A page of more is allowed if its
 -- elements' stored lengths sum to at most the constraint. The answer holds the greatest k such that every page of 1 to k is
 -- allowed, fits the output and carries at most 512 ranges. With nothing wanted, k is 0."
 -- Assumes nothing.

@@ -1,27 +1,35 @@
-// The page under way, and the longest page: wanted elements are taken in store order until the next page is not sendable. One
+// The page under way, and the longest page: wanted elements are taken in their order until the next page is not sendable. One
 // element more is priced before it is taken.
 ghost use mathlib.Core.Path.{_≡_};
 ghost use Prim.Native.Nat.{_+_, _*_, _^_, _≤_, _<_};
 ghost use lib.ListN.{length};
 ghost use Rattle.ranges.specs.RangeTable.{rangeWidth, rangesAt};
 ghost use Rattle.store.specs.Tables.{mostElements};
-ghost use Rattle.pages.specs.Choice.{serialRange};
+ghost use Rattle.store.specs.Held.{serialRange};
 ghost use Rattle.pages.specs.Decision.{isSendable};
-ghost use Rattle.pages.specs.Tables.{stopped, ended, wholeOf, Priced, laidWith, chosenIn, ToDecide, Decides};
+ghost use Rattle.order.specs.Queue.{queuedIn};
+ghost use Rattle.pages.specs.Tables.{stopped, ended, wholeOf, Priced, laidWith, ToDecide, Decides, takenIn};
 use crate::price::Price;
 use crate::price::price_of;
-use crate::price::serial_range;
+use order::queue::row_at;
 use ranges::shift;
 use store::element::Element;
+use store::held::serial_range;
 use store::knowledge_write::ranges_length;
 use store::table::element_in_row;
 
-// The page of so many elements, so long an answer, so many ranges, and whether a wanted element remains; or 9; or 14 with the
-// needed length.
+// The page of so many elements, each of which may stand for a group, so long an answer, so many ranges, and whether a wanted one
+// remains; or 9; or 14 with the needed length.
 pub enum Decided {
     Sent(usize, usize, usize, bool),
     Crowded,
     Short(usize),
+}
+
+// What was decided, and how many rows of the queue are sent: a group may have more rows than one.
+pub struct Chosen {
+    pub decided: Decided,
+    pub rows: usize,
 }
 
 // What is asked of a page: at most so many ranges, the limit, the answer's length without elements and ranges, and the output's.
@@ -84,20 +92,6 @@ impl Page {
         }
     }
 
-    // The element at the place is not wanted.
-    fn pass(self) -> Page
-        requires { ⌜ self .place < mostElements ⌝ }
-        ensures { λ r. ⌜ r ≡ record { count = self .count; bytes = self .bytes; place = self .place + 1; ranges = self .ranges; spelled = self .spelled } ⌝ }
-    {
-        Page {
-            count: self.count,
-            bytes: self.bytes,
-            place: self.place + 1,
-            ranges: self.ranges,
-            spelled: self.spelled,
-        }
-    }
-
     // Takes the wanted element at the place, whose price is p: its serial number goes into the rows.
     fn take(self, t: &mut [u64], x: Element, p: Price) -> Page
         requires { ⌜ (self .count < mostElements) × (self .place < mostElements) × (self .bytes + x .length < 2 ^ 64) × (self .ranges * rangeWidth ≤ length (now t)) × (p .ranges * rangeWidth ≤ length (now t)) × Priced (now t) (self .ranges) (serialRange x) p ⌝ }
@@ -144,28 +138,25 @@ impl Page {
     }
 }
 
-// The longest page of those of n elements whose flag is not 0, in store order; the table of ranges then holds the serial numbers of
-// those that are sent too. Ruled out (proofs/WrongAnswers), with nothing wanted and no room: a page that is sent; the room as the needed
+// The longest page of so many elements that are queued, in their order; the table of ranges then holds the serial numbers of those that
+// are sent too. Ruled out (proofs/WrongAnswers), with nothing wanted and no room: a page that is sent; the room as the needed
 // length.
 pub(crate) fn decide(
     rows: &[u64],
     ids: &[u64],
-    n: usize,
-    flags: &[u8],
+    wanted: usize,
+    queue: &[u8],
     t: &mut [u64],
     count: usize,
     b: Bounds,
 ) -> Decided
-    requires { ⌜ ToDecide (now rows) (now ids) n (now flags) (now t) count (b .most) × (b .fixed ≤ 2 ^ 32) ⌝ }
-    ensures { λ r. ⌜ Decides (chosenIn (now (rows .entry)) (now (ids .entry)) n (now (flags .entry))) (rangesAt (now (t .entry)) 0 count) b r (now (t .entry)) (now (t .exit)) ⌝ }
+    requires { ⌜ ToDecide (now rows) (now ids) wanted (now queue) (now t) count (b .most) × (b .fixed ≤ 2 ^ 32) ⌝ }
+    ensures { λ r. ⌜ Decides (queuedIn (now (rows .entry)) (now (ids .entry)) wanted (now (queue .entry))) (rangesAt (now (t .entry)) 0 count) b r (now (t .entry)) (now (t .exit)) ⌝ }
 {
     let mut p = Page::new(count, ranges_length(t, 0, count));
-    while p.place < n {
-        let at = p.place;
-        if flags[at] == 0 {
-            p = p.pass();
-            continue;
-        }
+    while p.place < wanted {
+        let place = p.place;
+        let at = row_at(queue, place);
         let x = element_in_row(rows, ids, at);
         let q = price_of(t, p.ranges, p.spelled, serial_range(x));
         let stored = p.bytes + x.length;
@@ -176,4 +167,15 @@ pub(crate) fn decide(
         p = p.take(t, x, q);
     }
     p.end(b)
+}
+
+// How many groups are sent.
+pub(crate) fn taken_in(d: Decided) -> usize
+    ensures { λ r. ⌜ r ≡ takenIn d ⌝ }
+{
+    match d {
+        Decided::Sent(k, _, _, _) => k,
+        Decided::Crowded => 0,
+        Decided::Short(_) => 0,
+    }
 }

@@ -7,13 +7,9 @@ ghost use Rattle.talk.specs.Ranges.{Normal};
 ghost use Rattle.ranges.specs.RangeTable.{rangeWidth, rangesAt};
 ghost use Rattle.store.specs.Knowledge.{mostSaid};
 ghost use Rattle.store.specs.KnowledgeWritten.{rangesBytes};
-ghost use Rattle.pages.specs.Choice.{serialRange};
 ghost use Rattle.pages.specs.Tables.{Priced};
-use crate::wanted::key_guid;
 use ranges::gather;
-use ranges::range_of;
 use ranges::rows_before;
-use store::element::Element;
 use store::knowledge_write::range_length;
 use store::knowledge_write::ranges_length;
 use talk::range::Range;
@@ -25,14 +21,6 @@ pub struct Price {
     pub range: Range,
     pub ranges: usize,
     pub spelled: usize,
-}
-
-// An element's serial number as a range. Ruled out (proofs/WrongAnswers): all numbers up to it; the number 0.
-pub(crate) fn serial_range(x: Element) -> Range
-    ensures { λ r. ⌜ r ≡ serialRange x ⌝ }
-{
-    let serial = x.serial;
-    range_of(key_guid(serial), serial.number, serial.number)
 }
 
 // The price of x, where the first `count` rows take `spelled` bytes. Ruled out (proofs/WrongAnswers), in an empty table: no row

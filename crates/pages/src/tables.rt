@@ -1,4 +1,4 @@
-// What is copied out when nothing is refused any more: the rows of both tables.
+// What is copied out when nothing is refused any more: the ranges.
 ghost use mathlib.Core.Path.{_≡_};
 ghost use mathlib.Core.List.{_++_};
 ghost use Prim.Native.Nat.{_+_, _*_, _≤_};
@@ -9,18 +9,6 @@ use numbers::guid::swap;
 use ranges::RANGE_WIDTH;
 use ranges::range_at;
 use talk::range::Range;
-
-// The first n numbers of a table, over the front of another: the later numbers stay.
-pub(crate) fn copy_numbers(to: &mut [u64], from: &[u64], n: usize)
-    requires { ⌜ (n ≤ length (now to)) × (n ≤ length (now from)) ⌝ }
-    ensures { λ _. ⌜ now (to .exit) ≡ take n (now (from .entry)) ++ drop n (now (to .entry)) ⌝ }
-{
-    let mut i = 0;
-    while i < n {
-        to[i] = from[i];
-        i += 1;
-    }
-}
 
 // A range as row k of the lent table: its GUID as two little-endian numbers.
 fn put_range_row(to: &mut [u64], k: usize, x: Range)

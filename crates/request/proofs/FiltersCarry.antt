@@ -19,7 +19,7 @@ use Rattle.objects.specs.declared.reading.Reading.{Reading}
 use Rattle.objects.specs.declared.reading.Reading.the-variants.{At, Refused}
 use Rattle.objects.proofs.StepsCarry.{Carries, Gives, carries-then, gives-first, gives-next, gives-value, gives-by, gives-both, carries-by, gives-by-first, gives-by-next, carries-start, gives-next-is, carries-end, carries-run, gives-run, opened-from, gives-other-start, gives-no-start}
 use Rattle.store.specs.declared.element.Key.{Key}
-use Rattle.request.specs.Filter.{filterFields, oneNumber, typePart, idsField, idsPart, kindPart, filterStart, filterOpened, filterKind, filterAt, filtersFrom}
+use Rattle.request.specs.Filter.{filterFields, oneNumber, typePart, idsField, idsPart, kindPart, filterStart, filterOpened, filterKind, filterAt, filtersFrom, requestPadding}
 use Rattle.request.specs.Meaning.{Filter, keysIn, filterRead, filtersRead}
 use Rattle.request.proofs.Whole.{filters-from}
 
@@ -27,32 +27,32 @@ use Rattle.request.proofs.Whole.{filters-from}
 
 carries-opened : Carries filterOpened
 unfolding filterOpened
-carries-opened = carries-then (carries-start 0x42 0x47 true true) (carries-run (λ d. filterFields d .last))
+carries-opened = carries-then (carries-start requestPadding 0x42 0x47 true true) (carries-run (λ d. filterFields d .last))
 
 gives-filter-run : Gives filterOpened (λ s c. runHere s (filterStart s c))
 unfolding filterOpened
-gives-filter-run = gives-next (carries-start 0x42 0x47 true true) (carries-run (λ d. filterFields d .last)) (gives-run (λ d. filterFields d .last))
+gives-filter-run = gives-next (carries-start requestPadding 0x42 0x47 true true) (carries-run (λ d. filterFields d .last)) (gives-run (λ d. filterFields d .last))
 
 gives-filter-kind : Gives filterOpened filterKind
 gives-filter-kind = gives-by (λ (d : List ℕ). filterFields d .kind) gives-filter-run
 
 gives-opened-next : Gives filterOpened (λ s c. nextIs s 0x47 c)
 unfolding filterOpened
-gives-opened-next = gives-first (carries-start 0x42 0x47 true true) (carries-run (λ d. filterFields d .last)) (gives-next-is 0x47 0x42 0x47 true true)
+gives-opened-next = gives-first (carries-start requestPadding 0x42 0x47 true true) (carries-run (λ d. filterFields d .last)) (gives-next-is requestPadding 0x47 0x42 0x47 true true)
 
 -- ---- the kind's own object
 
 carries-type : Carries typePart
 unfolding typePart
-carries-type = carries-then (carries-start 0x47 0x57 false true) (carries-run oneNumber)
+carries-type = carries-then (carries-start requestPadding 0x47 0x57 false true) (carries-run oneNumber)
 
 carries-ids : Carries idsPart
 unfolding idsPart
-carries-ids = carries-then (carries-start 0x47 0x54 false true) (carries-run idsField)
+carries-ids = carries-then (carries-start requestPadding 0x47 0x54 false true) (carries-run idsField)
 
 -- the part of another kind is read as none, in any filter
 abbrev idsOf : List ℕ → Reading → List Key
-idsOf s c = keysIn (runHere s (startHere s 0x47 0x54 false true c))
+idsOf s c = keysIn (runHere s (startHere requestPadding s 0x47 0x54 false true c))
 
 no-ids : (s t : List ℕ) (r q : Refusal) → keysIn (runHere s (Refused r)) ≡ keysIn (runHere t (Refused q))
 unfolding runHere
@@ -74,8 +74,8 @@ record BodyCarry (step : List ℕ → Reading → Reading) : Type 0 where
 gives-ids-of-type : Gives typePart idsOf
 unfolding typePart
 gives-ids-of-type =
-    gives-first (carries-start 0x47 0x57 false true) (carries-run oneNumber)
-    (gives-other-start (λ s c. keysIn (runHere s c)) no-ids 0x47 0x54 false true 0x47 0x57 false true refl)
+    gives-first (carries-start requestPadding 0x47 0x57 false true) (carries-run oneNumber)
+    (gives-other-start requestPadding (λ s c. keysIn (runHere s c)) no-ids 0x47 0x54 false true 0x47 0x57 false true refl)
 
 type-body : BodyCarry (λ s c. endHere s 0x47 (typePart s c))
 type-body =
@@ -88,13 +88,13 @@ type-body =
 gives-type-of-ids : Gives idsPart (λ s c. valueOf (typePart s c))
 unfolding idsPart typePart
 gives-type-of-ids =
-    gives-first (carries-start 0x47 0x54 false true) (carries-run idsField)
-    (gives-other-start (λ s c. valueOf (inRun s oneNumber c)) no-type 0x47 0x57 false true 0x47 0x54 false true refl)
+    gives-first (carries-start requestPadding 0x47 0x54 false true) (carries-run idsField)
+    (gives-other-start requestPadding (λ s c. valueOf (inRun s oneNumber c)) no-type 0x47 0x57 false true 0x47 0x54 false true refl)
 
 gives-ids-of-ids : Gives idsPart idsOf
 unfolding idsPart
 gives-ids-of-ids =
-    gives-by keysIn (gives-next (carries-start 0x47 0x54 false true) (carries-run idsField) (gives-run idsField))
+    gives-by keysIn (gives-next (carries-start requestPadding 0x47 0x54 false true) (carries-run idsField) (gives-run idsField))
 
 ids-body : BodyCarry (λ s c. endHere s 0x47 (idsPart s c))
 ids-body =
@@ -106,14 +106,14 @@ ids-body =
 
 gives-type-of-none : Gives (λ s c. endHere s 0x47 c) (λ s c. valueOf (typePart s c))
 unfolding typePart
-gives-type-of-none = gives-no-start (λ s c. valueOf (inRun s oneNumber c)) no-type 0x47 0x57 false true 0x47
+gives-type-of-none = gives-no-start requestPadding (λ s c. valueOf (inRun s oneNumber c)) no-type 0x47 0x57 false true 0x47
 
 bare-body : BodyCarry (λ s c. endHere s 0x47 c)
 bare-body =
     record {
       carries = carries-end 0x47;
       type = gives-type-of-none;
-      ids = gives-no-start (λ s c. keysIn (runHere s c)) no-ids 0x47 0x54 false true 0x47;
+      ids = gives-no-start requestPadding (λ s c. keysIn (runHere s c)) no-ids 0x47 0x54 false true 0x47;
     }
 
 body-by : (two six : Bool) → BodyCarry (λ s c. endHere s 0x47 (pick two (typePart s c) (pick six (idsPart s c) c)))
@@ -183,7 +183,7 @@ one-more : (left : ℕ) (s : List ℕ) (p u : ℕ) → nextIs s 0x47 (At p u) �
 unfolding filtersFrom
 one-more left s p u e = rw e
 
-too-many : (s : List ℕ) (p u : ℕ) → nextIs s 0x47 (At p u) ≡ true → filtersFrom 0 s (At p u) ≡ startHere s 0x42 0x47 true false (At p u)
+too-many : (s : List ℕ) (p u : ℕ) → nextIs s 0x47 (At p u) ≡ true → filtersFrom 0 s (At p u) ≡ startHere requestPadding s 0x42 0x47 true false (At p u)
 unfolding filtersFrom
 too-many s p u e = rw e
 
@@ -240,7 +240,7 @@ filters-took : (left : ℕ) (s : List ℕ) (p u q v : ℕ) → left ≤ 16 → f
 filters-took zero s p u q v l h =
     by-bool (nextIs s 0x47 (At p u))
     (λ e.
-    let z : false ≡ true = opened-from s 0x42 0x47 true false p u q v (sym (too-many s p u e) ∙ h) .free in
+    let z : false ≡ true = opened-from requestPadding s 0x42 0x47 true false p u q v (sym (too-many s p u e) ∙ h) .free in
     impossible (cc))
     (λ e. filters-stop 0 s p u q v e h)
 filters-took (suc left) s p u q v l h =

@@ -10,17 +10,17 @@ use Rattle.objects.specs.Steps.{placeOf, valueOf, Good}
 use Rattle.objects.specs.declared.reading.Reading.{Reading}
 use Rattle.objects.specs.declared.reading.Reading.the-variants.{At}
 use Rattle.objects.proofs.Keep.{good-front, onward-fixed, onward-need, good-place, onward-valued, onward-number, onward-number-is, onward-null-id, onward-id}
-use Rattle.request.specs.Filter.{kindTaken, kindByte, kindField, filterFields, oneNumber, idStep, idsFrom, idsField}
+use Rattle.request.specs.Filter.{kindTaken, kindByte, kindField, filterFields, oneNumber, idStep, idsFrom, idsField, requestPadding}
 use Rattle.request.specs.Message.{subRequestFields, argumentFields}
 
 pub good-one-number : (d : List ℕ) → Good d (oneNumber d)
 unfolding oneNumber
-good-one-number d = onward-number d (At 0 0) .good (good-front d 0)
+good-one-number d = onward-number requestPadding d (At 0 0) .good (good-front d 0)
 
-pub good-sub-request-fields : (d : List ℕ) → Good d (subRequestFields d)
+pub good-sub-request-fields : (kind : ℕ) (d : List ℕ) → Good d (subRequestFields kind d)
 unfolding subRequestFields
-good-sub-request-fields d =
-    onward-valued d _ _ .good (onward-number d _ .good (onward-number-is d 2 8 _ (omega arith) .good (onward-number d (At 0 0) .good (good-front d 0))))
+good-sub-request-fields kind d =
+    onward-valued d _ _ .good (onward-number requestPadding d _ .good (onward-number-is requestPadding d kind 8 _ (omega arith) .good (onward-number requestPadding d (At 0 0) .good (good-front d 0))))
 
 pub good-argument-fields : (d : List ℕ) → Good d (argumentFields d)
 unfolding argumentFields

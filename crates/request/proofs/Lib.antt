@@ -13,3 +13,4 @@ pub mod WrongChoices
 pub mod Indexing
 pub mod Following
 pub mod ShortIds
+pub mod ResponseLengths

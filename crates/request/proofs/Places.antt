@@ -19,15 +19,15 @@ use Rattle.objects.proofs.Keep.{good-front, good-place, onward-fixed, onward-va
 use Rattle.objects.proofs.InputFaults.{InputFault, input-fault}
 use Rattle.store.specs.Knowledge.{mostSaid, Knowing}
 use Rattle.store.proofs.KnowledgeHeld.{onward-knowledge}
-use Rattle.request.specs.Filter.{filterFields, oneNumber, typePart, idsField, idsPart, kindPart, filterStart, filterKind, filterOpened, filterAt, filtersFrom}
-use Rattle.request.specs.Message.{versions, requestSignature, userAgent, subRequestFields, subRequest, queryChanges, argumentFields, arguments, constraint, knowledgePart, packagePart, identified, constrainedFrom, constrained, filtered, requestEnd, requestKnowing, inRequest, requestAnswer, requestIn}
+use Rattle.request.specs.Filter.{filterFields, oneNumber, typePart, idsField, idsPart, kindPart, filterStart, filterKind, filterOpened, filterAt, filtersFrom, requestPadding}
+use Rattle.request.specs.Message.{versions, requestSignature, userAgent, subRequestFields, subRequest, queryChanges, argumentFields, arguments, constraint, knowledgePart, packagePart, queryChangesRequest, identified, constrainedFrom, constrained, filtered, requestEnd, requestKnowing, inRequest, requestAnswer, requestIn}
 use Rattle.request.specs.declared.message.Request.the-variants as request
 use Rattle.request.proofs.Inside.{good-one-number, good-sub-request-fields, good-argument-fields, good-filter-fields, good-ids-field}
 
 -- a start, and its data run read by fields that stay within it
 good-run : (s : List ℕ) (outer kind : ℕ) (fields : List ℕ → Reading) → ((d : List ℕ) → Good d (fields d)) → (c : Reading) → Good s c
-    → Good s (closed s (startHere s outer kind false true c) (fields (runHere s (startHere s outer kind false true c))))
-good-run s outer kind fields f c g = onward-closed s (startHere s outer kind false true c) _ (f (runHere s (startHere s outer kind false true c))) .good (onward-start s outer kind false true c .good g)
+    → Good s (closed s (startHere requestPadding s outer kind false true c) (fields (runHere s (startHere requestPadding s outer kind false true c))))
+good-run s outer kind fields f c g = onward-closed s (startHere requestPadding s outer kind false true c) _ (f (runHere s (startHere requestPadding s outer kind false true c))) .good (onward-start requestPadding s outer kind false true c .good g)
 
 -- ---- filters
 
@@ -41,11 +41,11 @@ good-filter : (s : List ℕ) (c : Reading) → Good s c → Good s (filterAt s c
 unfolding filterAt filterOpened
 good-filter s c g =
     let o = filterStart s c in
-    onward-end s 0x47 _ .good (good-kind-part s (filterKind s c) _ (onward-closed s o (filterFields (runHere s o) .last) (good-filter-fields (runHere s o)) .good (onward-start s 0x42 0x47 true true c .good g)))
+    onward-end s 0x47 _ .good (good-kind-part s (filterKind s c) _ (onward-closed s o (filterFields (runHere s o) .last) (good-filter-fields (runHere s o)) .good (onward-start requestPadding s 0x42 0x47 true true c .good g)))
 
 pub good-filters : (left : ℕ) (s : List ℕ) (c : Reading) → Good s c → Good s (filtersFrom left s c)
 unfolding filtersFrom
-good-filters zero s c g = pick-all (Good s) (nextIs s 0x47 c) _ _ (λ e. onward-start s 0x42 0x47 true false c .good g) (λ e. onward-valued s 16 c .good g)
+good-filters zero s c g = pick-all (Good s) (nextIs s 0x47 c) _ _ (λ e. onward-start requestPadding s 0x42 0x47 true false c .good g) (λ e. onward-valued s 16 c .good g)
 good-filters (suc left) s c g =
     pick-all (Good s) (nextIs s 0x47 c) _ _ (λ e. good-filters left s (filterAt s c) (good-filter s c g)) (λ e. onward-valued s (16 - suc left) c .good g)
 
@@ -60,36 +60,39 @@ good-versions signature s =
 good-user-agent : (s : List ℕ) (c : Reading) → Good s c → Good s (userAgent s c)
 unfolding userAgent
 good-user-agent s c g =
-    onward-inside s 14 0x5D _ .good (onward-start-of-length s 0x40 0x5D true true 0 _ .good (onward-start-of-length s nothingOpen 0x40 true true 0 c .good g))
+    onward-inside requestPadding s 14 0x5D _ .good (onward-start-of-length requestPadding s 0x40 0x5D true true 0 _ .good (onward-start-of-length requestPadding s nothingOpen 0x40 true true 0 c .good g))
 
-good-sub-request : (s : List ℕ) (c : Reading) → Good s c → Good s (subRequest s c)
+good-sub-request : (kind : ℕ) (s : List ℕ) (c : Reading) → Good s c → Good s (subRequest kind s c)
 unfolding subRequest
-good-sub-request s c g =
-    let o = startHere s 0x40 0x42 true true c in
-    onward-closed s o (subRequestFields (runHere s o)) (good-sub-request-fields (runHere s o)) .good (onward-start s 0x40 0x42 true true c .good g)
+good-sub-request kind s c g =
+    let o = startHere requestPadding s 0x40 0x42 true true c in
+    onward-closed s o (subRequestFields kind (runHere s o)) (good-sub-request-fields kind (runHere s o)) .good (onward-start requestPadding s 0x40 0x42 true true c .good g)
+
+pub good-identified : (kind : ℕ) (s : List ℕ) → Good s (identified kind s)
+unfolding identified
+good-identified kind s = good-sub-request kind s _ (good-user-agent s _ (good-versions requestSignature s))
 
 good-constrained-from : (s : List ℕ) (c : Reading) → Good s c → Good s (constrainedFrom s c)
 unfolding constrainedFrom queryChanges arguments constraint
 good-constrained-from s c g =
-    let a = onward-skip s 1 _ .good (onward-start-of-length s 0x42 0x51 false true 1 c .good g) in
+    let a = onward-skip s 1 _ .good (onward-start-of-length requestPadding s 0x42 0x51 false true 1 c .good g) in
     let b = good-run s 0x42 0x5B argumentFields good-argument-fields _ a in
     pick-all (Good s) (nextIs s 0x59 _) _ _ (λ e. good-run s 0x42 0x59 oneNumber good-one-number _ b) (λ e. onward-valued s 0xFFFFFFFFFFFFFFFF _ .good b)
 
 good-constrained : (s : List ℕ) → Good s (constrained s)
-unfolding identified
-good-constrained s = good-constrained-from s (identified s) (good-sub-request s _ (good-user-agent s _ (good-versions requestSignature s)))
+good-constrained s = good-constrained-from s (identified queryChangesRequest s) (good-identified queryChangesRequest s)
 
 good-filtered : (s : List ℕ) → Good s (filtered s)
 good-filtered s = good-filters 16 s (constrained s) (good-constrained s)
 
 good-knowledge-part : (s t : List ℕ) (c : Reading) → Good s c → Good s (knowledgePart s t c .last)
 unfolding knowledgePart
-good-knowledge-part s t c g = pick-all (λ (k : Knowing). Good s (k .last)) (nextIs s 0x10 c) _ _ (λ e. onward-knowledge mostSaid 12 0x42 s t c .good g) (λ e. g)
+good-knowledge-part s t c g = pick-all (λ (k : Knowing). Good s (k .last)) (nextIs s 0x10 c) _ _ (λ e. onward-knowledge requestPadding mostSaid 12 0x42 s t c .good g) (λ e. g)
 
 good-package-part : (s : List ℕ) (c : Reading) → Good s c → Good s (packagePart s c)
 unfolding packagePart
 good-package-part s c g =
-    pick-all (Good s) (nextIs s 0x15 c) _ _ (λ e. onward-inside s 14 0x15 _ .good (onward-skip s 1 _ .good (onward-start-of-length s 0x40 0x15 true true 1 c .good g))) (λ e. g)
+    pick-all (Good s) (nextIs s 0x15 c) _ _ (λ e. onward-inside requestPadding s 14 0x15 _ .good (onward-skip s 1 _ .good (onward-start-of-length requestPadding s 0x40 0x15 true true 1 c .good g))) (λ e. g)
 
 good-ended : (s : List ℕ) (c : Reading) → Good s c → Good s (requestEnd s c)
 unfolding requestEnd

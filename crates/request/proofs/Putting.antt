@@ -15,7 +15,7 @@ use Rattle.objects.specs.declared.reading.Reading.{Reading}
 use Rattle.store.specs.Element.{sameKey}
 use Rattle.store.specs.declared.element.Key.{Key}
 use Rattle.store.specs.declared.element.Element.{Element}
-use Rattle.request.specs.Filter.{oneNumber, idStep, idsFrom, idsField, idsPart, typePart, kindPart, filterOpened, filterKind, filterAt}
+use Rattle.request.specs.Filter.{oneNumber, idStep, idsFrom, idsField, idsPart, typePart, kindPart, filterOpened, filterKind, filterAt, requestPadding}
 use Rattle.request.specs.Meaning.{Filter, keyIn, keysFrom, keysIn, filterRead, filtersRead, matches, letsIn}
 use Rattle.store.specs.Tables.{elementsIn}
 use Rattle.request.specs.Choice.{flagOf, flagsOf, setFlags, setByFilter, matchedBy, withIds, kindMatches}
@@ -114,9 +114,9 @@ module _ (s : List ℕ) (kind : ℕ) (c : Reading) (to : ℕ) (all : List Elemen
 
   pub kind-ids : kind ≡ 6
       → (idsPart s c ≡ kindPart s kind c)
-      × (setFlags (withIds (keysIn (runHere s (startHere s 0x47 0x54 false true c)))) to all flags ≡ setFlags (kindMatches s kind c) to all flags)
+      × (setFlags (withIds (keysIn (runHere s (startHere requestPadding s 0x47 0x54 false true c)))) to all flags ≡ setFlags (kindMatches s kind c) to all flags)
   unfolding kindPart kindMatches
-  kind-ids e = (rw e, same-flags (withIds (keysIn (runHere s (startHere s 0x47 0x54 false true c)))) (kindMatches s kind c) to all flags (λ x. rw e))
+  kind-ids e = (rw e, same-flags (withIds (keysIn (runHere s (startHere requestPadding s 0x47 0x54 false true c)))) (kindMatches s kind c) to all flags (λ x. rw e))
 
   pub kind-other : (kind ≡ 1 → ⊥) → (kind ≡ 2 → ⊥) → (kind ≡ 6 → ⊥) → (c ≡ kindPart s kind c) × (flags ≡ setFlags (kindMatches s kind c) to all flags)
   unfolding kindPart kindMatches

@@ -8,6 +8,7 @@ use Prim.Native.Nat.{ℕ, _^_, _≤_, _<_}
 use native.Mathlib.Omega.{arith}
 use lib.ListN.{length, replicate, length-replicate}
 use lib.Dec.{ltb}
+use Rattle.request.specs.Filter.{requestPadding}
 use Rattle.laws.specs.Bytes.{AllBytes}
 use Rattle.laws.proofs.Cases.{pick-all}
 use Rattle.numbers.specs.Refusals.{longestInput}
@@ -18,7 +19,7 @@ use Rattle.objects.specs.declared.reading.Reading.the-variants.{At, Refused}
 use Rattle.talk.specs.Ranges.{Normal, AllFit}
 use Rattle.store.specs.Knowledge.{mostSaid, saidNumbers, Knowing}
 use Rattle.store.proofs.KnowledgeFits.{number-fits, run-bytes, knowledge-fits}
-use Rattle.request.specs.Message.{versions, requestSignature, userAgent, subRequestFields, subRequest, identified, knowledgePart, filtered, requestKnowing, requestIn}
+use Rattle.request.specs.Message.{versions, requestSignature, userAgent, subRequestFields, subRequest, queryChangesRequest, identified, knowledgePart, filtered, requestKnowing, requestIn}
 use Rattle.request.specs.declared.message.Request.the-variants as request
 use Rattle.request.proofs.Whole.{request-table-free, request-held, asked-id}
 
@@ -37,18 +38,18 @@ closed-fits s (At from m) (Refused r) n z h = z
 closed-fits s (At from m) (At p v) n z h =
     pick-all (λ (c : Reading). valueOf c < n) (ltb p _) _ _ (λ e. z) (λ e. pick-all (λ (c : Reading). valueOf c < n) (ltb _ m) _ _ (λ g. z) (λ g. h))
 
-fields-fit : (d : List ℕ) → AllBytes d → valueOf (subRequestFields d) < 2 ^ 64
+fields-fit : (kind : ℕ) (d : List ℕ) → AllBytes d → valueOf (subRequestFields kind d) < 2 ^ 64
 unfolding subRequestFields
-fields-fit d b = valued-fits (valueOf (steps.number d (At 0 0))) (2 ^ 64) _ (number-fits d (At 0 0) b)
+fields-fit kind d b = valued-fits (valueOf (steps.number requestPadding d (At 0 0))) (2 ^ 64) _ (number-fits requestPadding d (At 0 0) b)
 
-identified-fits : (s : List ℕ) → AllBytes s → valueOf (identified s) < 2 ^ 64
+pub identified-fits : (kind : ℕ) (s : List ℕ) → AllBytes s → valueOf (identified kind s) < 2 ^ 64
 unfolding identified subRequest
-identified-fits s b =
-    let o = startHere s 0x40 0x42 true true (userAgent s (versions requestSignature s)) in
-    closed-fits s o (subRequestFields (runHere s o)) (2 ^ 64) (omega arith) (fields-fit (runHere s o) (run-bytes s o b))
+identified-fits kind s b =
+    let o = startHere requestPadding s 0x40 0x42 true true (userAgent s (versions requestSignature s)) in
+    closed-fits s o (subRequestFields kind (runHere s o)) (2 ^ 64) (omega arith) (fields-fit kind (runHere s o) (run-bytes s o b))
 
 pub id-fits : (s t : List ℕ) (id limit place count known : ℕ) → AllBytes s → requestIn s t ≡ request.Asked id limit place count known → id < 2 ^ 64
-id-fits s t id limit place count known b h = rw (asked-id s t id limit place count known h) at (identified-fits s b)
+id-fits s t id limit place count known b h = rw (asked-id s t id limit place count known h) at (identified-fits queryChangesRequest s b)
 
 -- ---- the ranges
 
@@ -56,7 +57,7 @@ pub known-fit : (s t : List ℕ) → AllBytes s → AllFit (requestKnowing s t .
 unfolding requestKnowing knowledgePart AllFit
 known-fit s t b =
     pick-all (λ (k : Knowing). AllFit (k .ranges)) (ltb longestInput (length s)) _ _ (λ e. tt)
-    (λ e. pick-all (λ (k : Knowing). AllFit (k .ranges)) (nextIs s 0x10 (filtered s)) _ _ (λ f. knowledge-fits mostSaid 12 0x42 s t (filtered s) b) (λ f. tt))
+    (λ e. pick-all (λ (k : Knowing). AllFit (k .ranges)) (nextIs s 0x10 (filtered s)) _ _ (λ f. knowledge-fits requestPadding mostSaid 12 0x42 s t (filtered s) b) (λ f. tt))
 
 -- whatever the table
 pub known-normal : (s t : List ℕ) → Normal (requestKnowing s t .ranges) × (length (requestKnowing s t .ranges) ≤ mostSaid)

@@ -8,7 +8,7 @@ use native.Mathlib.Omega.{arith}
 use borrow.Author.Tests.{eq-eqb, ne-eqb}
 use Rattle.objects.specs.Steps.{placeOf, need, startHere, valued, nextIs}
 use Rattle.objects.specs.declared.reading.Reading.{Reading}
-use Rattle.request.specs.Filter.{idStep, idsFrom, filterAt, filtersFrom}
+use Rattle.request.specs.Filter.{idStep, idsFrom, filterAt, filtersFrom, requestPadding}
 
 -- ---- ids: i of n are read
 
@@ -41,7 +41,7 @@ pub filters-more : (n : ℕ) (s : List ℕ) (c : Reading) → n < 16 → nextIs 
 unfolding filtersFrom
 filters-more n s c h q = let e : 16 - n ≡ suc (16 - (n + 1)) = omega arith in rw (e, q)
 
-pub filters-over : (n : ℕ) (s : List ℕ) (c : Reading) → n ≡ 16 → nextIs s 0x47 c ≡ true → filtersFrom (16 - n) s c ≡ startHere s 0x42 0x47 true false c
+pub filters-over : (n : ℕ) (s : List ℕ) (c : Reading) → n ≡ 16 → nextIs s 0x47 c ≡ true → filtersFrom (16 - n) s c ≡ startHere requestPadding s 0x42 0x47 true false c
 unfolding filtersFrom
 filters-over n s c h q = let e : 16 - n ≡ 0 = omega arith in rw (e, q)
 

@@ -20,9 +20,9 @@ use Rattle.store.specs.Knowledge.{mostSaid, saidNumbers, knowledgeAnswer, Reads
 use Rattle.store.specs.declared.knowledge.ReadKnowledge.{ReadKnowledge}
 use Rattle.store.proofs.KnowledgeHeld.{Held, knowledge-held}
 use Rattle.store.proofs.TableFree.{Alike, table-free}
-use Rattle.request.specs.Filter.{filterOpened, filterAt, filtersFrom}
+use Rattle.request.specs.Filter.{filterOpened, filterAt, filtersFrom, requestPadding}
 use Rattle.request.specs.Meaning.{filterRead, filtersRead}
-use Rattle.request.specs.Message.{knowledgePart, packagePart, identified, constrained, filtered, requestEnd, requestKnowing, inRequest, requestAnswer, onKnowledge, rowsKnown, requestIn, filtersOf, ReadsRequest}
+use Rattle.request.specs.Message.{knowledgePart, packagePart, queryChangesRequest, identified, constrained, filtered, requestEnd, requestKnowing, inRequest, requestAnswer, onKnowledge, rowsKnown, requestIn, filtersOf, ReadsRequest}
 use Rattle.request.specs.declared.message.Request.{Request}
 use Rattle.request.specs.declared.message.Request.the-variants as request
 
@@ -38,12 +38,12 @@ over-long-read s t h = rw (lt-ltb _ _ h) (refl, refl, refl, tt)
 -- the code goes on from what reading the knowledge answered
 abbrev pub answered : List ℕ → ReadKnowledge → Request
 answered s k =
-    requestAnswer (requestEnd s (onKnowledge k)) (valueOf (identified s)) (valueOf (constrained s)) (placeOf (constrained s)) (valueOf (filtered s)) (rowsKnown k)
+    requestAnswer (requestEnd s (onKnowledge k)) (valueOf (identified queryChangesRequest s)) (valueOf (constrained s)) (placeOf (constrained s)) (valueOf (filtered s)) (rowsKnown k)
 
 -- which is where the knowledge ended
 answered-is : (s : List ℕ) (n : ℕ) (c : Reading)
     → answered s (knowledgeAnswer n c)
-    ≡ requestAnswer (requestEnd s c) (valueOf (identified s)) (valueOf (constrained s)) (placeOf (constrained s)) (valueOf (filtered s)) n
+    ≡ requestAnswer (requestEnd s c) (valueOf (identified queryChangesRequest s)) (valueOf (constrained s)) (placeOf (constrained s)) (valueOf (filtered s)) n
 unfolding knowledgeAnswer onKnowledge rowsKnown requestEnd endHere packagePart nextIs finish requestAnswer
 answered-is s n (At e v) = refl
 answered-is s n (Refused r) = refl
@@ -63,7 +63,7 @@ knowing-alike s t v =
     by-bool (ltb longestInput (length s)) (λ e. rw e (record { ranges = refl; left = refl; last = refl }))
     (λ e.
     rw e
-    (by-bool (nextIs s 0x10 (filtered s)) (λ f. rw f (table-free mostSaid 12 0x42 s t v (filtered s))) (λ f. rw f (record { ranges = refl; left = refl; last = refl }))))
+    (by-bool (nextIs s 0x10 (filtered s)) (λ f. rw f (table-free requestPadding mostSaid 12 0x42 s t v (filtered s))) (λ f. rw f (record { ranges = refl; left = refl; last = refl }))))
 
 pub request-table-free : (s t v : List ℕ) → (requestIn s t ≡ requestIn s v) × (requestKnowing s t .ranges ≡ requestKnowing s v .ranges)
 unfolding requestIn
@@ -77,7 +77,7 @@ request-held s t h =
     by-bool (ltb longestInput (length s)) (λ e. rw e (record { normal = tt; room = omega arith; rows = refl; long = refl; later = refl }))
     (λ e.
     rw e
-    (by-bool (nextIs s 0x10 (filtered s)) (λ f. rw f (knowledge-held mostSaid 12 0x42 s t (filtered s) h))
+    (by-bool (nextIs s 0x10 (filtered s)) (λ f. rw f (knowledge-held requestPadding mostSaid 12 0x42 s t (filtered s) h))
     (λ f. rw f (record { normal = tt; room = omega arith; rows = refl; long = refl; later = refl }))))
 
 -- ---- the filters of the request
@@ -106,10 +106,10 @@ asked-parts (At e v) a b p n m a′ b′ p′ n′ m′ h = (cc, cc, cc, cc)
 asked-parts (Refused r) a b p n m a′ b′ p′ n′ m′ h = impossible (cc)
 
 module _ (s t : List ℕ) (a b p n m : ℕ) (h : requestIn s t ≡ request.Asked a b p n m) where
-  told-parts : (placeOf (constrained s) ≡ p) × (valueOf (filtered s) ≡ n) × (length (requestKnowing s t .ranges) ≡ m) × (valueOf (identified s) ≡ a)
+  told-parts : (placeOf (constrained s) ≡ p) × (valueOf (filtered s) ≡ n) × (length (requestKnowing s t .ranges) ≡ m) × (valueOf (identified queryChangesRequest s) ≡ a)
   unfolding requestIn
   told-parts =
-      asked-parts (requestEnd s (requestKnowing s t .last)) (valueOf (identified s)) (valueOf (constrained s)) (placeOf (constrained s)) (valueOf (filtered s)) (length (requestKnowing s t .ranges)) a b p n m h
+      asked-parts (requestEnd s (requestKnowing s t .last)) (valueOf (identified queryChangesRequest s)) (valueOf (constrained s)) (placeOf (constrained s)) (valueOf (filtered s)) (length (requestKnowing s t .ranges)) a b p n m h
 
   -- the filters that stand at the place that is told, as many as are told, are those of the request
   pub asked-filters : filtersRead n s (At p 0) ≡ filtersOf s
@@ -120,5 +120,5 @@ module _ (s t : List ℕ) (a b p n m : ℕ) (h : requestIn s t ≡ request.Asked
   asked-known = told-parts .2
 
   -- the id that is told stands in the sub-request
-  pub asked-id : valueOf (identified s) ≡ a
+  pub asked-id : valueOf (identified queryChangesRequest s) ≡ a
   asked-id = told-parts .3

@@ -9,7 +9,7 @@ use lib.Count.{trailingZeros}
 use Rattle.laws.specs.Bytes.{le}
 use Rattle.laws.specs.Loop.{turns, iterate}
 use Rattle.numbers.specs.Refusals.{faultAt}
-use Rattle.numbers.specs.Compact.{sizeOf, readForm, formAt, readCompact}
+use Rattle.numbers.specs.Compact.{sizeOf, readForm, readCompact, compactFor}
 use Rattle.numbers.specs.Compact as compact
 use Rattle.numbers.specs.ExtendedGuid.{readExtendedGuid, formOfId}
 use Rattle.objects.specs.Header.{startOf, endOf, sized, headerOf, headerAt, lengthAt}
@@ -38,12 +38,12 @@ shortest =
 
 -- its limit is 2^64-1, and not 0
 no-limit : ReadsRequest shortest (7 ∷ []) (Asked 1 0 41 0 0) (7 ∷ []) → ⊥
-unfolding requestKnowing knowledgePart versions userAgent subRequestFields subRequest queryChanges argumentFields arguments constraint packagePart identified constrainedFrom filtersFrom requestEnd requestAnswer requestIn number numberIs nullId need valueOf fixedIn valued skip startHere lengthIs startOfLength runHere closedAt inside endHere nextIs finish placeOf headerAt headerOf sized startOf endOf lengthAt runAt iterate turns readCompact formAt readForm compact.compactValue sizeOf readExtendedGuid formOfId trailingZeros le
+unfolding requestKnowing knowledgePart versions userAgent subRequestFields subRequest queryChanges argumentFields arguments constraint packagePart identified constrainedFrom filtersFrom requestEnd requestAnswer requestIn number numberIs nullId need valueOf fixedIn valued skip startHere lengthIs startOfLength runHere closedAt inside endHere nextIs finish placeOf headerAt headerOf sized startOf endOf lengthAt runAt iterate turns readCompact compactFor readForm compact.compactValue sizeOf readExtendedGuid formOfId trailingZeros le
 no-limit h = let z : _≡_ {A = ℕ} 0 0xFFFFFFFFFFFFFFFF = ap (λ (r : Request). getD (tellRequest r .values) 1 0) (h .0) in omega arith
 
 -- a constraint may be absent: the end that stands in its place is not at fault
 constraint-missed : ReadsRequest shortest (7 ∷ []) (Refused (inRequest (faultAt 5 41))) (7 ∷ []) → ⊥
-unfolding requestKnowing knowledgePart versions userAgent subRequestFields subRequest queryChanges argumentFields arguments constraint packagePart identified constrainedFrom filtersFrom requestEnd requestAnswer requestIn number numberIs nullId need valueOf fixedIn valued skip startHere lengthIs startOfLength runHere closedAt inside endHere nextIs finish placeOf headerAt headerOf sized startOf endOf lengthAt runAt iterate turns readCompact formAt readForm compact.compactValue sizeOf readExtendedGuid formOfId trailingZeros le
+unfolding requestKnowing knowledgePart versions userAgent subRequestFields subRequest queryChanges argumentFields arguments constraint packagePart identified constrainedFrom filtersFrom requestEnd requestAnswer requestIn number numberIs nullId need valueOf fixedIn valued skip startHere lengthIs startOfLength runHere closedAt inside endHere nextIs finish placeOf headerAt headerOf sized startOf endOf lengthAt runAt iterate turns readCompact compactFor readForm compact.compactValue sizeOf readExtendedGuid formOfId trailingZeros le
 constraint-missed h = let z : _≡_ {A = ℕ} 5 0 = ap (λ (r : Request). tellRequest r .number) (h .0) in omega arith
 
 -- with the low flag bit alone it is refused with 8, and not read: both must be set
@@ -52,6 +52,16 @@ one-flag =
     0x0C ∷ 0x00 ∷ 0x0B ∷ 0x00 ∷ 0x9C ∷ 0xCF ∷ 0x29 ∷ 0xF3 ∷ 0x39 ∷ 0x94 ∷ 0x06 ∷ 0x9B ∷ 0x06 ∷ 0x02 ∷ 0x00 ∷ 0x00 ∷ 0xEE ∷ 0x02 ∷ 0x00 ∷ 0x00 ∷ 0x77 ∷ 0x01 ∷ 0x16 ∷ 0x02 ∷ 0x06 ∷ 0x00 ∷ 0x03 ∷ 0x05 ∷ 0x00 ∷ 0x8A ∷ 0x02 ∷ 0x02 ∷ 0x00 ∷ 0x00 ∷ 0xDA ∷ 0x02 ∷ 0x06 ∷ 0x00 ∷ 0x01 ∷ 0x00 ∷ 0x00 ∷ 0x0B ∷ 0x01 ∷ 0x03 ∷ 0x01 ∷ []
 
 one-flag-enough : (id limit place count known : ℕ) → ReadsRequest one-flag (7 ∷ []) (Asked id limit place count known) (7 ∷ []) → ⊥
-unfolding requestKnowing knowledgePart versions userAgent subRequestFields subRequest queryChanges argumentFields arguments constraint packagePart identified constrainedFrom filtersFrom requestEnd requestAnswer requestIn number numberIs nullId need valueOf fixedIn valued skip startHere lengthIs startOfLength runHere closedAt inside endHere nextIs finish placeOf headerAt headerOf sized startOf endOf lengthAt runAt iterate turns readCompact formAt readForm compact.compactValue sizeOf readExtendedGuid formOfId trailingZeros le
+unfolding requestKnowing knowledgePart versions userAgent subRequestFields subRequest queryChanges argumentFields arguments constraint packagePart identified constrainedFrom filtersFrom requestEnd requestAnswer requestIn number numberIs nullId need valueOf fixedIn valued skip startHere lengthIs startOfLength runHere closedAt inside endHere nextIs finish placeOf headerAt headerOf sized startOf endOf lengthAt runAt iterate turns readCompact compactFor readForm compact.compactValue sizeOf readExtendedGuid formOfId trailingZeros le
 one-flag-enough id limit place count known h =
     let z : _≡_ {A = ℕ} 0 8 = ap (λ (r : Request). tellRequest r .number) (h .0) in omega arith
+
+-- with a priority of 0 that is padded it is refused with 3, and not read
+abbrev padded-priority : List ℕ
+padded-priority =
+    0x0C ∷ 0x00 ∷ 0x0B ∷ 0x00 ∷ 0x9C ∷ 0xCF ∷ 0x29 ∷ 0xF3 ∷ 0x39 ∷ 0x94 ∷ 0x06 ∷ 0x9B ∷ 0x06 ∷ 0x02 ∷ 0x00 ∷ 0x00 ∷ 0xEE ∷ 0x02 ∷ 0x00 ∷ 0x00 ∷ 0x77 ∷ 0x01 ∷ 0x16 ∷ 0x02 ∷ 0x06 ∷ 0x00 ∷ 0x03 ∷ 0x05 ∷ 0x01 ∷ 0x8A ∷ 0x02 ∷ 0x02 ∷ 0x00 ∷ 0x00 ∷ 0xDA ∷ 0x02 ∷ 0x06 ∷ 0x00 ∷ 0x03 ∷ 0x00 ∷ 0x00 ∷ 0x0B ∷ 0x01 ∷ 0x03 ∷ 0x01 ∷ []
+
+padding-taken : (id limit place count known : ℕ) → ReadsRequest padded-priority (7 ∷ []) (Asked id limit place count known) (7 ∷ []) → ⊥
+unfolding requestKnowing knowledgePart versions userAgent subRequestFields subRequest queryChanges argumentFields arguments constraint packagePart identified constrainedFrom filtersFrom requestEnd requestAnswer requestIn number numberIs nullId need valueOf fixedIn valued skip startHere lengthIs startOfLength runHere closedAt inside endHere nextIs finish placeOf headerAt headerOf sized startOf endOf lengthAt runAt iterate turns readCompact compactFor readForm compact.compactValue sizeOf readExtendedGuid formOfId trailingZeros le
+padding-taken id limit place count known h =
+    let z : _≡_ {A = ℕ} 0 3 = ap (λ (r : Request). tellRequest r .number) (h .0) in omega arith

@@ -15,7 +15,7 @@ use Rattle.store.specs.Element.{sameKey}
 use Rattle.store.specs.Tables.{elementsIn}
 use Rattle.store.specs.declared.element.Key.{Key}
 use Rattle.store.specs.declared.element.Element.{Element}
-use Rattle.request.specs.Filter.{typePart}
+use Rattle.request.specs.Filter.{typePart, requestPadding}
 use Rattle.request.specs.Meaning.{Filter, keysIn, matches, filtersRead, letsIn}
 use Rattle.request.specs.declared.choice.Matched.{Matched}
 use Rattle.request.specs.declared.choice.Matched.the-variants.{All, OfType, WithId}
@@ -56,7 +56,7 @@ unfoldable pub kindMatches : List ℕ → ℕ → Reading → Element → Bool
 kindMatches s kind c x =
     pick (eqb kind 1) true
     (pick (eqb kind 2) (eqb (x .kind) (valueOf (typePart s c)))
-    (pick (eqb kind 6) (withIds (keysIn (runHere s (startHere s filterType filterOfIdsType plainBit withRoom c))) x) false))
+    (pick (eqb kind 6) (withIds (keysIn (runHere s (startHere requestPadding s filterType filterOfIdsType plainBit withRoom c))) x) false))
 
 -- ---- what choosing promises: the flags of n elements, and behind them what was there
 abbrev pub Chooses : List ℕ → Reading → ℕ → List ℕ → List ℕ → ℕ → List ℕ → List ℕ → Type 0

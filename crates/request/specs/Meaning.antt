@@ -16,7 +16,7 @@ use Rattle.objects.specs.declared.reading.ReadingId.the-variants as id′
 use Rattle.store.specs.Element.{keyOf, sameKey}
 use Rattle.store.specs.declared.element.Key.{Key}
 use Rattle.store.specs.declared.element.Element.{Element}
-use Rattle.request.specs.Filter.{filterFields, oneNumber, idStep, typePart, filterStart, filterOpened, filterAt}
+use Rattle.request.specs.Filter.{filterFields, oneNumber, idStep, typePart, filterStart, filterOpened, filterAt, requestPadding}
 
 -- ---- what a filter says
 
@@ -47,7 +47,7 @@ filterRead s c =
       kind = filterFields (runHere s (filterStart s c)) .kind;
       operation = filterFields (runHere s (filterStart s c)) .operation;
       type = valueOf (typePart s (filterOpened s c));
-      ids = keysIn (runHere s (startHere s filterType filterOfIdsType plainBit withRoom (filterOpened s c)));
+      ids = keysIn (runHere s (startHere requestPadding s filterType filterOfIdsType plainBit withRoom (filterOpened s c)));
     }
 
 -- n filters from c on

@@ -1,5 +1,6 @@
 -- "A request: one message with one Query Changes sub-request." Its parts in the order of 000, 2.2.2 and 2.2.2.1.3, a line for
--- each. "Constraint, filters, knowledge and package may be absent, nothing else": these begin with `nextIs`.
+-- each. "Constraint, filters, knowledge and package may be absent, nothing else": these begin with `nextIs`. Padding is refused in every
+-- part (`requestPadding`). A put has the same front, up to the sub-request's fields.
 -- Assumes nothing.
 use mathlib.Core.Path.{_≡_}
 use Prim.Native.Nat.{ℕ, _%_}
@@ -9,16 +10,20 @@ use lib.Dec.{ltb, eqb}
 use Rattle.laws.specs.Pick.{pick}
 use Rattle.numbers.specs.Refusals.{Told, gives, refuses, longestInput, overLong}
 use Rattle.numbers.specs.declared.refusal.Refusal.{Refusal}
+use Rattle.numbers.specs.declared.extended_guid.ExtendedGuid.{ExtendedGuid}
+use Rattle.numbers.specs.declared.extended_guid.ExtendedGuid.the-variants as id
 use Rattle.objects.specs.Types.{requestType, userAgentType, compoundBit, withRoom, subRequestType, queryChangesType, plainBit, argumentsType, constraintType, knowledgeType, packageType}
 use Rattle.objects.specs.Steps.{_▹_, nothingOpen, placeOf, valueOf, valued, need, fixedIn, number, numberIs, nullId, skip, startHere, startOfLength, inRun, inside, endHere, nextIs, finish}
 use Rattle.objects.specs.declared.reading.Reading.{Reading}
 use Rattle.objects.specs.declared.reading.Reading.the-variants.{At, Refused}
+use Rattle.objects.specs.declared.reading.ReadingId.{ReadingId}
+use Rattle.objects.specs.declared.reading.ReadingId.the-variants as id′
 use Rattle.talk.specs.Ranges.{Normal}
 use Rattle.ranges.specs.RangeTable.{rangesAt}
 use Rattle.store.specs.Knowledge.{mostSaid, Knowing, knowing, knowledgeAt}
 use Rattle.store.specs.declared.knowledge.ReadKnowledge.{ReadKnowledge}
 use Rattle.store.specs.declared.knowledge.ReadKnowledge.the-variants as read
-use Rattle.request.specs.Filter.{oneNumber, filtersFrom}
+use Rattle.request.specs.Filter.{oneNumber, filtersFrom, requestPadding}
 use Rattle.request.specs.Meaning.{Filter, filtersRead}
 use Rattle.request.specs.declared.message.Request.{Request}
 use Rattle.request.specs.declared.message.Request.the-variants as request
@@ -27,24 +32,36 @@ use Rattle.request.specs.declared.message.Request.the-variants as reques
 unfoldable pub versions : ℕ → List ℕ → Reading
 versions signature s = At 0 0 ▹ fixedIn s 2 12 0xFFFF 7 ▹ fixedIn s 2 0 12 7 ▹ fixedIn s 8 signature signature 7
 
+-- the extended GUID that was read (null after a fault)
+unfoldable pub idIn : ReadingId → ExtendedGuid
+idIn (id′.At p x) = x
+idIn (id′.Refused r) = id.Null
+
 abbrev pub requestSignature : ℕ
 requestSignature = 0x9B069439F329CF9C
 
 -- "request start; user agent, contents only nested": fourteen levels are left inside these two
 unfoldable pub userAgent : List ℕ → Reading → Reading
 userAgent s c =
-    c ▹ startOfLength s nothingOpen requestType compoundBit withRoom 0 ▹ startOfLength s requestType userAgentType compoundBit withRoom 0 ▹ inside s 14 userAgentType
+    c ▹ startOfLength requestPadding s nothingOpen requestType compoundBit withRoom 0 ▹ startOfLength requestPadding s requestType userAgentType compoundBit withRoom 0 ▹ inside requestPadding s 14 userAgentType
 
--- "sub-request (id, type 2, priority)": the id is carried on
-unfoldable pub subRequestFields : List ℕ → Reading
-subRequestFields d = At 0 0 ▹ number d ▹ λ id. id ▹ numberIs d 2 8 ▹ number d ▹ valued (valueOf id)
+-- the request type (000, 2.2.1.6): of Query Changes, and of Put Changes
+abbrev pub queryChangesRequest : ℕ
+queryChangesRequest = 2
 
-unfoldable pub subRequest : List ℕ → Reading → Reading
-subRequest s c = c ▹ startHere s requestType subRequestType compoundBit withRoom ▹ inRun s subRequestFields
+abbrev pub putChangesRequest : ℕ
+putChangesRequest = 5
+
+-- "sub-request (id, type 2, priority)"; the type is the caller's, 2 or, for a put, 5: the id is carried on
+unfoldable pub subRequestFields : ℕ → List ℕ → Reading
+subRequestFields kind d = At 0 0 ▹ number requestPadding d ▹ λ id. id ▹ numberIs requestPadding d kind 8 ▹ number requestPadding d ▹ valued (valueOf id)
+
+unfoldable pub subRequest : ℕ → List ℕ → Reading → Reading
+subRequest kind s c = c ▹ startHere requestPadding s requestType subRequestType compoundBit withRoom ▹ inRun s (subRequestFields kind)
 
 -- "0x51 with one byte, ignored"
 unfoldable pub queryChanges : List ℕ → Reading → Reading
-queryChanges s c = c ▹ startOfLength s subRequestType queryChangesType plainBit withRoom 1 ▹ skip s 1
+queryChanges s c = c ▹ startOfLength requestPadding s subRequestType queryChangesType plainBit withRoom 1 ▹ skip s 1
 
 -- "arguments, whose two low flag bits must be set (the others are ignored) and whose cell ID must be two nulls"
 unfoldable pub argumentFields : List ℕ → Reading
@@ -52,33 +69,33 @@ argumentFields d =
     At 0 0 ▹ fixedIn d 1 0 255 8 ▹ λ flags. flags ▹ need (eqb (valueOf flags % 4) 3) 8 0 ▹ nullId d 8 ▹ nullId d 8
 
 unfoldable pub arguments : List ℕ → Reading → Reading
-arguments s c = c ▹ startHere s subRequestType argumentsType plainBit withRoom ▹ inRun s argumentFields
+arguments s c = c ▹ startHere requestPadding s subRequestType argumentsType plainBit withRoom ▹ inRun s argumentFields
 
 -- "at most one constraint (absent: 2^64-1 bytes)": the limit is carried on
 unfoldable pub constraint : List ℕ → Reading → Reading
 constraint s c =
-    pick (nextIs s constraintType c) (c ▹ startHere s subRequestType constraintType plainBit withRoom ▹ inRun s oneNumber) (c ▹ valued 0xFFFFFFFFFFFFFFFF)
+    pick (nextIs s constraintType c) (c ▹ startHere requestPadding s subRequestType constraintType plainBit withRoom ▹ inRun s oneNumber) (c ▹ valued 0xFFFFFFFFFFFFFFFF)
 
 -- "knowledge": into the working table; twelve levels are left inside a specialized knowledge of another kind
 unfoldable pub knowledgePart : List ℕ → List ℕ → Reading → Knowing
-knowledgePart s t c = pick (nextIs s knowledgeType c) (knowledgeAt mostSaid 12 subRequestType s t c) (knowing [] t mostSaid c)
+knowledgePart s t c = pick (nextIs s knowledgeType c) (knowledgeAt requestPadding mostSaid 12 subRequestType s t c) (knowing [] t mostSaid c)
 
 -- "package, passed over": fourteen levels are left inside it
 unfoldable pub packagePart : List ℕ → Reading → Reading
-packagePart s c = pick (nextIs s packageType c) (c ▹ startOfLength s requestType packageType compoundBit withRoom 1 ▹ skip s 1 ▹ inside s 14 packageType) c
+packagePart s c = pick (nextIs s packageType c) (c ▹ startOfLength requestPadding s requestType packageType compoundBit withRoom 1 ▹ skip s 1 ▹ inside requestPadding s 14 packageType) c
 
 -- ---- the whole
 
--- up to the sub-request's fields; the number is the id
-unfoldable pub identified : List ℕ → Reading
-identified s = versions requestSignature s ▹ userAgent s ▹ subRequest s
+-- up to the fields of a sub-request of this type; the number is the id
+unfoldable pub identified : ℕ → List ℕ → Reading
+identified kind s = versions requestSignature s ▹ userAgent s ▹ subRequest kind s
 
 -- from there to the constraint; the number is the limit, and the filters stand here
 unfoldable pub constrainedFrom : List ℕ → Reading → Reading
 constrainedFrom s c = c ▹ queryChanges s ▹ arguments s ▹ constraint s
 
 abbrev pub constrained : List ℕ → Reading
-constrained s = identified s ▹ constrainedFrom s
+constrained s = identified queryChangesRequest s ▹ constrainedFrom s
 
 -- "filters"; the number is how many
 abbrev pub filtered : List ℕ → Reading
@@ -108,7 +125,7 @@ requestAnswer (Refused r) id limit place count rows = request.Refused (inRequest
 
 unfoldable pub requestIn : List ℕ → List ℕ → Request
 requestIn s t =
-    requestAnswer (requestEnd s (requestKnowing s t .last)) (valueOf (identified s)) (valueOf (constrained s)) (placeOf (constrained s))
+    requestAnswer (requestEnd s (requestKnowing s t .last)) (valueOf (identified queryChangesRequest s)) (valueOf (constrained s)) (placeOf (constrained s))
     (valueOf (filtered s)) (length (requestKnowing s t .ranges))
 
 -- what reading promises: the answer, and the table at exit, whose first rows are the ranges, in normal form

@@ -15,6 +15,7 @@ use crate::filter::FILTER;
 use crate::filter::FILTER_IDS;
 use crate::filter::MOST_IDS;
 use crate::filter::OF_TYPE;
+use crate::filter::REQUEST_PADDING;
 use crate::filter::SUB_REQUEST;
 use crate::filter::WITH_IDS;
 use crate::filter::filter_fields;
@@ -211,7 +212,7 @@ fn put_kind(
         return t;
     }
     if kind == WITH_IDS {
-        let listed = c.start(s, FILTER, FILTER_IDS, PLAIN, ROOM);
+        let listed = c.start(s, FILTER, FILTER_IDS, PLAIN, ROOM, REQUEST_PADDING);
         let e = set_with_ids(listed.run(s), rows, ids, n, heads, links, flags, to);
         return listed.closed(s, e);
     }
@@ -243,7 +244,7 @@ fn put_filter(
     requires { ⌜ RowsStand (now rows) (now ids) n × (n ≤ length (now flags)) × Indexed (now heads) (now links) (now ids) n ⌝ }
     ensures { λ r. ⌜ (r ≡ filterAt (now (s .entry)) c) × (now (flags .exit) ≡ setByFilter (filterRead (now (s .entry)) c) (elementsIn (now (rows .entry)) (now (ids .entry)) n) (now (flags .entry))) ⌝ }
 {
-    let o = c.start(s, SUB_REQUEST, FILTER, COMPOUND, ROOM);
+    let o = c.start(s, SUB_REQUEST, FILTER, COMPOUND, ROOM, REQUEST_PADDING);
     let f = filter_fields(o.run(s));
     let last = f.last;
     let k = o.closed(s, last);

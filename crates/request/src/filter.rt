@@ -1,7 +1,8 @@
-// Filters, read one at a time: kind and operation, and the object that the kind has inside.
+// Filters, read one at a time: kind and operation, and the object that the kind has inside. Padding is refused, as in all of a request.
 ghost use mathlib.Core.Path.{_≡_};
 ghost use Rattle.request.specs.Filter.{kindTaken, kindField, filterFields, oneNumber, typePart, idStep, idsFrom, idsField, idsPart, kindPart, filterAt, filtersFrom};
 ghost use Rattle.request.specs.ShortId.{shortId};
+use numbers::compact::PADDING_REFUSED;
 use objects::layout::COMPOUND;
 use objects::layout::NO_ROOM;
 use objects::layout::PLAIN;
@@ -21,6 +22,9 @@ pub const FILTER_IDS: u64 = 0x54;
 pub const MOST_FILTERS: u64 = 16;
 
 pub const MOST_IDS: u64 = 64;
+
+// Padding is refused in every part of a request, and in what is handed in to be written into one.
+pub const REQUEST_PADDING: bool = PADDING_REFUSED;
 
 // The kinds of filters that are taken: All, Data Element Type, Data Element IDs.
 pub const ALL: u64 = 1;
@@ -73,14 +77,14 @@ pub(crate) fn filter_fields(d: &[u8]) -> FilterFields
 pub(crate) fn one_number(d: &[u8]) -> Reading
     ensures { λ r. ⌜ r ≡ oneNumber (now (d .entry)) ⌝ }
 {
-    Reading::At(0, 0).number(d)
+    Reading::At(0, 0).number(d, REQUEST_PADDING)
 }
 
 // The type that a filter of that kind has inside.
 pub(crate) fn type_part(s: &[u8], c: Reading) -> Reading
     ensures { λ r. ⌜ r ≡ typePart (now (s .entry)) c ⌝ }
 {
-    let o = c.start(s, FILTER, FILTER_TYPE, PLAIN, ROOM);
+    let o = c.start(s, FILTER, FILTER_TYPE, PLAIN, ROOM, REQUEST_PADDING);
     o.closed(s, one_number(o.run(s)))
 }
 
@@ -153,7 +157,7 @@ fn ids_field(d: &[u8]) -> Reading
 fn ids_part(s: &[u8], c: Reading) -> Reading
     ensures { λ r. ⌜ r ≡ idsPart (now (s .entry)) c ⌝ }
 {
-    let o = c.start(s, FILTER, FILTER_IDS, PLAIN, ROOM);
+    let o = c.start(s, FILTER, FILTER_IDS, PLAIN, ROOM, REQUEST_PADDING);
     o.closed(s, ids_field(o.run(s)))
 }
 
@@ -174,7 +178,7 @@ fn kind_part(s: &[u8], kind: u64, c: Reading) -> Reading
 fn filter_at(s: &[u8], c: Reading) -> Reading
     ensures { λ r. ⌜ r ≡ filterAt (now (s .entry)) c ⌝ }
 {
-    let o = c.start(s, SUB_REQUEST, FILTER, COMPOUND, ROOM);
+    let o = c.start(s, SUB_REQUEST, FILTER, COMPOUND, ROOM, REQUEST_PADDING);
     let f = filter_fields(o.run(s));
     let last = f.last;
     let k = o.closed(s, last);
@@ -189,7 +193,7 @@ pub fn read_filters(s: &[u8], c: Reading) -> Reading
     let mut n = 0;
     while at.next_is(s, FILTER) {
         if n == MOST_FILTERS {
-            return at.start(s, SUB_REQUEST, FILTER, COMPOUND, NO_ROOM);
+            return at.start(s, SUB_REQUEST, FILTER, COMPOUND, NO_ROOM, REQUEST_PADDING);
         }
         at = filter_at(s, at);
         n += 1;

@@ -2,6 +2,7 @@
 // deep as is allowed and one deeper, in a store or request (16) and in an answer (17).
 ghost use Prim.Native.Nat.{_+_, _*_, _≤_};
 ghost use lib.ListN.{length};
+use numbers::compact::PADDING_REFUSED;
 use objects::nesting::Passed;
 
 const OBJECTS: usize = 2000000;
@@ -58,7 +59,7 @@ fn flat(s: &mut [u8], n: usize)
     put_headers(s, 2, n, 0x08);
     put_ends(s, n * 2 + 2, 1);
     let e = n * 2 + 3;
-    show(objects::nesting::pass_object(&s[0..e], 0, 16));
+    show(objects::nesting::pass_object(&s[0..e], 0, 16, PADDING_REFUSED));
 }
 
 // n compound objects, each in the one before, read with so many levels.
@@ -68,7 +69,7 @@ fn nested(s: &mut [u8], n: usize, depth: usize)
     put_headers(s, 0, n, 0x0C);
     put_ends(s, n * 2, n);
     let e = n * 3;
-    show(objects::nesting::pass_object(&s[0..e], 0, depth));
+    show(objects::nesting::pass_object(&s[0..e], 0, depth, PADDING_REFUSED));
 }
 
 fn all(s: &mut [u8])

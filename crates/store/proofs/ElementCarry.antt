@@ -1,8 +1,8 @@
--- The bytes of an element that was read, set down anywhere, are read as the same element: with as much depth left or more, and
--- beside any keys among which its own are not.
+-- The bytes of an element that was read, set down anywhere, are read as the same element: with as many levels left or more, beside any
+-- ids among which its own is not, and by whoever takes the numbers that its reader took and judges no serial numbers that it did not.
 -- Assumes nothing.
 use mathlib.Core.Path.{_≡_, refl, sym, ap, _∙_}
-use mathlib.Core.Bool.{true, false}
+use mathlib.Core.Bool.{Bool, true, false}
 use mathlib.Core.List.{List, _++_}
 use Prim.Native.Nat.{ℕ, _+_, _-_, _≤_}
 use native.Mathlib.Omega.{arith}
@@ -12,25 +12,32 @@ use Rattle.laws.specs.Once.{seen}
 use Rattle.laws.proofs.Agreement.{Same, same-front}
 use Rattle.laws.proofs.Cases.{impossible}
 use Rattle.laws.proofs.Parts.{part-length}
-use Rattle.objects.specs.Nesting.{runAt}
-use Rattle.objects.specs.Steps.{placeOf, valueOf, idHere, serialHere, startHere, runHere, insideOn, inside}
-use Rattle.objects.specs.declared.nesting.Passed.{Passed}
-use Rattle.objects.specs.declared.nesting.Passed.the-variants as passed
+use Rattle.numbers.specs.declared.serial.Serial.the-variants as number′
+use Rattle.numbers.proofs.Padding.{Takes, takes-same}
+use Rattle.objects.specs.Steps.{placeOf, valueOf, number, idHere, serialHere, startHere, runHere, inside}
 use Rattle.objects.specs.declared.reading.Reading.{Reading}
 use Rattle.objects.specs.declared.reading.Reading.the-variants as reading
-use Rattle.objects.proofs.Deeper.{run-deeper}
+use Rattle.objects.specs.declared.reading.ReadingSerial.{ReadingSerial}
+use Rattle.objects.specs.declared.reading.ReadingSerial.the-variants as serial′
 use Rattle.objects.proofs.StepsCarry.{Carries, Gives, carries-to, carries-then, gives-first, gives-next, gives-value, carries-start, carries-inside, carries-run, gives-run}
-use Rattle.store.specs.Element.{sameKey, namedKey, numberedKey, freshKey, keyHere, onKey, judged, idField, serialField, fieldsOf, opened, dataOf, elementOn, elementAt}
+use Rattle.objects.proofs.StepsTaken.{number-taken, start-taken, inside-deeper}
+use Rattle.store.specs.Element.{sameKey, namedKey, numberedKey, anyKey, freshKey, keyHere, onKey, judged, idField, serialField, fieldsOf, opened, dataOf, elementOn, elementAt}
 use Rattle.store.specs.Store.{Stands}
 use Rattle.store.specs.declared.element.Key.{Key}
 use Rattle.store.specs.declared.element.Element.{Element}
 use Rattle.store.specs.declared.element.ReadingKey.{ReadingKey}
 use Rattle.store.specs.declared.element.ReadingKey.the-variants.{At, Refused}
 use Rattle.store.specs.declared.element.ReadElement.the-variants.{Is}
+use Rattle.store.specs.declared.element.Strictness.{Strictness}
 use Rattle.store.proofs.Fields.{element-parts}
 use Rattle.store.proofs.Taken.{StandsKey, stands-closed, fresh-stands, keys-stand, data-stands, element-some}
 
--- ---- beside other keys
+-- ---- beside other keys, for whoever is no stricter than its reader
+
+-- what stands is the same, if it is wherever it is a place
+pub stands-same : (c d : Reading) → Stands c → ((q v : ℕ) → c ≡ reading.At q v → d ≡ reading.At q v) → d ≡ c
+stands-same (reading.At q v) d h f = f q v refl
+stands-same (reading.Refused r) d h f = absurd h
 
 new-key : (p : ℕ) (c : ReadingKey) → freshKey p false c ≡ c
 unfolding freshKey
@@ -44,83 +51,102 @@ judged-beside before before′ p c h e =
     let g : seen sameKey (keyHere c) before′ ≡ false = rw f at e in
     rw g (new-key p c ∙ sym f)
 
-fields-beside : (ids serials ids′ serials′ : List Key) (d : List ℕ) → Stands (fieldsOf ids serials d .last) → seen sameKey (fieldsOf ids serials d .id) ids′ ≡ false
-    → seen sameKey (fieldsOf ids serials d .serial) serials′ ≡ false → fieldsOf ids′ serials′ d ≡ fieldsOf ids serials d
-unfolding fieldsOf idField serialField
-fields-beside ids serials ids′ serials′ d h i j =
-    let w = keys-stand ids serials d h in
+-- a serial number that stands and is not null is the same key, judged or not
+numbered-any : (p : ℕ) (c : ReadingSerial) → StandsKey (numberedKey p c) → anyKey c ≡ numberedKey p c
+unfolding numberedKey anyKey
+numbered-any p (serial′.At q number′.Null) h = absurd h
+numbered-any p (serial′.At q (number′.Numbered g x)) h = refl
+numbered-any p (serial′.Refused r) h = refl
+
+pub serial-beside : (judges other : Bool) → (other ≡ true → judges ≡ true) → (d : List ℕ) (c : Reading) → StandsKey (serialField judges d c)
+    → serialField other d c ≡ serialField judges d c
+unfolding serialField
+serial-beside true true m d c h = refl
+serial-beside true false m d c h = numbered-any (placeOf c) (serialHere d c) h
+serial-beside false true m d c h = let e = m refl in impossible (cc)
+serial-beside false false m d c h = refl
+
+-- `other` takes the numbers that `strict` takes, leaves as many levels or more, and judges serial numbers only where `strict` does
+pub record Wider (strict other : Strictness) : Type 0 where
+  pub takes : Takes (strict .padding) (other .padding)
+  pub deeper : strict .levels ≤ other .levels
+  pub judges : other .serials ≡ true → strict .serials ≡ true
+
+pub wider-same : (strict : Strictness) → Wider strict strict
+wider-same strict = record { takes = takes-same (strict .padding); deeper = omega arith; judges = λ j. j }
+
+fields-beside : (strict other : Strictness) → Wider strict other → (ids ids′ : List Key) (d : List ℕ) → Stands (fieldsOf strict ids d .last)
+    → seen sameKey (fieldsOf strict ids d .id) ids′ ≡ false → fieldsOf other ids′ d ≡ fieldsOf strict ids d
+unfolding fieldsOf idField
+fields-beside strict other wider ids ids′ d h i =
+    let w = keys-stand strict ids d h in
     let c = onKey (idField ids d) in
     let a : idField ids′ d ≡ idField ids d = judged-beside ids ids′ 0 (namedKey 0 (idHere d (reading.At 0 0))) (w .0) i in
-    let b : serialField serials′ d c ≡ serialField serials d c = judged-beside serials serials′ (placeOf c) (numberedKey (placeOf c) (serialHere d c)) (w .1) j in
-    rw (a, b)
+    let b : serialField (other .serials) d c ≡ serialField (strict .serials) d c =
+    serial-beside (strict .serials) (other .serials) (wider .judges) d c (w .1) in
+    let k = onKey (serialField (strict .serials) d c) in
+    let n : number (other .padding) d k ≡ number (strict .padding) d k =
+    stands-same (number (strict .padding) d k) (number (other .padding) d k) h (number-taken (strict .padding) (other .padding) (wider .takes) d k) in
+    rw (a, b, n)
 
--- ---- with more depth left
-
-inside-on-deeper : (s : List ℕ) (at d d′ e v : ℕ) (r : Passed) → d ≤ d′ → runAt s at d 0x01 ≡ r → insideOn r ≡ reading.At e v
-    → insideOn (runAt s at d′ 0x01) ≡ reading.At e v
-inside-on-deeper s at d d′ e v (passed.To x) l q h = ap insideOn (run-deeper s at d d′ 0x01 x l q) ∙ h
-inside-on-deeper s at d d′ e v (passed.Refused r) l q h = impossible (cc)
-
-inside-deeper : (s : List ℕ) (d d′ e v : ℕ) (c : Reading) → d ≤ d′ → inside s d 0x01 c ≡ reading.At e v → inside s d′ 0x01 c ≡ reading.At e v
-unfolding inside
-inside-deeper s d d′ e v (reading.At at u) l h = inside-on-deeper s at d d′ e v (runAt s at d 0x01) l refl h
-inside-deeper s d d′ e v (reading.Refused r) l h = h
-
--- where it stands; the number that was read before does not matter
-element-beside : (s : List ℕ) (p u v d d′ : ℕ) (ids serials ids′ serials′ : List Key) (x : Element) → elementAt d ids serials s (reading.At p u) ≡ Is x
-    → d ≤ d′ → seen sameKey (x .id) ids′ ≡ false → seen sameKey (x .serial) serials′ ≡ false → elementAt d′ ids′ serials′ s (reading.At p v) ≡ Is x
+-- where it stands, and whatever number was read before
+pub element-beside : (strict other : Strictness) → Wider strict other → (s : List ℕ) (p u v : ℕ) (ids ids′ : List Key) (x : Element)
+    → elementAt strict ids s (reading.At p u) ≡ Is x → seen sameKey (x .id) ids′ ≡ false
+    → elementAt other ids′ s (reading.At p v) ≡ Is x
 unfolding elementAt dataOf startHere placeOf
-element-beside s p u v d d′ ids serials ids′ serials′ x h l i j =
+element-beside strict other wider s p u v ids ids′ x h i =
     let c = reading.At p u in
-    let g = element-parts d ids serials s c x h in
-    let k = runHere s (opened s c) in
-    let w = stands-closed s (opened s c) (fieldsOf ids serials k .last) (data-stands d ids serials s c x h) in
-    let f = fields-beside ids serials ids′ serials′ k (w .1) (rw (g .id) at i) (rw (g .serial) at j) in
-    let n = inside-deeper s d d′ (g .end) (g .stop) (dataOf ids serials s c) l (g .reached) in
-    rw (f, n) (rw (g .reached) at h)
+    let g = element-parts strict ids s c x h in
+    let o = opened (strict .padding) s c in
+    let k = runHere s o in
+    let w = stands-closed s o (fieldsOf strict ids k .last) (data-stands strict ids s c x h) in
+    let a : opened (other .padding) s c ≡ o = stands-same o (opened (other .padding) s c) (w .0) (start-taken (strict .padding) (other .padding) (wider .takes) s 0x15 0x01 true true c) in
+    let f = fields-beside strict other wider ids ids′ k (w .1) (rw (g .id) at i) in
+    let n = inside-deeper (strict .padding) (other .padding) (wider .takes) s (strict .levels) (other .levels) 0x01 (dataOf strict ids s c) (g .end) (g .stop) (wider .deeper) (g .reached) in
+    rw (a, f, n) (rw (g .reached) at h)
 
 -- ---- at another place
 
-module _ (depth : ℕ) (ids serials : List Key) where
+module _ (strict : Strictness) (ids : List Key) where
   abbrev step : List ℕ → Reading → Reading
-  step s c = inside s depth 0x01 (dataOf ids serials s c)
+  step s c = inside (strict .padding) s (strict .levels) 0x01 (dataOf strict ids s c)
 
-  carries-data : Carries (dataOf ids serials)
+  carries-data : Carries (dataOf strict ids)
   unfolding dataOf
-  carries-data = carries-then (carries-start 0x15 0x01 true true) (carries-run (λ d. fieldsOf ids serials d .last))
+  carries-data = carries-then (carries-start (strict .padding) 0x15 0x01 true true) (carries-run (λ d. fieldsOf strict ids d .last))
 
   carries-element : Carries step
-  carries-element = carries-then carries-data (carries-inside depth 0x01)
+  carries-element = carries-then carries-data (carries-inside (strict .padding) (strict .levels) 0x01)
 
-  gives-kind : Gives step (λ s c. valueOf (dataOf ids serials s c))
-  gives-kind = gives-first carries-data (carries-inside depth 0x01) (gives-value carries-data)
+  gives-kind : Gives step (λ s c. valueOf (dataOf strict ids s c))
+  gives-kind = gives-first carries-data (carries-inside (strict .padding) (strict .levels) 0x01) (gives-value carries-data)
 
-  gives-data-run : Gives (dataOf ids serials) (λ s c. runHere s (opened s c))
+  gives-data-run : Gives (dataOf strict ids) (λ s c. runHere s (opened (strict .padding) s c))
   unfolding dataOf
-  gives-data-run = let f : List ℕ → Reading = λ d. fieldsOf ids serials d .last in gives-next (carries-start 0x15 0x01 true true) (carries-run f) (gives-run f)
+  gives-data-run = let f : List ℕ → Reading = λ d. fieldsOf strict ids d .last in gives-next (carries-start (strict .padding) 0x15 0x01 true true) (carries-run f) (gives-run f)
 
-  element-there : (s : List ℕ) (p u : ℕ) (x : Element) → elementAt depth ids serials s (reading.At p u) ≡ Is x → (t : List ℕ) (p′ : ℕ) → Same s p t p′ (x .length)
-      → elementAt depth ids serials t (reading.At p′ u) ≡ Is (record { place = p′; length = x .length; kind = x .kind; id = x .id; serial = x .serial })
+  pub element-there : (s : List ℕ) (p u : ℕ) (x : Element) → elementAt strict ids s (reading.At p u) ≡ Is x → (t : List ℕ) (p′ : ℕ) → Same s p t p′ (x .length)
+      → elementAt strict ids t (reading.At p′ u) ≡ Is (record { place = p′; length = x .length; kind = x .kind; id = x .id; serial = x .serial })
   unfolding elementAt elementOn placeOf
   element-there s p u x h t p′ a =
       let c = reading.At p u in
-      let g = element-parts depth ids serials s c x h in
+      let g = element-parts strict ids s c x h in
       let n = x .length in
-      let y = element-some depth ids serials s p u x h .1 in
+      let y = element-some strict ids s p u x h .1 in
       let q : g .end ≡ p + n = let z = g .length′ in omega arith in
       let e : step s c ≡ reading.At (p + n) (g .stop) = g .reached ∙ ap (λ (m : ℕ). reading.At m (g .stop)) q in
-      let r = gives-first carries-data (carries-inside depth 0x01) gives-data-run .alike s p u n (g .stop) e t p′ a in
+      let r = gives-first carries-data (carries-inside (strict .padding) (strict .levels) 0x01) gives-data-run .alike s p u n (g .stop) e t p′ a in
       let k = gives-kind .alike s p u n (g .stop) e t p′ a in
       let o : p′ + n - p′ ≡ n = omega arith in
       rw (r, k, carries-to carries-element s p u n (g .stop) e t p′ a, o, g .kind, g .id, g .serial)
 
-pub element-carry : (s : List ℕ) (p u v d d′ : ℕ) (ids serials ids′ serials′ : List Key) (x : Element) → elementAt d ids serials s (reading.At p u) ≡ Is x
-    → (pre post : List ℕ) → d ≤ d′ → seen sameKey (x .id) ids′ ≡ false → seen sameKey (x .serial) serials′ ≡ false
-    → elementAt d′ ids′ serials′ (pre ++ (take (x .length) (drop p s) ++ post)) (reading.At (length pre) v)
+pub element-carry : (strict other : Strictness) → Wider strict other → (s : List ℕ) (p u v : ℕ) (ids ids′ : List Key) (x : Element)
+    → elementAt strict ids s (reading.At p u) ≡ Is x → (pre post : List ℕ) → seen sameKey (x .id) ids′ ≡ false
+    → elementAt other ids′ (pre ++ (take (x .length) (drop p s) ++ post)) (reading.At (length pre) v)
     ≡ Is (record { place = length pre; length = x .length; kind = x .kind; id = x .id; serial = x .serial })
-element-carry s p u v d d′ ids serials ids′ serials′ x h pre post l i j =
+element-carry strict other wider s p u v ids ids′ x h pre post i =
     let w = take (x .length) (drop p s) in
-    let g = element-some d ids serials s p u x h in
+    let g = element-some strict ids s p u x h in
     let n : length w ≡ x .length = part-length p (x .length) s (g .2) in
-    element-there d′ ids′ serials′ s p v x (element-beside s p u v d d′ ids serials ids′ serials′ x h l i j) (pre ++ (w ++ post)) (length pre)
+    element-there other ids′ s p v x (element-beside strict other wider s p u v ids ids′ x h i) (pre ++ (w ++ post)) (length pre)
     (same-front s p (x .length) (pre ++ (w ++ post)) (length pre) post n (drop-append-seam pre (w ++ post)))

@@ -1,7 +1,7 @@
 -- The elements of a package that was read from bytes: each lies within the input, and its id and its serial number can be written;
 -- so the number of its id is one of 32 bits.
 -- Assumes nothing.
-use mathlib.Core.Path.{_≡_, refl}
+use mathlib.Core.Path.{_≡_, refl, sym, subst}
 use mathlib.Core.Bool.{Bool, true, false}
 use mathlib.Core.List.{List, [], _∷_, _++_}
 use Prim.Native.Nat.{ℕ, _+_, _^_, _≤_, _<_}
@@ -23,17 +23,20 @@ use Rattle.numbers.proofs.Serials.{serial-written-read}
 use Rattle.objects.specs.Steps.{nothingOpen, placeOf, idOn, idHere, serialOn, serialHere, runHere}
 use Rattle.objects.specs.declared.reading.Reading.{Reading}
 use Rattle.objects.specs.declared.reading.Reading.the-variants as reading
+use Rattle.objects.specs.declared.reading.ReadingSerial.{ReadingSerial}
+use Rattle.objects.specs.declared.reading.ReadingSerial.the-variants as serial′
 use Rattle.objects.proofs.Keep.{good-front, good-place}
 use Rattle.talk.specs.Each.{Each}
 use Rattle.talk.proofs.Things.{each-so}
 use Rattle.store.specs.Chain.{Follows}
-use Rattle.store.specs.Element.{sameKey, idsIn, serialsIn, namedKey, numberedKey, freshKey, keyHere, onKey, idField, serialField, fieldsOf, opened}
-use Rattle.store.specs.Store.{packageStart, storeWalk}
+use Rattle.store.specs.Element.{sameKey, idsIn, namedKey, numberedKey, anyKey, freshKey, keyHere, onKey, idField, serialField, fieldsOf, opened}
+use Rattle.store.specs.Store.{packageStart, storeWalk, storePadding, storeStrictness}
 use Rattle.store.specs.Written.{keyGuid}
 use Rattle.store.specs.declared.element.Key.{Key}
 use Rattle.store.specs.declared.element.Element.{Element}
 use Rattle.store.specs.declared.element.ReadingKey.{ReadingKey}
 use Rattle.store.specs.declared.element.ReadingKey.the-variants.{At, Refused}
+use Rattle.store.specs.declared.element.Strictness.{Strictness}
 use Rattle.store.proofs.Fields.{element-parts, element-within}
 use Rattle.store.proofs.KnowledgeFits.{run-bytes}
 use Rattle.store.proofs.Walks.{good-package}
@@ -67,9 +70,9 @@ judged-fits P p true (At q k) z h = z
 judged-fits P p false (At q k) z h = h
 judged-fits P p was (Refused r) z h = z
 
-id-fits : (ids serials : List Key) (d : List ℕ) → AllBytes d → NamedFits (fieldsOf ids serials d .id)
+pub id-fits : (strict : Strictness) (ids : List Key) (d : List ℕ) → AllBytes d → NamedFits (fieldsOf strict ids d .id)
 unfolding fieldsOf idField idHere
-id-fits ids serials d b =
+id-fits strict ids d b =
     judged-fits NamedFits 0 (seen sameKey (keyHere (namedKey 0 (idOn 0 (readExtendedGuid (drop 0 d))))) ids) (namedKey 0 (idOn 0 (readExtendedGuid (drop 0 d))))
     ((omega arith, omega arith), omega arith) (named-fits d (readExtendedGuid (drop 0 d)) b refl)
 
@@ -78,12 +81,21 @@ unfolding serialHere numberedKey keyHere
 serial-here-fits d (reading.At at v) b = numbered-fits d (placeOf (reading.At at v)) at (readSerial (drop at d)) b refl
 serial-here-fits d (reading.Refused r) b = ((omega arith, omega arith), omega arith)
 
-serial-fits : (ids serials : List Key) (d : List ℕ) → AllBytes d → NumberedFits (fieldsOf ids serials d .serial)
-unfolding fieldsOf serialField
-serial-fits ids serials d b =
-    let c = onKey (idField ids d) in
-    let k = numberedKey (placeOf c) (serialHere d c) in
-    judged-fits NumberedFits (placeOf c) (seen sameKey (keyHere k) serials) k ((omega arith, omega arith), omega arith) (serial-here-fits d c b)
+-- the key is the same, judged or not: zeros for a null one
+any-key : (p : ℕ) (c : ReadingSerial) → keyHere (anyKey c) ≡ keyHere (numberedKey p c)
+unfolding anyKey numberedKey keyHere
+any-key p (serial′.At q number.Null) = refl
+any-key p (serial′.At q (number.Numbered g x)) = refl
+any-key p (serial′.Refused r) = refl
+
+serial-field-fits : (judges : Bool) (d : List ℕ) (c : Reading) → AllBytes d → NumberedFits (keyHere (serialField judges d c))
+unfolding serialField
+serial-field-fits true d c b = serial-here-fits d c b
+serial-field-fits false d c b = subst NumberedFits (sym (any-key (placeOf c) (serialHere d c))) (serial-here-fits d c b)
+
+serial-fits : (strict : Strictness) (ids : List Key) (d : List ℕ) → AllBytes d → NumberedFits (fieldsOf strict ids d .serial)
+unfolding fieldsOf
+serial-fits strict ids d b = serial-field-fits (strict .serials) d (onKey (idField ids d)) b
 
 -- ---- each element of a package
 
@@ -97,15 +109,15 @@ KeysFit x = NamedFits (x .id) × NumberedFits (x .serial)
 abbrev Fits : List ℕ → Element → Type 0
 Fits s x = (x .place + x .length ≤ length s) × KeysFit x
 
-chain-fits : (s : List ℕ) (done xs : List Element) (at e : ℕ) → AllBytes s → at ≤ length s → Follows s done at xs e → Each (Fits s) xs
-chain-fits s done [] at e b h c = tt
-chain-fits s done (x ∷ xs) at e b h c =
-    let o = opened s (reading.At at 0) in
-    let p = element-parts 14 (idsIn done) (serialsIn done) s (reading.At at 0) x (c .0) in
-    let w = element-within 14 (idsIn done) (serialsIn done) s (reading.At at 0) x (c .0) h in
-    let i : NamedFits (x .id) = rw (p .id) (id-fits (idsIn done) (serialsIn done) (runHere s o) (run-bytes s o b)) in
-    let n : NumberedFits (x .serial) = rw (p .serial) (serial-fits (idsIn done) (serialsIn done) (runHere s o) (run-bytes s o b)) in
-    ((w .1, (i, n)), chain-fits s (done ++ (x ∷ [])) xs (x .place + x .length) e b (w .1) (c .1))
+chain-fits : (strict : Strictness) (s : List ℕ) (done xs : List Element) (at e : ℕ) → AllBytes s → at ≤ length s → Follows strict s done at xs e → Each (Fits s) xs
+chain-fits strict s done [] at e b h c = tt
+chain-fits strict s done (x ∷ xs) at e b h c =
+    let o = opened (strict .padding) s (reading.At at 0) in
+    let p = element-parts strict (idsIn done) s (reading.At at 0) x (c .0) in
+    let w = element-within strict (idsIn done) s (reading.At at 0) x (c .0) h in
+    let i : NamedFits (x .id) = rw (p .id) (id-fits strict (idsIn done) (runHere s o) (run-bytes s o b)) in
+    let n : NumberedFits (x .serial) = rw (p .serial) (serial-fits strict (idsIn done) (runHere s o) (run-bytes s o b)) in
+    ((w .1, (i, n)), chain-fits strict s (done ++ (x ∷ [])) xs (x .place + x .length) e b (w .1) (c .1))
 
 each-fits : (s : List ℕ) (xs : List Element) → Each (Fits s) xs → Each (ElementFits s) xs
 each-fits s xs f = each-so (Fits s) (ElementFits s) xs (λ x h. (h .0, h .1 .0 .1)) f
@@ -113,12 +125,12 @@ each-fits s xs f = each-so (Fits s) (ElementFits s) xs (λ x h. (h .0, h .1 .0 .
 -- a store's elements begin within it
 pub store-front : (s : List ℕ) (r : StoreRead s) → r .first ≤ length s
 store-front s r =
-    let g = good-place s (packageStart nothingOpen s (reading.At 0 0)) (good-package nothingOpen s (reading.At 0 0) (good-front s 0)) in
+    let g = good-place s (packageStart storePadding nothingOpen s (reading.At 0 0)) (good-package storePadding nothingOpen s (reading.At 0 0) (good-front s 0)) in
     let e = r .start in
     omega arith
 
 store-fits : (s : List ℕ) → AllBytes s → (r : StoreRead s) → Each (Fits s) (storeWalk s .elements)
-store-fits s b r = chain-fits s [] (storeWalk s .elements) (r .first) (r .end) b (store-front s r) (r .chain)
+store-fits s b r = chain-fits storeStrictness s [] (storeWalk s .elements) (r .first) (r .end) b (store-front s r) (r .chain)
 
 pub elements-fit : (s : List ℕ) → AllBytes s → StoreRead s → Each (ElementFits s) (storeWalk s .elements)
 elements-fit s b r = each-fits s (storeWalk s .elements) (store-fits s b r)

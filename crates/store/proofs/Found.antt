@@ -15,11 +15,12 @@ use Rattle.objects.specs.declared.reading.Reading.{Reading}
 use Rattle.objects.specs.declared.reading.Reading.the-variants as reading
 use Rattle.store.specs.Element.{elementAt}
 use Rattle.store.specs.Tables.{rowWidth, idWidth, mostElements, rowNumbers, RowsStand, rowOf, idOf, flat, rowsOf, idsOf, elementInRow}
-use Rattle.store.specs.Store.{Walk, onElement, walkFrom, packageStart, packageWalk, storeWalk, storedOf, storeAnswer, laidRows, laidIds}
+use Rattle.store.specs.Store.{Walk, onElement, walkFrom, packageStart, packageWalk, storeWalk, storedOf, storeAnswer, laidRows, laidIds, storeStrictness}
 use Rattle.store.specs.Accessor.{elementIn, foundOn, foundIn}
 use Rattle.store.specs.declared.element.Element.{Element}
 use Rattle.store.specs.declared.element.ReadElement.{ReadElement}
 use Rattle.store.specs.declared.element.ReadElement.the-variants as element
+use Rattle.store.specs.declared.element.Strictness.{Strictness}
 use Rattle.store.specs.declared.package.Stored.the-variants as stored
 use Rattle.store.specs.declared.accessor.Found.the-variants.{At, Refused}
 use Rattle.store.proofs.Rows.{length-flat}
@@ -45,31 +46,31 @@ found-none (x ∷ done) (suc i) h = found-none done i (omega arith)
 
 -- ---- at most so many elements
 
-on-most : (go : List Element → Reading → Walk) (done : List Element) (r : ReadElement) (most : ℕ) → length done ≤ most
+pub on-most : (go : List Element → Reading → Walk) (done : List Element) (r : ReadElement) (most : ℕ) → length done ≤ most
     → ((x : Element) (c : Reading) → length (go (done ++ (x ∷ [])) c .elements) ≤ most) → length (onElement go done r .elements) ≤ most
 on-most go done (element.Is x) most h f = f x (reading.At (x .place + x .length) 0)
 on-most go done (element.Refused r) most h f = h
 
-walk-most : (left : ℕ) (s : List ℕ) (done : List Element) (c : Reading) → length (walkFrom left s done c .elements) ≤ length done + left
+walk-most : (strict : Strictness) (left : ℕ) (s : List ℕ) (done : List Element) (c : Reading) → length (walkFrom strict left s done c .elements) ≤ length done + left
 unfolding walkFrom
-walk-most zero s done c =
+walk-most strict zero s done c =
     pick-all (λ (w : Walk). length (w .elements) ≤ length done + 0) (nextIs s 0x01 c) _ _ (λ e. omega arith) (λ e. omega arith)
-walk-most (suc left) s done c =
+walk-most strict (suc left) s done c =
     pick-all (λ (w : Walk). length (w .elements) ≤ length done + suc left) (nextIs s 0x01 c) _ _
     (λ e.
-    on-most (λ more e. walkFrom left s more e) done
-    (elementAt 14 (map (λ (x : Element). x .id) done) (map (λ (x : Element). x .serial) done) s c) (length done + suc left) (omega arith)
-    (λ x d. let l = length-append done (x ∷ []) in let m = walk-most left s (done ++ (x ∷ [])) d in omega arith))
+    on-most (λ more e. walkFrom strict left s more e) done
+    (elementAt strict (map (λ (x : Element). x .id) done) s c) (length done + suc left) (omega arith)
+    (λ x d. let l = length-append done (x ∷ []) in let m = walk-most strict left s (done ++ (x ∷ [])) d in omega arith))
     (λ e. omega arith)
 
-pub package-most : (outer : ℕ) (s : List ℕ) (c : Reading) → length (packageWalk outer s c .elements) ≤ mostElements
-package-most outer s c = let m = walk-most mostElements s [] (packageStart outer s c) in omega arith
+pub package-most : (strict : Strictness) (outer : ℕ) (s : List ℕ) (c : Reading) → length (packageWalk strict outer s c .elements) ≤ mostElements
+package-most strict outer s c = let m = walk-most strict mostElements s [] (packageStart (strict .padding) outer s c) in omega arith
 
 pub store-most : (s : List ℕ) → length (storeWalk s .elements) ≤ mostElements
 unfolding storeWalk
 store-most s =
     pick-all (λ (w : Walk). length (w .elements) ≤ mostElements) (ltb longestInput (length s)) _ _ (λ e. omega arith)
-    (λ e. package-most nothingOpen s (reading.At 0 0))
+    (λ e. package-most storeStrictness nothingOpen s (reading.At 0 0))
 
 -- ---- the tables are as long as they were
 

@@ -28,12 +28,12 @@ use Rattle.store.proofs.Taken.{stands-closed}
 
 -- ---- the fields stay within the data run
 
-good-from : (d : List ℕ) → Good d (fromField d)
-good-from d = onward-number d _ .good (onward-guid d (At 0 0) .good (good-front d 0))
+good-from : (padding : Bool) (d : List ℕ) → Good d (fromField padding d)
+good-from padding d = onward-number padding d _ .good (onward-guid d (At 0 0) .good (good-front d 0))
 
-pub good-range-fields : (d : List ℕ) → Good d (rangeFields d .last)
+pub good-range-fields : (padding : Bool) (d : List ℕ) → Good d (rangeFields padding d .last)
 unfolding rangeFields
-good-range-fields d = onward-need d _ 12 _ (toField d) (omega arith) (good-place d (fromField d) (good-from d)) .good (onward-number d (fromField d) .good (good-from d))
+good-range-fields padding d = onward-need d _ 12 _ (toField padding d) (omega arith) (good-place d (fromField padding d) (good-from padding d)) .good (onward-number padding d (fromField padding d) .good (good-from padding d))
 
 pub good-entry-fields : (d : List ℕ) → Good d (onSerial (entrySerial d))
 good-entry-fields d = onward-serial d (At 0 0) .good (good-front d 0)
@@ -59,20 +59,20 @@ on-entry : (P : Reading → Type 0) → ((e v : ℕ) → P (At e v) → P (At e 
     → P (closed s o (onSerial k)) → P (onItem (entryOf k (closed s o (onSerial k))))
 on-entry P f k s o h = entry-closed P f k (closed s o (onSerial k)) h (λ t. stands-closed s o (onSerial k) t .1)
 
-module _ (P : Reading → Type 0) (f : (e v : ℕ) → P (At e v) → P (At e 0)) (s : List ℕ) (c : Reading) where
-  pub on-item : P (closed s (rangeStart s c) (rangeFields (runHere s (rangeStart s c)) .last))
-      → P (closed s (entryStart s c) (onSerial (entrySerial (runHere s (entryStart s c))))) → P (onItem (itemAt s c))
+module _ (padding : Bool) (P : Reading → Type 0) (f : (e v : ℕ) → P (At e v) → P (At e 0)) (s : List ℕ) (c : Reading) where
+  pub on-item : P (closed s (rangeStart padding s c) (rangeFields padding (runHere s (rangeStart padding s c)) .last))
+      → P (closed s (entryStart padding s c) (onSerial (entrySerial (runHere s (entryStart padding s c))))) → P (onItem (itemAt padding s c))
   unfolding itemAt rangeItem entryItem
   on-item a b =
       pick-all (λ (i : Item). P (onItem i)) (nextIs s 0x0F c) _ _
-      (λ e. on-range P f (rangeFields (runHere s (rangeStart s c)) .range) (closed s (rangeStart s c) (rangeFields (runHere s (rangeStart s c)) .last)) a)
-      (λ e. on-entry P f (entrySerial (runHere s (entryStart s c))) s (entryStart s c) b)
+      (λ e. on-range P f (rangeFields padding (runHere s (rangeStart padding s c)) .range) (closed s (rangeStart padding s c) (rangeFields padding (runHere s (rangeStart padding s c)) .last)) a)
+      (λ e. on-entry P f (entrySerial (runHere s (entryStart padding s c))) s (entryStart padding s c) b)
 
-pub onward-item : (s : List ℕ) (c : Reading) → Onward s c (onItem (itemAt s c))
-onward-item s c =
-    on-item (Onward s c) (λ e v h. record { behind = h .behind; good = h .good }) s c
-    (onto (onward-start s 0x14 0x0F false true c) (onward-closed s (rangeStart s c) _ (good-range-fields (runHere s (rangeStart s c)))))
-    (onto (onward-start s 0x14 0x17 false true c) (onward-closed s (entryStart s c) _ (good-entry-fields (runHere s (entryStart s c)))))
+pub onward-item : (padding : Bool) (s : List ℕ) (c : Reading) → Onward s c (onItem (itemAt padding s c))
+onward-item padding s c =
+    on-item padding (Onward s c) (λ e v h. record { behind = h .behind; good = h .good }) s c
+    (onto (onward-start padding s 0x14 0x0F false true c) (onward-closed s (rangeStart padding s c) _ (good-range-fields padding (runHere s (rangeStart padding s c)))))
+    (onto (onward-start padding s 0x14 0x17 false true c) (onward-closed s (entryStart padding s c) _ (good-entry-fields (runHere s (entryStart padding s c)))))
 
 -- ---- from is not above to
 
@@ -99,15 +99,15 @@ sound-entry (serial′.At q number.Null) (At e v) = tt
 sound-entry (serial′.At q (number.Numbered g x)) (At e v) = omega arith
 sound-entry (serial′.Refused r) (At e v) = tt
 
-sound-fields : (d : List ℕ) → Stands (rangeFields d .last) → rangeFields d .range .from ≤ rangeFields d .range .to
+sound-fields : (padding : Bool) (d : List ℕ) → Stands (rangeFields padding d .last) → rangeFields padding d .range .from ≤ rangeFields padding d .range .to
 unfolding rangeFields rangeOf
-sound-fields d h = leb-true _ _ (need-holds (leb (valueOf (fromField d)) (valueOf (toField d))) 12 _ (toField d) h)
+sound-fields padding d h = leb-true _ _ (need-holds (leb (valueOf (fromField padding d)) (valueOf (toField padding d))) 12 _ (toField padding d) h)
 
-pub sound-item : (s : List ℕ) (c : Reading) → Sound (itemAt s c)
+pub sound-item : (padding : Bool) (s : List ℕ) (c : Reading) → Sound (itemAt padding s c)
 unfolding itemAt rangeItem entryItem
-sound-item s c =
+sound-item padding s c =
     pick-all Sound (nextIs s 0x0F c) _ _
-    (λ e. sound-range _ _ (λ h. sound-fields (runHere s (rangeStart s c)) (stands-closed s (rangeStart s c) (rangeFields (runHere s (rangeStart s c)) .last) h .1)))
+    (λ e. sound-range _ _ (λ h. sound-fields padding (runHere s (rangeStart padding s c)) (stands-closed s (rangeStart padding s c) (rangeFields padding (runHere s (rangeStart padding s c)) .last) h .1)))
     (λ e. sound-entry _ _)
 
 -- ---- the ranges with it

@@ -1,7 +1,7 @@
 -- Knowledge that was written reads back: a list in normal form, as the same list, at any place and followed by anything.
 -- Assumes nothing.
 use mathlib.Core.Path.{_≡_, refl, sym, ap, _∙_}
-use mathlib.Core.Bool.{true, false}
+use mathlib.Core.Bool.{Bool, true, false}
 use mathlib.Core.List.{List, [], _∷_, _++_, append-assoc, append-nil}
 use Prim.Native.Nat.{ℕ, zero, suc, _+_, _^_, _≤_, _<_}
 use native.Mathlib.Omega.{arith}
@@ -39,7 +39,7 @@ range-back x f = rw (swapped-back (x .upper) (f .0), swapped-back (x .lower) (f 
 
 -- ---- one range
 
-module _ (x : Range) (f : RangeFits x) (v : x .from ≤ x .to) where
+module _ (padding : Bool) (x : Range) (f : RangeFits x) (v : x .from ≤ x .to) where
   abbrev guidPart : List ℕ
   guidPart = guidBytes (rangeGuid x)
 
@@ -53,23 +53,23 @@ module _ (x : Range) (f : RangeFits x) (v : x .from ≤ x .to) where
   unfolding rangeData
   guid-is = guid-written (rangeData x) 0 0 (rangeGuid x) (fromPart ++ toPart) (guid-fits x) refl
 
-  from-is : fromField (rangeData x) ≡ At (0 + length guidPart + length fromPart) (x .from)
+  from-is : fromField padding (rangeData x) ≡ At (0 + length guidPart + length fromPart) (x .from)
   unfolding rangeData onGuid
   from-is =
       rw guid-is
-      (reads-number 0 (x .from) (f .2) .here (rangeData x) (0 + length guidPart) toPart (behind (rangeData x) 0 guidPart (fromPart ++ toPart) refl))
+      (reads-number padding 0 (x .from) (f .2) .here (rangeData x) (0 + length guidPart) toPart (behind (rangeData x) 0 guidPart (fromPart ++ toPart) refl))
 
-  to-is : toField (rangeData x) ≡ At (length (rangeData x)) (x .to)
+  to-is : toField padding (rangeData x) ≡ At (length (rangeData x)) (x .to)
   unfolding rangeData
   to-is =
       let p = 0 + length guidPart in
       let e : drop (p + length fromPart) (rangeData x) ≡ toPart ++ [] =
       behind (rangeData x) p fromPart toPart (behind (rangeData x) 0 guidPart (fromPart ++ toPart) refl) ∙ sym (append-nil toPart) in
       rw from-is
-      (reads-number (x .from) (x .to) (f .3) .here (rangeData x) (p + length fromPart) [] e
+      (reads-number padding (x .from) (x .to) (f .3) .here (rangeData x) (p + length fromPart) [] e
       ∙ ap (λ (n : ℕ). At n (x .to)) (let a = length-append guidPart (fromPart ++ toPart) in let b = length-append fromPart toPart in omega arith))
 
-  fields-are : rangeFields (rangeData x) ≡ record { range = x; last = At (length (rangeData x)) (x .to) }
+  fields-are : rangeFields padding (rangeData x) ≡ record { range = x; last = At (length (rangeData x)) (x .to) }
   unfolding rangeFields guidIn valueOf need
   fields-are = rw (to-is, from-is, guid-is, range-back x f, le-leb (x .from) (x .to) v)
 
@@ -85,10 +85,10 @@ module _ (x : Range) (f : RangeFits x) (v : x .from ≤ x .to) where
     unfolding rangeBytes
     stands′ = stands ∙ append-assoc start (rangeData x) t
 
-    opens : rangeStart s (At at u) ≡ At (at + length start) (length (rangeData x))
-    opens = reads-start u 0x14 0x0F false (length (rangeData x)) (omega arith) short .here s at (rangeData x ++ t) stands′
+    opens : rangeStart padding s (At at u) ≡ At (at + length start) (length (rangeData x))
+    opens = reads-start padding u 0x14 0x0F false (length (rangeData x)) (omega arith) short .here s at (rangeData x ++ t) stands′
 
-    run-is : runHere s (rangeStart s (At at u)) ≡ rangeData x
+    run-is : runHere s (rangeStart padding s (At at u)) ≡ rangeData x
     unfolding runHere
     run-is = rw (opens, behind s at start (rangeData x ++ t) stands′) (take-append-seam (rangeData x) t)
 
@@ -96,13 +96,13 @@ module _ (x : Range) (f : RangeFits x) (v : x .from ≤ x .to) where
     unfolding rangeBytes
     place-is = let a = length-append start (rangeData x) in omega arith
 
-    range-read : rangeItem s (At at u) ≡ item.Adds (at + length (rangeBytes x)) x
+    range-read : rangeItem padding s (At at u) ≡ item.Adds (at + length (rangeBytes x)) x
     unfolding rangeItem closedAt itemOf
     range-read =
         let l : length (rangeData x) ≤ length (rangeData x) = omega arith in
         rw (run-is, fields-are, opens, le-ltb _ _ l, place-is)
 
-    item-read : itemAt s (At at u) ≡ item.Adds (at + length (rangeBytes x)) x
+    item-read : itemAt padding s (At at u) ≡ item.Adds (at + length (rangeBytes x)) x
     unfolding itemAt
     item-read = rw (next-start s at u 0x0F false (length (rangeData x)) (rangeData x ++ t) (omega arith) short stands′) range-read
 
@@ -126,29 +126,29 @@ unfolding Normal
 holds-some [] x rest n = n .0
 holds-some (y ∷ ys) x rest n = holds-some ys x rest (n .2)
 
-items-end : (left : ℕ) (s : List ℕ) (l : List Range) (t : List ℕ) (at u : ℕ) (rest : List ℕ) → drop at s ≡ endBytes 0x14 ++ rest
-    → ReadTo l (at + length (endBytes 0x14)) (itemsFrom left s l t (At at u))
+items-end : (padding : Bool) (left : ℕ) (s : List ℕ) (l : List Range) (t : List ℕ) (at u : ℕ) (rest : List ℕ) → drop at s ≡ endBytes 0x14 ++ rest
+    → ReadTo l (at + length (endBytes 0x14)) (itemsFrom padding left s l t (At at u))
 unfolding itemsFrom
-items-end zero s l t at u rest h = rw (no-item s at u rest h) (refl, reads-end u 0x14 (omega arith) .here s at rest h)
-items-end (suc left) s l t at u rest h = rw (no-item s at u rest h) (refl, reads-end u 0x14 (omega arith) .here s at rest h)
+items-end padding zero s l t at u rest h = rw (no-item s at u rest h) (refl, reads-end u 0x14 (omega arith) .here s at rest h)
+items-end padding (suc left) s l t at u rest h = rw (no-item s at u rest h) (refl, reads-end u 0x14 (omega arith) .here s at rest h)
 
 -- one range more
-item-step : (left : ℕ) (s : List ℕ) (l : List Range) (t : List ℕ) (at u : ℕ) (x : Range) (e : ℕ) (l′ : List Range) (P : Knowing → Type 0)
-    → itemNext s (At at u) ≡ true → itemAt s (At at u) ≡ item.Adds e x → united (item.Adds e x) l ≡ l′
-    → ((t′ : List ℕ) → P (itemsFrom left s l′ t′ (At e 0))) → P (itemsFrom (suc left) s l t (At at u))
+item-step : (padding : Bool) (left : ℕ) (s : List ℕ) (l : List Range) (t : List ℕ) (at u : ℕ) (x : Range) (e : ℕ) (l′ : List Range) (P : Knowing → Type 0)
+    → itemNext s (At at u) ≡ true → itemAt padding s (At at u) ≡ item.Adds e x → united (item.Adds e x) l ≡ l′
+    → ((t′ : List ℕ) → P (itemsFrom padding left s l′ t′ (At e 0))) → P (itemsFrom padding (suc left) s l t (At at u))
 unfolding itemsFrom onItem
-item-step left s l t at u x e l′ P n i j h = rw (n, i, j) (h _)
+item-step padding left s l t at u x e l′ P n i j h = rw (n, i, j) (h _)
 
 united-last : (l : List Range) (x : Range) (rest : List Range) (e : ℕ) → Normal (l ++ (x ∷ rest)) → united (item.Adds e x) l ≡ l ++ (x ∷ [])
 unfolding united
 united-last l x rest e n = insert-last l x rest n
 
-items-read : (left : ℕ) (s : List ℕ) (before l : List Range) (t : List ℕ) (at u : ℕ) (rest : List ℕ) → length l ≤ left → Normal (before ++ l) → AllFit l
-    → drop at s ≡ rangesBytes l ++ (endBytes 0x14 ++ rest) → ReadTo (before ++ l) (at + length (rangesBytes l ++ endBytes 0x14)) (itemsFrom left s before t (At at u))
+items-read : (padding : Bool) (left : ℕ) (s : List ℕ) (before l : List Range) (t : List ℕ) (at u : ℕ) (rest : List ℕ) → length l ≤ left → Normal (before ++ l) → AllFit l
+    → drop at s ≡ rangesBytes l ++ (endBytes 0x14 ++ rest) → ReadTo (before ++ l) (at + length (rangesBytes l ++ endBytes 0x14)) (itemsFrom padding left s before t (At at u))
 unfolding rangesBytes AllFit
-items-read left s before [] t at u rest m n f h = rw append-nil (items-end left s before t at u rest h)
-items-read zero s before (x ∷ l) t at u rest m n f h = absurd (omega arith)
-items-read (suc left) s before (x ∷ l) t at u rest m n f h =
+items-read padding left s before [] t at u rest m n f h = rw append-nil (items-end padding left s before t at u rest h)
+items-read padding zero s before (x ∷ l) t at u rest m n f h = absurd (omega arith)
+items-read padding (suc left) s before (x ∷ l) t at u rest m n f h =
     let w = rangeBytes x in
     let y = rangesBytes l ++ (endBytes 0x14 ++ rest) in
     let v = holds-some before x l n in
@@ -156,9 +156,9 @@ items-read (suc left) s before (x ∷ l) t at u rest m n f h =
     let d : (before ++ (x ∷ [])) ++ l ≡ before ++ (x ∷ l) = append-assoc before (x ∷ []) l in
     let p : at + length w + length (rangesBytes l ++ endBytes 0x14) ≡ at + length ((w ++ rangesBytes l) ++ endBytes 0x14) =
     rw append-assoc (let a = length-append w (rangesBytes l ++ endBytes 0x14) in omega arith) in
-    item-step left s before t at u x (at + length w) (before ++ (x ∷ [])) (ReadTo (before ++ (x ∷ l)) (at + length ((w ++ rangesBytes l) ++ endBytes 0x14)))
-    (item-stands x (f .0) v s at u y h′) (item-read x (f .0) v s at u y h′) (united-last before x l (at + length w) n)
-    (λ t′. rw (d, p) at (items-read left s (before ++ (x ∷ [])) l t′ (at + length w) 0 rest (omega arith) (rw d n) (f .1) (behind s at w y h′)))
+    item-step padding left s before t at u x (at + length w) (before ++ (x ∷ [])) (ReadTo (before ++ (x ∷ l)) (at + length ((w ++ rangesBytes l) ++ endBytes 0x14)))
+    (item-stands padding x (f .0) v s at u y h′) (item-read padding x (f .0) v s at u y h′) (united-last before x l (at + length w) n)
+    (λ t′. rw (d, p) at (items-read padding left s (before ++ (x ∷ [])) l t′ (at + length w) 0 rest (omega arith) (rw d n) (f .1) (behind s at w y h′)))
 
 -- ---- the cell knowledge around them
 
@@ -175,7 +175,7 @@ rangesFrom p = p + length (startBytes 0x44 true 16) + length (guidBytes cellGuid
 abbrev behindCell : ℕ → List Range → ℕ
 behindCell p l = rangesFrom p + length (rangesBytes l ++ endBytes 0x14) + length (endBytes 0x44)
 
-module _ (allowed depth : ℕ) (s : List ℕ) (p u : ℕ) (t : List ℕ) (l : List Range) (rest : List ℕ) (n : Normal l) (f : AllFit l) (m : length l ≤ allowed)
+module _ (padding : Bool) (allowed depth : ℕ) (s : List ℕ) (p u : ℕ) (t : List ℕ) (l : List Range) (rest : List ℕ) (n : Normal l) (f : AllFit l) (m : length l ≤ allowed)
     (stands : drop p s ≡ cellThen l rest) where
   abbrev opened : List ℕ
   opened = startBytes 0x44 true 16
@@ -198,28 +198,28 @@ module _ (allowed depth : ℕ) (s : List ℕ) (p u : ℕ) (t : List ℕ) (l : Li
   held-stands : drop (rangesFrom p) s ≡ held
   held-stands = behind s (p + length opened + length kind) cell held cell-stands
 
-  guid-read : specializedGuid s (At p u) ≡ guid′.At (p + length opened + length kind) cellGuid
+  guid-read : specializedGuid padding s (At p u) ≡ guid′.At (p + length opened + length kind) cellGuid
   unfolding specializedGuid
   guid-read =
-      rw (reads-start-of-length u 0x10 0x44 true 16 (omega arith) (omega arith) .here s p (kind ++ (cell ++ held)) stands)
+      rw (reads-start-of-length padding u 0x10 0x44 true 16 (omega arith) (omega arith) .here s p (kind ++ (cell ++ held)) stands)
       (guid-written s (p + length opened) 16 cellGuid (cell ++ held) (omega arith, omega arith) kind-stands)
 
-  cell-opens : startOfLength s 0x44 0x14 true true 0 (At (p + length opened + length kind) 0) ≡ At (rangesFrom p) 0
-  cell-opens = reads-start-of-length 0 0x44 0x14 true 0 (omega arith) (omega arith) .here s (p + length opened + length kind) held cell-stands
+  cell-opens : startOfLength padding s 0x44 0x14 true true 0 (At (p + length opened + length kind) 0) ≡ At (rangesFrom p) 0
+  cell-opens = reads-start-of-length padding 0 0x44 0x14 true 0 (omega arith) (omega arith) .here s (p + length opened + length kind) held cell-stands
 
   -- behind the end of the ranges
   abbrev last : ℕ
   last = rangesFrom p + length (rangesBytes l ++ endBytes 0x14)
 
-  items-are : ReadTo l last (itemsFrom allowed s [] t (At (rangesFrom p) 0))
-  items-are = items-read allowed s [] l t (rangesFrom p) 0 (endBytes 0x44 ++ rest) m n f held-stands
+  items-are : ReadTo l last (itemsFrom padding allowed s [] t (At (rangesFrom p) 0))
+  items-are = items-read padding allowed s [] l t (rangesFrom p) 0 (endBytes 0x44 ++ rest) m n f held-stands
 
   back-stands : drop last s ≡ endBytes 0x44 ++ rest
   back-stands =
       behind s (rangesFrom p) (rangesBytes l ++ endBytes 0x14) (endBytes 0x44 ++ rest)
       (held-stands ∙ sym (append-assoc (rangesBytes l) (endBytes 0x14) (endBytes 0x44 ++ rest)))
 
-  cell-is : ReadTo l (behindCell p l) (specializedFrom depth s (knowing [] t allowed (At p u)))
+  cell-is : ReadTo l (behindCell p l) (specializedFrom padding depth s (knowing [] t allowed (At p u)))
   unfolding specializedFrom isCell cellFrom onGuid
   cell-is =
       rw (guid-read, cell-opens)
@@ -245,38 +245,38 @@ place-behind l at =
     omega (arith, length-front, length-back, length-guid cellGuid)
 
 -- no specialized knowledge stands next, and the end does
-ends : (depth : ℕ) (s : List ℕ) (k : Knowing) (l : List Range) (at : ℕ) (rest : List ℕ) → ReadTo l at k → drop at s ≡ endBytes 0x10 ++ rest
-    → ReadTo l (at + length (endBytes 0x10)) (knowledgeFrom depth s k)
-ends depth s k l at rest e h =
+ends : (padding : Bool) (depth : ℕ) (s : List ℕ) (k : Knowing) (l : List Range) (at : ℕ) (rest : List ℕ) → ReadTo l at k → drop at s ≡ endBytes 0x10 ++ rest
+    → ReadTo l (at + length (endBytes 0x10)) (knowledgeFrom padding depth s k)
+ends padding depth s k l at rest e h =
     let n : nextIs s 0x44 (k .last) ≡ false = rw (e .1) (next-end s at 0 0x44 0x10 rest (omega arith) h) in
-    rw (knowledge-end depth s k n) (e .0, rw (e .1) (reads-end 0 0x10 (omega arith) .here s at rest h))
+    rw (knowledge-end padding depth s k n) (e .0, rw (e .1) (reads-end 0 0x10 (omega arith) .here s at rest h))
 
 -- one cell knowledge, and then the end
-cell-and-end : (allowed depth : ℕ) (s : List ℕ) (p : ℕ) (t : List ℕ) (l : List Range) (rest : List ℕ) → Normal l → AllFit l → length l ≤ allowed
-    → drop p s ≡ cellThen l (endBytes 0x10 ++ rest) → ReadTo l (behindCell p l + length (endBytes 0x10)) (knowledgeFrom depth s (knowing [] t allowed (At p 0)))
-cell-and-end allowed depth s p t l rest n f m h =
+cell-and-end : (padding : Bool) (allowed depth : ℕ) (s : List ℕ) (p : ℕ) (t : List ℕ) (l : List Range) (rest : List ℕ) → Normal l → AllFit l → length l ≤ allowed
+    → drop p s ≡ cellThen l (endBytes 0x10 ++ rest) → ReadTo l (behindCell p l + length (endBytes 0x10)) (knowledgeFrom padding depth s (knowing [] t allowed (At p 0)))
+cell-and-end padding allowed depth s p t l rest n f m h =
     let k = knowing [] t allowed (At p 0) in
     let rest′ = endBytes 0x10 ++ rest in
     let inner = guidBytes cellGuid ++ (startBytes 0x14 true 0 ++ (rangesBytes l ++ (endBytes 0x14 ++ (endBytes 0x44 ++ rest′)))) in
-    rw (knowledge-more depth s k (next-start s p 0 0x44 true 16 inner (omega arith) (omega arith) h))
-    (ends depth s (specializedFrom depth s k) l (behindCell p l) rest (cell-is allowed depth s p 0 t l rest′ n f m h) (rest-stands allowed depth s p 0 t l rest′ n f m h))
+    rw (knowledge-more padding depth s k (next-start s p 0 0x44 true 16 inner (omega arith) (omega arith) h))
+    (ends padding depth s (specializedFrom padding depth s k) l (behindCell p l) rest (cell-is padding allowed depth s p 0 t l rest′ n f m h) (rest-stands padding allowed depth s p 0 t l rest′ n f m h))
 
 -- a list in normal form that is written reads back as itself: at any place, followed by anything, whatever stands in the table
-pub knowledge-back : (allowed depth outer : ℕ) (l : List Range) (s t : List ℕ) (at u : ℕ) (rest : List ℕ) → Normal l → AllFit l → length l ≤ allowed
+pub knowledge-back : (padding : Bool) (allowed depth outer : ℕ) (l : List Range) (s t : List ℕ) (at u : ℕ) (rest : List ℕ) → Normal l → AllFit l → length l ≤ allowed
     → drop at s ≡ knowledgeBytes l ++ rest
-    → (knowledgeAt allowed depth outer s t (At at u) .ranges ≡ l) × (knowledgeAt allowed depth outer s t (At at u) .last ≡ At (at + length (knowledgeBytes l)) 0)
+    → (knowledgeAt padding allowed depth outer s t (At at u) .ranges ≡ l) × (knowledgeAt padding allowed depth outer s t (At at u) .last ≡ At (at + length (knowledgeBytes l)) 0)
 unfolding knowledgeAt knowledgeBytes
-knowledge-back allowed depth outer [] s t at u rest n f m h =
+knowledge-back padding allowed depth outer [] s t at u rest n f m h =
     let start = startBytes 0x10 true 0 in
     let end = endBytes 0x10 in
     let stands : drop at s ≡ start ++ (end ++ rest) = h ∙ append-assoc start end rest in
-    let opens = reads-start-of-length u outer 0x10 true 0 (omega arith) (omega arith) .here s at (end ++ rest) stands in
+    let opens = reads-start-of-length padding u outer 0x10 true 0 (omega arith) (omega arith) .here s at (end ++ rest) stands in
     let place : at + length start + length end ≡ at + length (start ++ end) = let a = length-append start end in omega arith in
-    rw (opens, ← place) (ends depth s (knowing [] t allowed (At (at + length start) 0)) [] (at + length start) rest (refl, refl) (behind s at start (end ++ rest) stands))
-knowledge-back allowed depth outer (x ∷ xs) s t at u rest n f m h =
+    rw (opens, ← place) (ends padding depth s (knowing [] t allowed (At (at + length start) 0)) [] (at + length start) rest (refl, refl) (behind s at start (end ++ rest) stands))
+knowledge-back padding allowed depth outer (x ∷ xs) s t at u rest n f m h =
     let l = x ∷ xs in
     let start = startBytes 0x10 true 0 in
     let inner = cellThen l (endBytes 0x10 ++ rest) in
     let stands : drop at s ≡ start ++ inner = h ∙ parts-apart l rest in
-    let opens = reads-start-of-length u outer 0x10 true 0 (omega arith) (omega arith) .here s at inner stands in
-    rw (opens, ← place-behind l at) (cell-and-end allowed depth s (at + length start) t l rest n f m (behind s at start inner stands))
+    let opens = reads-start-of-length padding u outer 0x10 true 0 (omega arith) (omega arith) .here s at inner stands in
+    rw (opens, ← place-behind l at) (cell-and-end padding allowed depth s (at + length start) t l rest n f m (behind s at start inner stands))

@@ -1,5 +1,6 @@
 -- The ranges of a knowledge that was read from bytes are ranges of 64-bit numbers.
 -- Assumes nothing.
+use mathlib.Core.Bool.{Bool}
 use mathlib.Core.Path.{_≡_, refl}
 use mathlib.Core.List.{List}
 use Prim.Native.Nat.{ℕ, _^_, _<_}
@@ -8,7 +9,7 @@ use lib.ListN.{drop}
 use Rattle.laws.specs.Bytes.{AllBytes}
 use Rattle.laws.proofs.Cases.{pick-all}
 use Rattle.laws.proofs.Numbers.{take-bytes, drop-bytes}
-use Rattle.numbers.specs.Compact.{readCompact}
+use Rattle.numbers.specs.Compact.{compactFor}
 use Rattle.numbers.specs.Serial.{readSerial}
 use Rattle.numbers.specs.declared.compact.Compact.{Compact}
 use Rattle.numbers.specs.declared.compact.Compact.the-variants as compact
@@ -16,7 +17,7 @@ use Rattle.numbers.specs.declared.guid.Guid.{Guid}
 use Rattle.numbers.specs.declared.serial.Serial.the-variants as number
 use Rattle.numbers.specs.declared.serial.ReadSerial.{ReadSerial}
 use Rattle.numbers.specs.declared.serial.ReadSerial.the-variants as serial
-use Rattle.numbers.proofs.RoundTrip.{written-read}
+use Rattle.numbers.proofs.RoundTrip.{taken-fits}
 use Rattle.numbers.proofs.Guids.{swapped-fits}
 use Rattle.numbers.proofs.Serials.{serial-written-read}
 use Rattle.objects.specs.Steps.{valueOf, numberOn, serialOn, serialHere, onGuid, runHere, nextIs}
@@ -34,15 +35,15 @@ use Rattle.store.proofs.KnowledgeHeld.{kept}
 
 -- ---- fields
 
-number-on : (d : List ℕ) (at : ℕ) (r : Compact) → AllBytes d → readCompact (drop at d) ≡ r → valueOf (numberOn at r) < 2 ^ 64
+number-on : (padding : Bool) (d : List ℕ) (at : ℕ) (r : Compact) → AllBytes d → compactFor padding (drop at d) ≡ r → valueOf (numberOn at r) < 2 ^ 64
 unfolding valueOf
-number-on d at (compact.Value v n) b e = written-read (drop at d) v n (drop-bytes at d b) e .1
-number-on d at (compact.Refused r) b e = omega arith
+number-on padding d at (compact.Value v n padded) b e = taken-fits padding (drop at d) v n padded (drop-bytes at d b) e
+number-on padding d at (compact.Refused r) b e = omega arith
 
-pub number-fits : (d : List ℕ) (c : Reading) → AllBytes d → valueOf (steps.number d c) < 2 ^ 64
+pub number-fits : (padding : Bool) (d : List ℕ) (c : Reading) → AllBytes d → valueOf (steps.number padding d c) < 2 ^ 64
 unfolding steps.number valueOf
-number-fits d (At at v) b = number-on d at (readCompact (drop at d)) b refl
-number-fits d (Refused r) b = omega arith
+number-fits padding d (At at v) b = number-on padding d at (compactFor padding (drop at d)) b refl
+number-fits padding d (Refused r) b = omega arith
 
 pub range-fits : (g : Guid) (a b : ℕ) → a < 2 ^ 64 → b < 2 ^ 64 → RangeFits (rangeOf g a b)
 unfolding rangeOf
@@ -65,9 +66,9 @@ unfolding itemOf
 of-range x (At e v) f = f
 of-range x (Refused r) f = tt
 
-fields-fit : (d : List ℕ) → AllBytes d → RangeFits (rangeFields d .range)
+fields-fit : (padding : Bool) (d : List ℕ) → AllBytes d → RangeFits (rangeFields padding d .range)
 unfolding rangeFields
-fields-fit d b = range-fits (guidIn (guidField d)) (valueOf (fromField d)) (valueOf (toField d)) (number-fits d (onGuid (guidField d)) b) (number-fits d (fromField d) b)
+fields-fit padding d b = range-fits (guidIn (guidField d)) (valueOf (fromField padding d)) (valueOf (toField padding d)) (number-fits padding d (onGuid (guidField d)) b) (number-fits padding d (fromField padding d) b)
 
 of-serial : (d : List ℕ) (r : ReadSerial) (c : Reading) → AllBytes d → readSerial (drop 0 d) ≡ r → ItemFits (entryOf (serialOn 0 r) c)
 unfolding entryOf
@@ -82,12 +83,12 @@ entry-fits : (d : List ℕ) (c : Reading) → AllBytes d → ItemFits (entryOf (
 unfolding serialHere
 entry-fits d c b = of-serial d (readSerial (drop 0 d)) c b refl
 
-item-fits : (s : List ℕ) (c : Reading) → AllBytes s → ItemFits (itemAt s c)
+item-fits : (padding : Bool) (s : List ℕ) (c : Reading) → AllBytes s → ItemFits (itemAt padding s c)
 unfolding itemAt rangeItem entryItem
-item-fits s c b =
+item-fits padding s c b =
     pick-all ItemFits (nextIs s 0x0F c) _ _
-    (λ e. of-range (rangeFields (runHere s (rangeStart s c)) .range) _ (fields-fit (runHere s (rangeStart s c)) (run-bytes s (rangeStart s c) b)))
-    (λ e. entry-fits (runHere s (entryStart s c)) _ (run-bytes s (entryStart s c) b))
+    (λ e. of-range (rangeFields padding (runHere s (rangeStart padding s c)) .range) _ (fields-fit padding (runHere s (rangeStart padding s c)) (run-bytes s (rangeStart padding s c) b)))
+    (λ e. entry-fits (runHere s (entryStart padding s c)) _ (run-bytes s (entryStart padding s c) b))
 
 united-fits : (i : Item) (l : List Range) → ItemFits i → AllFit l → AllFit (united i l)
 unfolding united
@@ -97,6 +98,6 @@ united-fits (item.Refused r) l f g = g
 
 -- ---- the whole
 
-pub knowledge-fits : (allowed depth outer : ℕ) (s t : List ℕ) (c : Reading) → AllBytes s → AllFit (knowledgeAt allowed depth outer s t c .ranges)
+pub knowledge-fits : (padding : Bool) (allowed depth outer : ℕ) (s t : List ℕ) (c : Reading) → AllBytes s → AllFit (knowledgeAt padding allowed depth outer s t c .ranges)
 unfolding AllFit
-knowledge-fits allowed depth outer s t c b = kept (λ l v left. AllFit l) s (λ d l v left g. united-fits (itemAt s d) l (item-fits s d b) g) allowed depth outer t c tt
+knowledge-fits padding allowed depth outer s t c b = kept padding (λ l v left. AllFit l) s (λ d l v left g. united-fits (itemAt padding s d) l (item-fits padding s d b) g) allowed depth outer t c tt

@@ -29,35 +29,35 @@ use Rattle.store.proofs.KnowledgeForward.{knowledge-falls, knowledge-mo
 
 -- ---- what holds at the start and is kept by each range and entry holds at the end
 
-module _ (P : List Range → List ℕ → ℕ → Type 0) (s : List ℕ)
-    (step : (c : Reading) (l : List Range) (t : List ℕ) (left : ℕ) → P l t (suc left) → P (united (itemAt s c) l) (laidRanges (united (itemAt s c) l) t) left) where
+module _ (padding : Bool) (P : List Range → List ℕ → ℕ → Type 0) (s : List ℕ)
+    (step : (c : Reading) (l : List Range) (t : List ℕ) (left : ℕ) → P l t (suc left) → P (united (itemAt padding s c) l) (laidRanges (united (itemAt padding s c) l) t) left) where
   abbrev On : Knowing → Type 0
   On k = P (k .ranges) (k .table) (k .left)
 
-  items-keep : (left : ℕ) (l : List Range) (t : List ℕ) (c : Reading) → P l t left → On (itemsFrom left s l t c)
+  items-keep : (left : ℕ) (l : List Range) (t : List ℕ) (c : Reading) → P l t left → On (itemsFrom padding left s l t c)
   unfolding itemsFrom
   items-keep zero l t c p = pick-all On (itemNext s c) _ _ (λ e. p) (λ e. p)
   items-keep (suc left) l t c p =
       pick-all On (itemNext s c) _ _
-      (λ e. items-keep left (united (itemAt s c) l) (laidRanges (united (itemAt s c) l) t) (onItem (itemAt s c)) (step c l t left p)) (λ e. p)
+      (λ e. items-keep left (united (itemAt padding s c) l) (laidRanges (united (itemAt padding s c) l) t) (onItem (itemAt padding s c)) (step c l t left p)) (λ e. p)
 
-  specialized-keep : (depth : ℕ) (k : Knowing) → On k → On (specializedFrom depth s k)
+  specialized-keep : (depth : ℕ) (k : Knowing) → On k → On (specializedFrom padding depth s k)
   unfolding specializedFrom cellFrom
   specialized-keep depth k p =
-      pick-all On (isCell (specializedGuid s (k .last))) _ _
-      (λ e. items-keep (k .left) (k .ranges) (k .table) (startOfLength s 0x44 0x14 true true 0 (onGuid (specializedGuid s (k .last)))) p) (λ e. p)
+      pick-all On (isCell (specializedGuid padding s (k .last))) _ _
+      (λ e. items-keep (k .left) (k .ranges) (k .table) (startOfLength padding s 0x44 0x14 true true 0 (onGuid (specializedGuid padding s (k .last)))) p) (λ e. p)
 
-  knowledge-keep : (depth : ℕ) (k : Knowing) → On k → On (knowledgeFrom depth s k)
+  knowledge-keep : (depth : ℕ) (k : Knowing) → On k → On (knowledgeFrom padding depth s k)
   knowledge-keep depth =
-      iterate-ind (λ m. knowledgeTurn depth s m) (λ m. toGo s (m .last)) unreached (knowledge-falls depth s) (λ (k : Knowing). On k → On (knowledgeFrom depth s k))
+      iterate-ind (λ m. knowledgeTurn padding depth s m) (λ m. toGo s (m .last)) unreached (knowledge-falls padding depth s) (λ (k : Knowing). On k → On (knowledgeFrom padding depth s k))
       (λ k h p.
       by-bool (nextIs s 0x44 (k .last))
-      (λ e. rw (knowledge-more depth s k e) (h (specializedFrom depth s k) (turn-more depth s k e) (specialized-keep depth k p)))
-      (λ e. rw (knowledge-end depth s k e) p))
+      (λ e. rw (knowledge-more padding depth s k e) (h (specializedFrom padding depth s k) (turn-more padding depth s k e) (specialized-keep depth k p)))
+      (λ e. rw (knowledge-end padding depth s k e) p))
 
-  pub kept : (allowed depth outer : ℕ) (t : List ℕ) (c : Reading) → P [] t allowed → On (knowledgeAt allowed depth outer s t c)
+  pub kept : (allowed depth outer : ℕ) (t : List ℕ) (c : Reading) → P [] t allowed → On (knowledgeAt padding allowed depth outer s t c)
   unfolding knowledgeAt
-  kept allowed depth outer t c p = knowledge-keep depth (knowing [] t allowed (startOfLength s outer 0x10 true true 0 c)) p
+  kept allowed depth outer t c p = knowledge-keep depth (knowing [] t allowed (startOfLength padding s outer 0x10 true true 0 c)) p
 
 -- ---- the ranges, and the table
 
@@ -75,21 +75,21 @@ later-laid l t n h =
     let a : drop m (laidRanges l t) ≡ drop m t = drop-at (numbersOf l) (drop m t) m (length-numbers l) in
     rw e (sym (drop-drop (n - m) m (laidRanges l t)) ∙ ap (drop (n - m)) a ∙ drop-drop (n - m) m t)
 
-pub knowledge-held : (allowed depth outer : ℕ) (s t : List ℕ) (c : Reading) → allowed * rangeWidth ≤ length t
-    → Held allowed t (knowledgeAt allowed depth outer s t c .ranges) (knowledgeAt allowed depth outer s t c .table) (knowledgeAt allowed depth outer s t c .left)
+pub knowledge-held : (padding : Bool) (allowed depth outer : ℕ) (s t : List ℕ) (c : Reading) → allowed * rangeWidth ≤ length t
+    → Held allowed t (knowledgeAt padding allowed depth outer s t c .ranges) (knowledgeAt padding allowed depth outer s t c .table) (knowledgeAt padding allowed depth outer s t c .left)
 unfolding Normal rangesAt
-knowledge-held allowed depth outer s t c h =
-    kept (Held allowed t) s (λ d l v left p. more-held d l v left p) allowed depth outer t c (record { normal = tt; room = omega arith; rows = refl; long = refl; later = refl })
+knowledge-held padding allowed depth outer s t c h =
+    kept padding (Held allowed t) s (λ d l v left p. more-held d l v left p) allowed depth outer t c (record { normal = tt; room = omega arith; rows = refl; long = refl; later = refl })
   where
     more-held : (d : Reading) (l : List Range) (v : List ℕ) (left : ℕ) → Held allowed t l v (suc left)
-        → Held allowed t (united (itemAt s d) l) (laidRanges (united (itemAt s d) l) v) left
+        → Held allowed t (united (itemAt padding s d) l) (laidRanges (united (itemAt padding s d) l) v) left
     more-held d l v left p =
-        let u = united (itemAt s d) l in
-        let m = length-united (itemAt s d) l (length l) (omega arith) in
+        let u = united (itemAt padding s d) l in
+        let m = length-united (itemAt padding s d) l (length l) (omega arith) in
         let r = p .room in
         let n = p .long in
         record {
-          normal = united-normal (itemAt s d) l (sound-item s d) (p .normal);
+          normal = united-normal (itemAt padding s d) l (sound-item padding s d) (p .normal);
           room = omega arith;
           rows = laid-rows u (drop (length u * 4) v);
           long = length-laid u v (omega arith) ∙ p .long;
@@ -111,18 +111,18 @@ united-holds (item.Refused r) l a b n o = refl
 
 -- ---- the place
 
-onward-from : (depth : ℕ) (s : List ℕ) (k : Knowing) → Onward s (k .last) (knowledgeFrom depth s k .last)
-onward-from depth s =
-    iterate-ind (λ m. knowledgeTurn depth s m) (λ m. toGo s (m .last)) unreached (knowledge-falls depth s) (λ (k : Knowing). Onward s (k .last) (knowledgeFrom depth s k .last))
+onward-from : (padding : Bool) (depth : ℕ) (s : List ℕ) (k : Knowing) → Onward s (k .last) (knowledgeFrom padding depth s k .last)
+onward-from padding depth s =
+    iterate-ind (λ m. knowledgeTurn padding depth s m) (λ m. toGo s (m .last)) unreached (knowledge-falls padding depth s) (λ (k : Knowing). Onward s (k .last) (knowledgeFrom padding depth s k .last))
     (λ k h.
     by-bool (nextIs s 0x44 (k .last))
-    (λ e. rw (knowledge-more depth s k e) (onto (onward-specialized depth s k) (h (specializedFrom depth s k) (turn-more depth s k e))))
-    (λ e. rw (knowledge-end depth s k e) (onward-end s 0x10 (k .last))))
+    (λ e. rw (knowledge-more padding depth s k e) (onto (onward-specialized padding depth s k) (h (specializedFrom padding depth s k) (turn-more padding depth s k e))))
+    (λ e. rw (knowledge-end padding depth s k e) (onward-end s 0x10 (k .last))))
 
-pub onward-knowledge : (allowed depth outer : ℕ) (s t : List ℕ) (c : Reading) → Onward s c (knowledgeAt allowed depth outer s t c .last)
+pub onward-knowledge : (padding : Bool) (allowed depth outer : ℕ) (s t : List ℕ) (c : Reading) → Onward s c (knowledgeAt padding allowed depth outer s t c .last)
 unfolding knowledgeAt
-onward-knowledge allowed depth outer s t c =
-    onto (onward-start-of-length s outer 0x10 true true 0 c) (onward-from depth s (knowing [] t allowed (startOfLength s outer 0x10 true true 0 c)))
+onward-knowledge padding allowed depth outer s t c =
+    onto (onward-start-of-length padding s outer 0x10 true true 0 c) (onward-from padding depth s (knowing [] t allowed (startOfLength padding s outer 0x10 true true 0 c)))
 
 -- ---- as a caller has it: the rows that the answer counts are in normal form
 

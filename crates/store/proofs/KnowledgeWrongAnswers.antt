@@ -14,7 +14,7 @@ use Rattle.laws.proofs.Cases.{impossible}
 use Rattle.laws.proofs.Placing.{placed-fits}
 use Rattle.numbers.specs.Refusals.{Told, tooShort}
 use Rattle.numbers.specs.Calls.{written, Writes}
-use Rattle.numbers.specs.Compact.{compactBytes, formOf, formFrom, sizeOf, marked, readForm, formAt, readCompact}
+use Rattle.numbers.specs.Compact.{compactBytes, formOf, formFrom, sizeOf, withForm, readForm, readCompact, compactFor, paddingRefused}
 use Rattle.numbers.specs.Compact as compact
 use Rattle.numbers.specs.Guid.{guidAt, guidBytes, swapped}
 use Rattle.numbers.specs.declared.refusal.Wrote.the-variants.{Done, Refused}
@@ -55,7 +55,7 @@ end-not-counted h = let z : _≡_ {A = ℕ} 2 3 = ap (λ (t : Told). t .needed) 
 
 -- one row: its GUID's first byte, the 27th of all, is 0, and not 1
 bytes-of-the-row : (out exit : List ℕ) → length out ≡ 48 → getD exit 26 0 ≡ 1 → Writes (knowledgeBytes (rangesAt one 0 1)) out (Done 48) exit → ⊥
-unfolding knowledgeBytes rangesAt rangesBytes rangeBytes rangeData rangeGuid cellFront cellBack startBytes longStart startNumber endBytes guidBytes swapped be compactBytes formOf formFrom sizeOf marked bytes
+unfolding knowledgeBytes rangesAt rangesBytes rangeBytes rangeData rangeGuid cellFront cellBack startBytes longStart startNumber endBytes guidBytes swapped be compactBytes formOf formFrom sizeOf withForm bytes
 bytes-of-the-row out exit l e h =
     let w = knowledgeBytes (rangesAt one 0 1) in
     let f : length w ≤ length out = omega arith in
@@ -76,19 +76,19 @@ always-longest h = omega arith
 
 -- ---- read_knowledge, on `84 00 41`, which holds nothing, and on a table of one number
 
-one-row-held : ReadsKnowledge (knowledgeAt 0 12 0x42 (0x84 ∷ 0x00 ∷ 0x41 ∷ []) (7 ∷ []) (At 0 0)) (Holds 3 1) (7 ∷ []) → ⊥
+one-row-held : ReadsKnowledge (knowledgeAt paddingRefused 0 12 0x42 (0x84 ∷ 0x00 ∷ 0x41 ∷ []) (7 ∷ []) (At 0 0)) (Holds 3 1) (7 ∷ []) → ⊥
 unfolding knowledgeAt knowledgeFrom knowledgeTurn toGo knowledgeAnswer iterate turns startOfLength lengthIs placeOf startHere nextIs endHere headerAt headerOf sized startOf endOf lengthAt le
 one-row-held h = impossible (cc)
 
-table-cleared : ReadsKnowledge (knowledgeAt 0 12 0x42 (0x84 ∷ 0x00 ∷ 0x41 ∷ []) (7 ∷ []) (At 0 0)) (Holds 3 0) (0 ∷ []) → ⊥
+table-cleared : ReadsKnowledge (knowledgeAt paddingRefused 0 12 0x42 (0x84 ∷ 0x00 ∷ 0x41 ∷ []) (7 ∷ []) (At 0 0)) (Holds 3 0) (0 ∷ []) → ⊥
 unfolding knowledgeAt knowledgeFrom knowledgeTurn toGo knowledgeAnswer iterate turns startOfLength lengthIs placeOf startHere nextIs endHere headerAt headerOf sized startOf endOf lengthAt le
 table-cleared h = impossible (cc)
 
 -- ---- a range's data run, the GUID of sixteen zero bytes and the numbers 1 and 2: it goes from 1 to 2, and not from 2 to 1
 
 from-and-to-turned :
-    rangeFields (0 ∷ 0 ∷ 0 ∷ 0 ∷ 0 ∷ 0 ∷ 0 ∷ 0 ∷ 0 ∷ 0 ∷ 0 ∷ 0 ∷ 0 ∷ 0 ∷ 0 ∷ 0 ∷ 0x03 ∷ 0x05 ∷ []) .range ≡ range 0 0 2 1 → ⊥
-unfolding rangeFields guidIn guidHere onGuid guidAt number valueOf readCompact formAt readForm compact.compactValue trailingZeros rangeOf sizeOf swapped be bytes le
+    rangeFields paddingRefused (0 ∷ 0 ∷ 0 ∷ 0 ∷ 0 ∷ 0 ∷ 0 ∷ 0 ∷ 0 ∷ 0 ∷ 0 ∷ 0 ∷ 0 ∷ 0 ∷ 0 ∷ 0 ∷ 0x03 ∷ 0x05 ∷ []) .range ≡ range 0 0 2 1 → ⊥
+unfolding rangeFields guidIn guidHere onGuid guidAt number valueOf readCompact compactFor readForm compact.compactValue trailingZeros rangeOf sizeOf swapped be bytes le
 from-and-to-turned h = let z : _≡_ {A = ℕ} 1 2 = ap (λ (r : Range). r .from) h in omega arith
 
 -- ---- add_range: 5 to 6 put to 1 to 4, in a table with room for two rows

@@ -1,7 +1,7 @@
 -- The specialized knowledges of a knowledge, turn by turn: what the working table holds, and where the reading stands.
 -- Assumes nothing.
 use mathlib.Core.Path.{_≡_, refl, sym, _∙_}
-use mathlib.Core.Bool.{true, false}
+use mathlib.Core.Bool.{Bool, true, false}
 use mathlib.Core.List.{List, []}
 use Prim.Native.Nat.{ℕ, _+_, _*_, _≤_}
 use lib.ListN.{length}
@@ -32,25 +32,25 @@ known-standing k r q t c i f g h =
 
 -- ---- what holds whenever the loop's test is reached: the knowledge from the start is the knowledge from here
 
-pub record Learning (depth : ℕ) (s : List ℕ) (told : Knowing) (t : List ℕ) (c : Reading) (n left : ℕ) : Type 0 where
+pub record Learning (padding : Bool) (depth : ℕ) (s : List ℕ) (told : Knowing) (t : List ℕ) (c : Reading) (n left : ℕ) : Type 0 where
   pub room : (n + left) * rangeWidth ≤ length t
   pub normal : Normal (rangesAt t 0 n)
-  pub rest : told ≡ knowledgeFrom depth s (knowing (rangesAt t 0 n) t left c)
+  pub rest : told ≡ knowledgeFrom padding depth s (knowing (rangesAt t 0 n) t left c)
 
-pub learning-start : (allowed depth : ℕ) (s t : List ℕ) (c : Reading) → allowed * rangeWidth ≤ length t
-    → Learning depth s (knowledgeFrom depth s (knowing [] t allowed c)) t c 0 allowed
+pub learning-start : (padding : Bool) (allowed depth : ℕ) (s t : List ℕ) (c : Reading) → allowed * rangeWidth ≤ length t
+    → Learning padding depth s (knowledgeFrom padding depth s (knowing [] t allowed c)) t c 0 allowed
 unfolding rangesAt Normal
-learning-start allowed depth s t c h = record { room = omega arith; normal = tt; rest = refl }
+learning-start padding allowed depth s t c h = record { room = omega arith; normal = tt; rest = refl }
 
-module _ {depth : ℕ} {s : List ℕ} {told : Knowing} {t : List ℕ} {c : Reading} {n left : ℕ} (u : Learning depth s told t c n left) where
-  pub learning-more : nextIs s 0x44 c ≡ true → (r : Known) (v : List ℕ) → KnownIs (specializedFrom depth s (knowing (rangesAt t 0 n) t left c)) r v
-      → Learning depth s told v (r .last) (r .rows) (r .left)
+module _ (padding : Bool) {depth : ℕ} {s : List ℕ} {told : Knowing} {t : List ℕ} {c : Reading} {n left : ℕ} (u : Learning padding depth s told t c n left) where
+  pub learning-more : nextIs s 0x44 c ≡ true → (r : Known) (v : List ℕ) → KnownIs (specializedFrom padding depth s (knowing (rangesAt t 0 n) t left c)) r v
+      → Learning padding depth s told v (r .last) (r .rows) (r .left)
   learning-more e r v i =
       record {
         room = i .room;
         normal = rw (i .held) (i .normal);
-        rest = rw (i .held, i .left, i .last, i .table) (u .rest ∙ knowledge-more depth s (knowing (rangesAt t 0 n) t left c) e);
+        rest = rw (i .held, i .left, i .last, i .table) (u .rest ∙ knowledge-more padding depth s (knowing (rangesAt t 0 n) t left c) e);
       }
 
   pub learning-end : nextIs s 0x44 c ≡ false → (r : ReadKnowledge) → r ≡ knowledgeAnswer n (endHere s 0x10 c) → ReadsKnowledge told r t
-  learning-end e r q = rw (u .rest ∙ knowledge-end depth s (knowing (rangesAt t 0 n) t left c) e, length-rows t 0 n) (q, refl, refl, u .normal)
+  learning-end e r q = rw (u .rest ∙ knowledge-end padding depth s (knowing (rangesAt t 0 n) t left c) e, length-rows t 0 n) (q, refl, refl, u .normal)

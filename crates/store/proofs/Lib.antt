@@ -9,7 +9,10 @@ pub mod ElementWritten
 pub mod PackageWritten
 pub mod ElementCarry
 pub mod Chains
+pub mod SharedSerials
+pub mod Split
 pub mod Places
+pub mod Alone
 pub mod OneAnswers
 pub mod WrongAnswers
 pub mod ShortRanges
@@ -21,9 +24,16 @@ pub mod Learning
 pub mod KnowledgeHeld
 pub mod RangeOrder
 pub mod KnowledgeLengths
+pub mod RangesSaved
 pub mod KnowledgeWrongAnswers
 pub mod KnowledgeBack
 pub mod KnowledgeFits
 pub mod TableFree
 pub mod KnowledgeCarry
+pub mod Unpadded
 pub mod ElementFits
+pub mod ElementLeast
+pub mod StoreHeld
+pub mod HeldWrongAnswers
+pub mod Contents
+pub mod Beginning

@@ -16,13 +16,14 @@ use Rattle.objects.specs.declared.reading.Reading.{Reading}
 use Rattle.objects.specs.declared.reading.Reading.the-variants as reading
 use Rattle.objects.proofs.Keep.{good-front, onward-start, onward-end, onward-finish}
 use Rattle.objects.proofs.InputFaults.{InputFault, input-fault}
-use Rattle.store.specs.Element.{dataOf, elementOn, elementAt, idsIn, serialsIn}
-use Rattle.store.specs.Store.{packageStart, onElement, walkFrom, packageWalk, storeWalk, Stands}
+use Rattle.store.specs.Element.{dataOf, elementOn, elementAt, idsIn}
+use Rattle.store.specs.Store.{packageStart, onElement, walkFrom, packageWalk, storeWalk, Stands, storeStrictness}
 use Rattle.store.specs.declared.element.Key.{Key}
 use Rattle.store.specs.declared.element.Fields.{Fields}
 use Rattle.store.specs.declared.element.Element.{Element}
 use Rattle.store.specs.declared.element.ReadElement.{ReadElement}
 use Rattle.store.specs.declared.element.ReadElement.the-variants as element
+use Rattle.store.specs.declared.element.Strictness.{Strictness}
 use Rattle.store.proofs.Fields.{onward-element, element-within}
 use Rattle.store.proofs.Walks.{good-package, walk-ends, walk-over, walk-element}
 use Rattle.store.proofs.Chains.{StoreRead, over-long}
@@ -34,47 +35,47 @@ unfolding elementOn
 refused-on at f kind (reading.At e v) r h = impossible (cc)
 refused-on at f kind (reading.Refused q) r h = cc
 
-pub element-fault : (depth : ℕ) (ids serials : List Key) (s : List ℕ) (c : Reading) (r : Refusal) → elementAt depth ids serials s c ≡ element.Refused r
+pub element-fault : (strict : Strictness) (ids : List Key) (s : List ℕ) (c : Reading) (r : Refusal) → elementAt strict ids s c ≡ element.Refused r
     → Good s c → FaultWithin (length s) r
 unfolding elementAt
-element-fault depth ids serials s c r h g =
-    subst (Good s) (refused-on _ _ _ (inside s depth 0x01 (dataOf ids serials s c)) r h) (onward-element depth ids serials s c .good g)
+element-fault strict ids s c r h g =
+    subst (Good s) (refused-on _ _ _ (inside (strict .padding) s (strict .levels) 0x01 (dataOf strict ids s c)) r h) (onward-element strict ids s c .good g)
 
-element-good : (left : ℕ) (s : List ℕ) (done : List Element) (c : Reading) (r : ReadElement) → elementAt 14 (idsIn done) (serialsIn done) s c ≡ r
-    → ((x : Element) → x .place + x .length ≤ length s → Good s (walkFrom left s (done ++ (x ∷ [])) (reading.At (x .place + x .length) 0) .last))
-    → Good s c → Good s (onElement (λ more e. walkFrom left s more e) done r .last)
-element-good left s done c (element.Is x) q more g = more x (element-within 14 (idsIn done) (serialsIn done) s c x q g .1)
-element-good left s done c (element.Refused r) q more g = element-fault 14 (idsIn done) (serialsIn done) s c r q g
+element-good : (strict : Strictness) (left : ℕ) (s : List ℕ) (done : List Element) (c : Reading) (r : ReadElement) → elementAt strict (idsIn done) s c ≡ r
+    → ((x : Element) → x .place + x .length ≤ length s → Good s (walkFrom strict left s (done ++ (x ∷ [])) (reading.At (x .place + x .length) 0) .last))
+    → Good s c → Good s (onElement (λ more e. walkFrom strict left s more e) done r .last)
+element-good strict left s done c (element.Is x) q more g = more x (element-within strict (idsIn done) s c x q g .1)
+element-good strict left s done c (element.Refused r) q more g = element-fault strict (idsIn done) s c r q g
 
-walk-good : (left : ℕ) (s : List ℕ) (done : List Element) (c : Reading) → Good s c → Good s (walkFrom left s done c .last)
-walk-good zero s done c g =
-    by-bool (nextIs s 0x01 c) (λ e. rw (walk-over s done c e) (onward-start s 0x15 0x01 true false c .good g))
-    (λ e. rw (walk-ends 0 s done c e) (onward-end s 0x15 c .good g))
-walk-good (suc left) s done c g =
+walk-good : (strict : Strictness) (left : ℕ) (s : List ℕ) (done : List Element) (c : Reading) → Good s c → Good s (walkFrom strict left s done c .last)
+walk-good strict zero s done c g =
+    by-bool (nextIs s 0x01 c) (λ e. rw (walk-over strict s done c e) (onward-start (strict .padding) s 0x15 0x01 true false c .good g))
+    (λ e. rw (walk-ends strict 0 s done c e) (onward-end s 0x15 c .good g))
+walk-good strict (suc left) s done c g =
     by-bool (nextIs s 0x01 c)
     (λ e.
-    rw (walk-element left s done c e (elementAt 14 (idsIn done) (serialsIn done) s c) refl)
-    (element-good left s done c (elementAt 14 (idsIn done) (serialsIn done) s c) refl
-    (λ x w. walk-good left s (done ++ (x ∷ [])) (reading.At (x .place + x .length) 0) w) g))
-    (λ e. rw (walk-ends (suc left) s done c e) (onward-end s 0x15 c .good g))
+    rw (walk-element strict left s done c e (elementAt strict (idsIn done) s c) refl)
+    (element-good strict left s done c (elementAt strict (idsIn done) s c) refl
+    (λ x w. walk-good strict left s (done ++ (x ∷ [])) (reading.At (x .place + x .length) 0) w) g))
+    (λ e. rw (walk-ends strict (suc left) s done c e) (onward-end s 0x15 c .good g))
 
-pub package-good : (outer : ℕ) (s : List ℕ) (c : Reading) → Good s c → Good s (packageWalk outer s c .last)
-package-good outer s c g = walk-good 256 s [] (packageStart outer s c) (good-package outer s c g)
+pub package-good : (strict : Strictness) (outer : ℕ) (s : List ℕ) (c : Reading) → Good s c → Good s (packageWalk strict outer s c .last)
+package-good strict outer s c g = walk-good strict 256 s [] (packageStart (strict .padding) outer s c) (good-package (strict .padding) outer s c g)
 
-finished-good : (s : List ℕ) → Good s (finish s (packageWalk nothingOpen s (reading.At 0 0) .last))
-finished-good s = onward-finish s _ .good (package-good nothingOpen s (reading.At 0 0) (good-front s 0))
+finished-good : (strict : Strictness) (s : List ℕ) → Good s (finish s (packageWalk strict nothingOpen s (reading.At 0 0) .last))
+finished-good strict s = onward-finish s _ .good (package-good strict nothingOpen s (reading.At 0 0) (good-front s 0))
 
 pub store-fault : (s : List ℕ) (r : Refusal) → storeWalk s .last ≡ reading.Refused r → InputFault longestInput s r
 unfolding storeWalk
 store-fault s r h =
-    input-fault longestInput s (storeWalk s .last) (finish s (packageWalk nothingOpen s (reading.At 0 0) .last)) r
-    (λ l. rw (lt-ltb longestInput (length s) l)) (λ l. rw (le-ltb longestInput (length s) l)) (finished-good s) h
+    input-fault longestInput s (storeWalk s .last) (finish s (packageWalk storeStrictness nothingOpen s (reading.At 0 0) .last)) r
+    (λ l. rw (lt-ltb longestInput (length s) l)) (λ l. rw (le-ltb longestInput (length s) l)) (finished-good storeStrictness s) h
 
 -- ---- the store's end
 
 store-good : (s : List ℕ) → Stands (storeWalk s .last) → Good s (storeWalk s .last)
 unfolding storeWalk
-store-good s h = by-lt longestInput (length s) (λ l. absurd (over-long s l h)) (λ l. rw (le-ltb longestInput (length s) l) (finished-good s))
+store-good s h = by-lt longestInput (length s) (λ l. absurd (over-long s l h)) (λ l. rw (le-ltb longestInput (length s) l) (finished-good storeStrictness s))
 
 finish-whole : (s : List ℕ) (c : Reading) → Good s (finish s c) → Stands (finish s c) → placeOf c ≡ length s
 unfolding finish placeOf

@@ -4,7 +4,7 @@
 use mathlib.Core.Path.{_≡_, refl, sym, ap, _∙_}
 use mathlib.Core.Bool.{true, false}
 use mathlib.Core.List.{List, [], _∷_, _++_, map, append-assoc, append-nil}
-use Prim.Native.Nat.{ℕ, suc, _+_, _-_, _*_, _%_, _≤_, _<_}
+use Prim.Native.Nat.{ℕ, zero, suc, _+_, _-_, _*_, _%_, _≤_, _<_}
 use native.Mathlib.Nat.{suc-mul, zero-mul, mul-le-mul-right, mod-lt}
 use native.Mathlib.Numerals.{add-one}
 use native.Mathlib.Omega.{arith}
@@ -80,6 +80,26 @@ keys-front t width offset n =
     let f : n - 0 ≡ n = omega arith in
     rw (e, f)
 
+-- the keys of the rows before row i, and then those from it on
+keys-join : (t : List ℕ) (width at m n : ℕ) → keysAt t at width (m + n) ≡ keysAt t at width m ++ keysAt t (m * width + at) width n
+unfolding keysAt
+keys-join t width at zero n =
+    let e : 0 + n ≡ n = omega arith in let f : 0 * width + at ≡ at = omega (arith, zero-mul width) in rw (e, f)
+keys-join t width at (suc m) n =
+    let e : suc m + n ≡ suc (m + n) = omega arith in
+    let f : m * width + (at + width) ≡ suc m * width + at = omega (arith, suc-mul m width) in
+    rw (e, ← f) (ap (λ (k : List Key). keyAt t at ∷ k) (keys-join t width (at + width) m n))
+
+pub keys-split : (t : List ℕ) (width offset i n : ℕ) → i ≤ n
+    → keysAt t offset width n ≡ keysAt t offset width i ++ keysAt t (i * width + offset) width (n - i)
+keys-split t width offset i n h =
+    let e : n ≡ i + (n - i) = omega arith in ap (keysAt t offset width) e ∙ keys-join t width offset i (n - i)
+
+-- one row more
+pub keys-more : (t : List ℕ) (width offset i : ℕ) → keysAt t offset width (i + 1) ≡ keysAt t offset width i ++ (keyAt t (i * width + offset) ∷ [])
+unfolding keysAt
+keys-more t width offset i = keys-join t width offset i 1
+
 -- a key within its row, and its row within the table
 pub key-room : (i n width offset size : ℕ) → i < n → offset + 3 ≤ width → n * width ≤ size → i * width + offset + 3 ≤ size
 key-room i n width offset size h o s = omega (arith, mul-le-mul-right width h, suc-mul i width)
@@ -96,6 +116,14 @@ same-numbers a b e =
     (l, h, eqb-true (a .number) (b .number) z))
     (λ h. let z : false ≡ true = rw (eq-eqb _ _ l, ne-eqb _ _ h) at e in impossible (cc)))
     (λ l. let z : false ≡ true = rw (ne-eqb _ _ l) at e in impossible (cc))
+
+pub same-equal : (a b : Key) → sameKey a b ≡ true → a ≡ b
+same-equal a b e = let n = same-numbers a b e in λ i. record { low = n .0 i; high = n .1 i; number = n .2 i }
+
+-- a key is the same as itself
+pub same-itself : (k : Key) → sameKey k k ≡ true
+unfolding sameKey
+same-itself k = rw (eq-eqb (k .low) (k .low) refl, eq-eqb (k .high) (k .high) refl, eq-eqb (k .number) (k .number) refl)
 
 -- equal keys have equal marks, and every mark is one of so many
 pub same-mark : (width : ℕ) (a b : Key) → sameKey a b ≡ true → markOf width a ≡ markOf width b

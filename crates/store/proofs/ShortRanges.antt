@@ -1,7 +1,7 @@
 -- The start of a range in 16 bits: its two bytes, as they are read and as they are written.
 -- Assumes nothing.
 use mathlib.Core.Path.{_≡_, refl, _∙_}
-use mathlib.Core.Bool.{true, false}
+use mathlib.Core.Bool.{Bool, true, false}
 use mathlib.Core.List.{List, [], _∷_}
 use Prim.Native.Nat.{ℕ, _+_, _-_, _*_, _/_, _%_, _≤_, _<_}
 use native.Mathlib.Omega.{arith}
@@ -30,11 +30,11 @@ short-is-range w e =
 pub range-there : (s : List ℕ) (at w : ℕ) → shortNumber s at ≡ w → w % 512 ≡ 0x78 → 2 ≤ length s - at
 range-there s at w is e = let low : w % 4 ≡ 0 = omega arith in short-room s at w 0 is low (omega arith)
 
-pub range-start : (s : List ℕ) (at v w : ℕ) → shortNumber s at ≡ w → w % 512 ≡ 0x78 → w / 512 < 128 → rangeStart s (At at v) ≡ At (at + 2) (w / 512)
+pub range-start : (padding : Bool) (s : List ℕ) (at v w : ℕ) → shortNumber s at ≡ w → w % 512 ≡ 0x78 → w / 512 < 128 → rangeStart padding s (At at v) ≡ At (at + 2) (w / 512)
 unfolding startHere
-range-start s at v w is e h =
+range-start padding s at v w is e h =
     let n : w / 8 / 64 ≡ w / 512 = omega arith in
-    short-start-on s 0x14 0x0F at w false true is (short-is-range w e) refl (omega arith) ∙ rw n
+    short-start-on padding s 0x14 0x0F at w false true is (short-is-range w e) refl (omega arith) ∙ rw n
 
 -- ---- written
 

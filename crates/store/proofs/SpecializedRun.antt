@@ -2,7 +2,7 @@
 -- where a byte is missing. Only the proof of `knowledge::read_specialized` needs this.
 -- Assumes nothing.
 use mathlib.Core.Path.{_≡_, refl, ap, _∙_}
-use mathlib.Core.Bool.{true}
+use mathlib.Core.Bool.{Bool, true}
 use mathlib.Core.List.{List}
 use Prim.Native.Nat.{ℕ, _+_, _-_, _≤_, _<_}
 use native.Mathlib.Nat.{add-zero}
@@ -32,9 +32,9 @@ unfolding lengthIs
 length-sixteen p (At from v) = pick-all Sixteen (eqb v 16) _ _ (λ e. eqb-true v 16 e) (λ e. tt)
 length-sixteen p (Refused r) = tt
 
-sixteen : (s : List ℕ) (c : Reading) → Sixteen (startOfLength s 0x10 0x44 true true 16 c)
+sixteen : (padding : Bool) (s : List ℕ) (c : Reading) → Sixteen (startOfLength padding s 0x10 0x44 true true 16 c)
 unfolding startOfLength
-sixteen s c = length-sixteen (placeOf c) (startHere s 0x10 0x44 true true c)
+sixteen padding s c = length-sixteen (placeOf c) (startHere padding s 0x10 0x44 true true c)
 
 -- the sixteen bytes of the run are those at its place
 guid-of-run : (t : List ℕ) → guidAt (take 16 t) ≡ guidAt t
@@ -94,17 +94,17 @@ cell-run s (Refused r) e = refl
 
 -- ---- a specialized knowledge that begins at c
 
-abbrev specializedStart : List ℕ → Reading → Reading
-specializedStart s c = startOfLength s 0x10 0x44 true true 16 c
+abbrev specializedStart : Bool → List ℕ → Reading → Reading
+specializedStart padding s c = startOfLength padding s 0x10 0x44 true true 16 c
 
-module _ (s : List ℕ) (c o : Reading) (d : List ℕ) (starts : o ≡ specializedStart s c) (run : d ≡ runHere s o) where
+module _ (padding : Bool) (s : List ℕ) (c o : Reading) (d : List ℕ) (starts : o ≡ specializedStart padding s c) (run : d ≡ runHere s o) where
   pub run-good : Good (runHere s o) (onGuid (guidField d))
   run-good = rw run (onward-guid (runHere s o) (At 0 0) .good (good-front (runHere s o) 0))
 
-  pub run-closed : closed s o (onGuid (guidField d)) ≡ onGuid (specializedGuid s c)
+  pub run-closed : closed s o (onGuid (guidField d)) ≡ onGuid (specializedGuid padding s c)
   unfolding specializedGuid
-  run-closed = rw (run, starts) (closed-run s (specializedStart s c) (sixteen s c))
+  run-closed = rw (run, starts) (closed-run s (specializedStart padding s c) (sixteen padding s c))
 
-  pub run-cell : isCell (guidField d) ≡ isCell (specializedGuid s c)
+  pub run-cell : isCell (guidField d) ≡ isCell (specializedGuid padding s c)
   unfolding specializedGuid
-  run-cell = rw (run, starts) (cell-run s (specializedStart s c) (sixteen s c))
+  run-cell = rw (run, starts) (cell-run s (specializedStart padding s c) (sixteen padding s c))

@@ -1,7 +1,7 @@
--- The walk along a package's elements, turn by turn: what the tables hold, and how many elements may still come.
+-- The walk along elements, turn by turn: what the tables hold, and how many elements may still come; and the walk along a package's.
 -- Assumes nothing.
 use mathlib.Core.Path.{_≡_, refl, sym, ap, _∙_}
-use mathlib.Core.Bool.{true, false}
+use mathlib.Core.Bool.{Bool, true, false}
 use mathlib.Core.List.{List, [], _∷_, _++_, map, map-append}
 use Prim.Native.Nat.{ℕ, zero, suc, _-_, _+_, _*_, _≤_}
 use native.Mathlib.Numerals.{add-one}
@@ -17,13 +17,14 @@ use Rattle.objects.proofs.Keep.{onward-start-of-length, onward-skip}
 use Rattle.laws.specs.Once.{seen}
 use Rattle.laws.proofs.Cases.{by-bool, by-lt, by-eq, impossible}
 use Rattle.laws.proofs.Twice.{seen-append}
-use Rattle.store.specs.Element.{sameKey, elementAt, idsIn, serialsIn}
-use Rattle.store.specs.Tables.{markOf, keyMarks, Marked, RowsStand, Lent, rowWidth, idWidth, mostElements, idKeys, serialKeys, rowOf, idOf, flat, rowsOf, idsOf}
-use Rattle.store.specs.Store.{packageStart, Walk, walked, onElement, walkFrom, packagedOf, storedOf, PackageTo}
+use Rattle.store.specs.Element.{sameKey, elementAt, idsIn}
+use Rattle.store.specs.Tables.{markOf, keyMarks, Marked, Lent, rowWidth, idWidth, mostElements, idKeys, serialKeys, rowOf, idOf, flat, rowsOf, idsOf}
+use Rattle.store.specs.Store.{packageStart, Walk, walked, onElement, walkFrom, elementsWalk, packagedOf, storedOf, PackageTo}
 use Rattle.store.specs.declared.element.Key.{Key}
 use Rattle.store.specs.declared.element.Element.{Element}
 use Rattle.store.specs.declared.element.ReadElement.{ReadElement}
 use Rattle.store.specs.declared.element.ReadElement.the-variants as element
+use Rattle.store.specs.declared.element.Strictness.{Strictness}
 use Rattle.store.specs.declared.package.Packaged.{Packaged}
 use Rattle.store.specs.declared.package.Packaged.the-variants as packaged
 use Rattle.store.specs.declared.package.Stored.the-variants as stored
@@ -52,29 +53,28 @@ ids-held done t =
 
 -- ---- what holds whenever the loop's test is reached, on a walk that began at c
 
-pub record Held (s : List ℕ) (c : Reading) (rows₀ ids₀ rows rowmarks ids idmarks : List ℕ) (at : Reading) (n : ℕ) : Type 0 where
+pub record Held (strict : Strictness) (s : List ℕ) (c : Reading) (rows₀ ids₀ rows ids marks : List ℕ) (at : Reading) (n : ℕ) : Type 0 where
   pub done : List Element
   pub many : length done ≡ n
   pub most : n ≤ mostElements
   pub good : Good s at
   pub rows-hold : rows ≡ rowsOf done ++ drop (n * rowWidth) rows₀
   pub ids-hold : ids ≡ idsOf done ++ drop (n * idWidth) ids₀
-  pub serials-marked : Marked rowmarks (serialsIn done)
-  pub ids-marked : Marked idmarks (idsIn done)
-  pub walk : walkFrom mostElements s [] c ≡ walkFrom (mostElements - n) s done at
+  pub ids-marked : Marked marks (idsIn done)
+  pub walk : elementsWalk strict mostElements s [] c ≡ elementsWalk strict (mostElements - n) s done at
 
-pub good-package : (outer : ℕ) (s : List ℕ) (c : Reading) → Good s c → Good s (packageStart outer s c)
+pub good-package : (padding : Bool) (outer : ℕ) (s : List ℕ) (c : Reading) → Good s c → Good s (packageStart padding outer s c)
 unfolding packageStart
-good-package outer s c g =
-    onward-skip s 1 (startOfLength s outer 0x15 true true 1 c) .good (onward-start-of-length s outer 0x15 true true 1 c .good g)
+good-package padding outer s c g =
+    onward-skip s 1 (startOfLength padding s outer 0x15 true true 1 c) .good (onward-start-of-length padding s outer 0x15 true true 1 c .good g)
 
-none-marked : (marks : List ℕ) → Marked marks []
+pub none-marked : (marks : List ℕ) → Marked marks []
 unfolding seen
 none-marked marks k e = refl
 
-pub held-start : (s : List ℕ) (c : Reading) (rows rowmarks ids idmarks : List ℕ) → Good s c → Held s c rows ids rows rowmarks ids idmarks c 0
+pub held-start : (strict : Strictness) (s : List ℕ) (c : Reading) (rows ids marks : List ℕ) → Good s c → Held strict s c rows ids rows ids marks c 0
 unfolding flat
-held-start s c rows rowmarks ids idmarks g =
+held-start strict s c rows ids marks g =
     record {
       done = [];
       many = refl;
@@ -82,13 +82,12 @@ held-start s c rows rowmarks ids idmarks g =
       good = g;
       rows-hold = refl;
       ids-hold = refl;
-      serials-marked = none-marked rowmarks;
-      ids-marked = none-marked idmarks;
+      ids-marked = none-marked marks;
       walk = refl;
     }
 
 -- one key more, with its mark set
-marked-more : (marks : List ℕ) (keys : List Key) (x : Key) → keyMarks ≤ length marks → Marked marks keys → Marked (set marks (markOf keyMarks x) 1) (keys ++ (x ∷ []))
+pub marked-more : (marks : List ℕ) (keys : List Key) (x : Key) → keyMarks ≤ length marks → Marked marks keys → Marked (set marks (markOf keyMarks x) 1) (keys ++ (x ∷ []))
 unfolding seen
 marked-more marks keys x l h k e =
     by-eq (markOf keyMarks k) (markOf keyMarks x)
@@ -102,75 +101,83 @@ marked-more marks keys x l h k e =
 
 -- ---- the walk at a place
 
-pub walk-ends : (left : ℕ) (s : List ℕ) (done : List Element) (c : Reading) → nextIs s 0x01 c ≡ false
-    → walkFrom left s done c ≡ walked done (c ▹ endHere s 0x15)
+pub walk-ends : (strict : Strictness) (left : ℕ) (s : List ℕ) (done : List Element) (c : Reading) → nextIs s 0x01 c ≡ false
+    → walkFrom strict left s done c ≡ walked done (c ▹ endHere s 0x15)
 unfolding walkFrom
-walk-ends zero s done c e = rw e
-walk-ends (suc left) s done c e = rw e
+walk-ends strict zero s done c e = rw e
+walk-ends strict (suc left) s done c e = rw e
 
-pub walk-over : (s : List ℕ) (done : List Element) (c : Reading) → nextIs s 0x01 c ≡ true
-    → walkFrom 0 s done c ≡ walked done (startHere s 0x15 0x01 true false c)
+pub walk-over : (strict : Strictness) (s : List ℕ) (done : List Element) (c : Reading) → nextIs s 0x01 c ≡ true
+    → walkFrom strict 0 s done c ≡ walked done (startHere (strict .padding) s 0x15 0x01 true false c)
 unfolding walkFrom
-walk-over s done c e = rw e
+walk-over strict s done c e = rw e
 
-pub walk-element : (left : ℕ) (s : List ℕ) (done : List Element) (c : Reading) → nextIs s 0x01 c ≡ true → (r : ReadElement)
-    → elementAt 14 (idsIn done) (serialsIn done) s c ≡ r
-    → walkFrom (suc left) s done c ≡ onElement (λ more e. walkFrom left s more e) done r
+pub walk-element : (strict : Strictness) (left : ℕ) (s : List ℕ) (done : List Element) (c : Reading) → nextIs s 0x01 c ≡ true → (r : ReadElement)
+    → elementAt strict (idsIn done) s c ≡ r
+    → walkFrom strict (suc left) s done c ≡ onElement (λ more e. walkFrom strict left s more e) done r
 unfolding walkFrom
-walk-element left s done c e r q = rw (e, q)
+walk-element strict left s done c e r q = rw (e, q)
 
-module _ {s : List ℕ} {c : Reading} {rows₀ ids₀ rows rowmarks ids idmarks : List ℕ} {at : Reading} {n : ℕ}
-    (h : Held s c rows₀ ids₀ rows rowmarks ids idmarks at n) where
+-- and along the elements alone
+pub elements-end : (strict : Strictness) (left : ℕ) (s : List ℕ) (done : List Element) (c : Reading) → nextIs s 0x01 c ≡ false
+    → elementsWalk strict left s done c ≡ walked done c
+unfolding elementsWalk
+elements-end strict zero s done c e = rw e
+elements-end strict (suc left) s done c e = rw e
+
+pub elements-over : (strict : Strictness) (s : List ℕ) (done : List Element) (c : Reading) → nextIs s 0x01 c ≡ true
+    → elementsWalk strict 0 s done c ≡ walked done (startHere (strict .padding) s 0x15 0x01 true false c)
+unfolding elementsWalk
+elements-over strict s done c e = rw e
+
+pub elements-more : (strict : Strictness) (left : ℕ) (s : List ℕ) (done : List Element) (c : Reading) → nextIs s 0x01 c ≡ true → (r : ReadElement)
+    → elementAt strict (idsIn done) s c ≡ r
+    → elementsWalk strict (suc left) s done c ≡ onElement (λ more e. elementsWalk strict left s more e) done r
+unfolding elementsWalk
+elements-more strict left s done c e r q = rw (e, q)
+
+module _ (strict : Strictness) {s : List ℕ} {c : Reading} {rows₀ ids₀ rows ids marks : List ℕ} {at : Reading} {n : ℕ}
+    (h : Held strict s c rows₀ ids₀ rows ids marks at n) where
   abbrev told : Walk
-  told = walkFrom mostElements s [] c
+  told = elementsWalk strict mostElements s [] c
 
-  -- the keys that the tables hold are those of the elements
-  held-serials : serialKeys rows n ≡ map (λ (x : Element). x .serial) (h .done)
-  held-serials = rw (h .rows-hold, ← h .many) (serials-held (h .done) (drop (length (h .done) * rowWidth) rows₀))
-
+  -- the ids that the table holds are those of the elements
   held-ids : idKeys ids n ≡ map (λ (x : Element). x .id) (h .done)
   held-ids = rw (h .ids-hold, ← h .many) (ids-held (h .done) (drop (length (h .done) * idWidth) ids₀))
 
   -- what is lent to the reading of the next element
-  pub held-lent : RowsStand rows ids n → keyMarks ≤ length rowmarks → keyMarks ≤ length idmarks → Lent rows rowmarks ids idmarks n
-  held-lent a d e =
-      record {
-        stand = a;
-        serial-mark-room = d;
-        id-mark-room = e;
-        serials-marked = rw held-serials (h .serials-marked);
-        ids-marked = rw held-ids (h .ids-marked);
-      }
+  pub held-lent : n * idWidth ≤ length ids → keyMarks ≤ length marks → Lent ids marks n
+  held-lent a d = record { id-room = a; mark-room = d; marked = rw held-ids (h .ids-marked) }
 
   -- the answer, where the walk ends with these elements
   pub held-answer : (d : Reading) (r : Packaged) → told ≡ walked (h .done) d → r ≡ packagedOf n d → PackageTo told r rows₀ rows ids₀ ids
   held-answer d r e q = rw e (q ∙ ap (λ (m : ℕ). packagedOf m d) (sym (h .many)), rw (h .many) (h .rows-hold), rw (h .many) (h .ids-hold))
 
   -- no more elements
-  pub held-end : nextIs s 0x01 at ≡ false → told ≡ walked (h .done) (at ▹ endHere s 0x15)
-  held-end e = h .walk ∙ walk-ends (mostElements - n) s (h .done) at e
+  pub held-end : nextIs s 0x01 at ≡ false → told ≡ walked (h .done) at
+  held-end e = h .walk ∙ elements-end strict (mostElements - n) s (h .done) at e
 
   -- one too many
-  pub held-over : nextIs s 0x01 at ≡ true → n ≡ mostElements → told ≡ walked (h .done) (startHere s 0x15 0x01 true false at)
-  held-over e q = let z : mostElements - n ≡ 0 = omega arith in h .walk ∙ rw z (walk-over s (h .done) at e)
+  pub held-over : nextIs s 0x01 at ≡ true → n ≡ mostElements → told ≡ walked (h .done) (startHere (strict .padding) s 0x15 0x01 true false at)
+  held-over e q = let z : mostElements - n ≡ 0 = omega arith in h .walk ∙ rw z (elements-over strict s (h .done) at e)
 
   -- an element at fault
-  pub held-refused : nextIs s 0x01 at ≡ true → (n ≡ mostElements → ⊥) → (r : Refusal) → elementAt 14 (idKeys ids n) (serialKeys rows n) s at ≡ element.Refused r
+  pub held-refused : nextIs s 0x01 at ≡ true → (n ≡ mostElements → ⊥) → (r : Refusal) → elementAt strict (idKeys ids n) s at ≡ element.Refused r
       → told ≡ walked (h .done) (Refused r)
   held-refused e d r q =
       let z : mostElements - n ≡ suc (mostElements - (n + 1)) = let m = h .most in omega arith in
-      let f = rw (held-ids, held-serials) at q in
-      h .walk ∙ rw z (walk-element (mostElements - (n + 1)) s (h .done) at e (element.Refused r) f)
+      let f = rw held-ids at q in
+      h .walk ∙ rw z (elements-more strict (mostElements - (n + 1)) s (h .done) at e (element.Refused r) f)
 
   -- an element more
-  pub held-more : nextIs s 0x01 at ≡ true → (n ≡ mostElements → ⊥) → keyMarks ≤ length rowmarks → keyMarks ≤ length idmarks → (x : Element) → elementAt 14 (idKeys ids n) (serialKeys rows n) s at ≡ element.Is x
-      → Held s c rows₀ ids₀ (take (n * rowWidth) rows ++ (rowOf x ++ drop (n * rowWidth + rowWidth) rows)) (set rowmarks (markOf keyMarks (x .serial)) 1)
-      (take (n * idWidth) ids ++ (idOf (x .id) ++ drop (n * idWidth + idWidth) ids)) (set idmarks (markOf keyMarks (x .id)) 1)
+  pub held-more : nextIs s 0x01 at ≡ true → (n ≡ mostElements → ⊥) → keyMarks ≤ length marks → (x : Element) → elementAt strict (idKeys ids n) s at ≡ element.Is x
+      → Held strict s c rows₀ ids₀ (take (n * rowWidth) rows ++ (rowOf x ++ drop (n * rowWidth + rowWidth) rows))
+      (take (n * idWidth) ids ++ (idOf (x .id) ++ drop (n * idWidth + idWidth) ids)) (set marks (markOf keyMarks (x .id)) 1)
       (At (x .place + x .length) 0) (n + 1)
-  held-more e d lr li x q =
+  held-more e d l x q =
       let z : mostElements - n ≡ suc (mostElements - (n + 1)) = let m = h .most in omega arith in
-      let f = rw (held-ids, held-serials) at q in
-      let w = element-within 14 (idKeys ids n) (serialKeys rows n) s at x q (h .good) in
+      let f = rw held-ids at q in
+      let w = element-within strict (idKeys ids n) s at x q (h .good) in
       record {
         done = h .done ++ (x ∷ []);
         many = length-append (h .done) (x ∷ []) ∙ (let m = h .many in omega arith);
@@ -178,9 +185,8 @@ module _ {s : List ℕ} {c : Reading} {rows₀ ids₀ rows rowmarks ids idmarks 
         good = w .1;
         rows-hold = rw add-one (put-more rowOf rowWidth row-wide (h .done) x rows rows₀ n (h .many) (h .rows-hold));
         ids-hold = rw add-one (put-more idRow idWidth id-wide (h .done) x ids ids₀ n (h .many) (h .ids-hold));
-        serials-marked = rw (map-append (λ (y : Element). y .serial) (h .done) (x ∷ [])) (marked-more rowmarks (serialsIn (h .done)) (x .serial) lr (h .serials-marked));
-        ids-marked = rw (map-append (λ (y : Element). y .id) (h .done) (x ∷ [])) (marked-more idmarks (idsIn (h .done)) (x .id) li (h .ids-marked));
-        walk = h .walk ∙ rw z (walk-element (mostElements - (n + 1)) s (h .done) at e (element.Is x) f);
+        ids-marked = rw (map-append (λ (y : Element). y .id) (h .done) (x ∷ [])) (marked-more marks (idsIn (h .done)) (x .id) l (h .ids-marked));
+        walk = h .walk ∙ rw z (elements-more strict (mostElements - (n + 1)) s (h .done) at e (element.Is x) f);
       }
 
 pub packaged-refused : (n : ℕ) (r : Refusal) → packaged.Refused r ≡ packagedOf n (Refused r)

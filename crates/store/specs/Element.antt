@@ -1,6 +1,8 @@
 -- "Element: compound; data = extended GUID, serial number, element type; inside, any well-nested objects. No null id or
--- serial, no id twice, no serial twice in a store." From left to right: the id (2, 3, then 10, then 11), the serial number
--- (2, 3, 10, 11), the type, bytes left over, the inside.
+-- serial, no id twice" (document 01); a serial number may stand twice, for "11 is kept for ids only" (document 02, Q-3). From left to right:
+-- the id (2, 3, then 10, then 11), the serial number (2, 3, then 10), the type, bytes left over, the inside. What the package stands in
+-- says how strictly it is read (`Strictness`): whether padding is taken, in its headers and in its type; how many levels are left inside it;
+-- and whether its serial number is judged.
 -- Assumes nothing.
 use Prim.Native.Nat.{ℕ, _-_}
 use mathlib.Core.Bool.{Bool, false}
@@ -25,6 +27,7 @@ use Rattle.objects.specs.declared.reading.ReadingSerial.the-variants as serial�
 use Rattle.store.specs.declared.element.Key.{Key}
 use Rattle.store.specs.declared.element.Element.{Element}
 use Rattle.store.specs.declared.element.Fields.{Fields}
+use Rattle.store.specs.declared.element.Strictness.{Strictness}
 use Rattle.store.specs.declared.element.ReadingKey.{ReadingKey}
 use Rattle.store.specs.declared.element.ReadingKey.the-variants.{At, Refused}
 use Rattle.store.specs.declared.element.ReadElement.{ReadElement}
@@ -39,12 +42,9 @@ keyOf g x = record { low = g .low; high = g .high; number = x }
 unfoldable pub sameKey : Key → Key → Bool
 sameKey a b = pick (eqb (a .low) (b .low)) (pick (eqb (a .high) (b .high)) (eqb (a .number) (b .number)) false) false
 
--- those of the elements before
+-- the ids of the elements before
 abbrev pub idsIn : List Element → List Key
 idsIn done = map (λ (x : Element). x .id) done
-
-abbrev pub serialsIn : List Element → List Key
-serialsIn done = map (λ (x : Element). x .serial) done
 
 -- an id that stands at p: 10 where it is null
 unfoldable pub namedKey : ℕ → ReadingId → ReadingKey
@@ -57,6 +57,13 @@ unfoldable pub numberedKey : ℕ → ReadingSerial → ReadingKey
 numberedKey p (serial′.At q number.Null) = Refused (faultAt 10 p)
 numberedKey p (serial′.At q (number.Numbered g x)) = At q (keyOf g x)
 numberedKey p (serial′.Refused r) = Refused r
+
+-- a serial number that is not judged: "serials that came are ignored and meet no 10 or 11" (document 02, Q-1). So it may be null, which
+-- is a key of zeros; its own 2 and 3 stay
+unfoldable pub anyKey : ReadingSerial → ReadingKey
+anyKey (serial′.At q number.Null) = At q (record { low = 0; high = 0; number = 0 })
+anyKey (serial′.At q (number.Numbered g x)) = At q (keyOf g x)
+anyKey (serial′.Refused r) = Refused r
 
 -- 11 at p, if it was seen before
 unfoldable pub freshKey : ℕ → Bool → ReadingKey → ReadingKey
@@ -81,37 +88,38 @@ judged before p c = freshKey p (seen sameKey (keyHere c) before) c
 unfoldable pub idField : List Key → List ℕ → ReadingKey
 idField ids d = judged ids 0 (namedKey 0 (idHere d (reading.At 0 0)))
 
--- the serial number stands at c
-unfoldable pub serialField : List Key → List ℕ → Reading → ReadingKey
-serialField serials d c = judged serials (placeOf c) (numberedKey (placeOf c) (serialHere d c))
+-- the serial number stands at c, and is judged or not. It is not compared with those before it: "11 is kept for ids only" (document 02, Q-3)
+unfoldable pub serialField : Bool → List ℕ → Reading → ReadingKey
+serialField judges d c = pick judges (numberedKey (placeOf c) (serialHere d c)) (anyKey (serialHere d c))
 
 -- the type is the number at the last
-unfoldable pub fieldsOf : List Key → List Key → List ℕ → Fields
-fieldsOf ids serials d =
+unfoldable pub fieldsOf : Strictness → List Key → List ℕ → Fields
+fieldsOf strict ids d =
     record {
       id = keyHere (idField ids d);
-      serial = keyHere (serialField serials d (onKey (idField ids d)));
-      last = steps.number d (onKey (serialField serials d (onKey (idField ids d))));
+      serial = keyHere (serialField (strict .serials) d (onKey (idField ids d)));
+      last = steps.number (strict .padding) d (onKey (serialField (strict .serials) d (onKey (idField ids d))));
     }
 
--- ---- the element at c, in a package, with so many levels left for what is inside it
+-- ---- the element at c, in a package
 
-abbrev pub opened : List ℕ → Reading → Reading
-opened s c = startHere s packageType elementType compoundBit withRoom c
+abbrev pub opened : Bool → List ℕ → Reading → Reading
+opened padding s c = startHere padding s packageType elementType compoundBit withRoom c
 
 -- behind its data, with its type as the number
-unfoldable pub dataOf : List Key → List Key → List ℕ → Reading → Reading
-dataOf ids serials s c = closed s (opened s c) (fieldsOf ids serials (runHere s (opened s c)) .last)
+unfoldable pub dataOf : Strictness → List Key → List ℕ → Reading → Reading
+dataOf strict ids s c =
+    closed s (opened (strict .padding) s c) (fieldsOf strict ids (runHere s (opened (strict .padding) s c)) .last)
 
 unfoldable pub elementOn : ℕ → Fields → ℕ → Reading → ReadElement
 elementOn at f kind (reading.At e v) =
     element.Is (record { place = at; length = e - at; kind = kind; id = f .id; serial = f .serial })
 elementOn at f kind (reading.Refused r) = element.Refused r
 
-unfoldable pub elementAt : ℕ → List Key → List Key → List ℕ → Reading → ReadElement
-elementAt depth ids serials s c =
-    elementOn (placeOf c) (fieldsOf ids serials (runHere s (opened s c))) (valueOf (dataOf ids serials s c))
-    (inside s depth elementType (dataOf ids serials s c))
+unfoldable pub elementAt : Strictness → List Key → List ℕ → Reading → ReadElement
+elementAt strict ids s c =
+    elementOn (placeOf c) (fieldsOf strict ids (runHere s (opened (strict .padding) s c))) (valueOf (dataOf strict ids s c))
+    (inside (strict .padding) s (strict .levels) elementType (dataOf strict ids s c))
 
 -- ---- what the answers tell: the values in the order of the enum, or the refusal
 

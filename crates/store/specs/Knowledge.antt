@@ -1,6 +1,7 @@
 -- "Knowledge: cell knowledge (specialized, GUID 327A35F6-0761-4414-9686-51E900667A4D, one 0x14 inside) holds ranges (GUID,
 -- from, to, both ends known) and entries (one serial number; null adds nothing). Several cell knowledges are united." It is
 -- read from left to right, and each range goes into the list as it is read; a fault ends the reading with the ranges before it.
+-- Who reads it says whether padding is taken, in its headers and in its ranges.
 -- Assumes nothing.
 use mathlib.Core.Path.{_≡_}
 use Prim.Native.Nat.{ℕ, zero, suc, _+_, _-_, _*_, _≤_}
@@ -45,18 +46,18 @@ guidIn (guid′.Refused r) = record { low = 0; high = 0 }
 abbrev pub guidField : List ℕ → ReadingGuid
 guidField d = guidHere d (At 0 0)
 
-abbrev pub fromField : List ℕ → Reading
-fromField d = steps.number d (onGuid (guidField d))
+abbrev pub fromField : Bool → List ℕ → Reading
+fromField padding d = steps.number padding d (onGuid (guidField d))
 
-abbrev pub toField : List ℕ → Reading
-toField d = steps.number d (fromField d)
+abbrev pub toField : Bool → List ℕ → Reading
+toField padding d = steps.number padding d (fromField padding d)
 
 -- 12, "from above to (at the to)", which stands behind the from
-unfoldable pub rangeFields : List ℕ → RangeFields
-rangeFields d =
+unfoldable pub rangeFields : Bool → List ℕ → RangeFields
+rangeFields padding d =
     record {
-      range = rangeOf (guidIn (guidField d)) (valueOf (fromField d)) (valueOf (toField d));
-      last = need (leb (valueOf (fromField d)) (valueOf (toField d))) 12 (placeOf (fromField d)) (toField d);
+      range = rangeOf (guidIn (guidField d)) (valueOf (fromField padding d)) (valueOf (toField padding d));
+      last = need (leb (valueOf (fromField padding d)) (valueOf (toField padding d))) 12 (placeOf (fromField padding d)) (toField padding d);
     }
 
 -- a range, if no fault stands behind it
@@ -64,13 +65,13 @@ unfoldable pub itemOf : Range → Reading → Item
 itemOf x (At e v) = item.Adds e x
 itemOf x (Refused r) = item.Refused r
 
-abbrev pub rangeStart : List ℕ → Reading → Reading
-rangeStart s c = startHere s cellType rangeType plainBit withRoom c
+abbrev pub rangeStart : Bool → List ℕ → Reading → Reading
+rangeStart padding s c = startHere padding s cellType rangeType plainBit withRoom c
 
-unfoldable pub rangeItem : List ℕ → Reading → Item
-rangeItem s c =
-    itemOf (rangeFields (runHere s (rangeStart s c)) .range)
-    (closed s (rangeStart s c) (rangeFields (runHere s (rangeStart s c)) .last))
+unfoldable pub rangeItem : Bool → List ℕ → Reading → Item
+rangeItem padding s c =
+    itemOf (rangeFields padding (runHere s (rangeStart padding s c)) .range)
+    (closed s (rangeStart padding s c) (rangeFields padding (runHere s (rangeStart padding s c)) .last))
 
 -- "entries (one serial number; null adds nothing)"
 unfoldable pub entryOf : ReadingSerial → Reading → Item
@@ -79,16 +80,16 @@ entryOf (serial′.At q number.Null) (At e v) = item.Nothing e
 entryOf (serial′.At q (number.Numbered g x)) (At e v) = item.Adds e (rangeOf g x x)
 entryOf (serial′.Refused r) (At e v) = item.Refused r  -- never: a serial number at fault leaves its run at fault
 
-abbrev pub entryStart : List ℕ → Reading → Reading
-entryStart s c = startHere s cellType entryType plainBit withRoom c
+abbrev pub entryStart : Bool → List ℕ → Reading → Reading
+entryStart padding s c = startHere padding s cellType entryType plainBit withRoom c
 
 abbrev pub entrySerial : List ℕ → ReadingSerial
 entrySerial d = serialHere d (At 0 0)
 
-unfoldable pub entryItem : List ℕ → Reading → Item
-entryItem s c =
-    entryOf (entrySerial (runHere s (entryStart s c)))
-    (closed s (entryStart s c) (onSerial (entrySerial (runHere s (entryStart s c)))))
+unfoldable pub entryItem : Bool → List ℕ → Reading → Item
+entryItem padding s c =
+    entryOf (entrySerial (runHere s (entryStart padding s c)))
+    (closed s (entryStart padding s c) (onSerial (entrySerial (runHere s (entryStart padding s c)))))
 
 -- whether a range or an entry stands here, and which
 unfoldable pub itemNext : List ℕ → Reading → Bool
@@ -97,8 +98,8 @@ itemNext s c = pick (nextIs s rangeType c) true (nextIs s entryType c)
 unfoldable pub itemKind : List ℕ → Reading → ℕ
 itemKind s c = pick (nextIs s rangeType c) rangeType entryType
 
-unfoldable pub itemAt : List ℕ → Reading → Item
-itemAt s c = pick (nextIs s rangeType c) (rangeItem s c) (entryItem s c)
+unfoldable pub itemAt : Bool → List ℕ → Reading → Item
+itemAt padding s c = pick (nextIs s rangeType c) (rangeItem padding s c) (entryItem padding s c)
 
 -- on from behind it
 unfoldable pub onItem : Item → Reading
@@ -136,13 +137,13 @@ standing c k = knowing (k .ranges) (k .table) (k .left) c
 -- ---- the ranges and entries of one cell knowledge, and its end; 9 at the first header too many, null entries
 -- counted (D-17)
 
-unfoldable pub itemsFrom : ℕ → List ℕ → List Range → List ℕ → Reading → Knowing
-itemsFrom zero s l t c =
-    pick (itemNext s c) (knowing l t 0 (startHere s cellType (itemKind s c) plainBit noRoom c))
+unfoldable pub itemsFrom : Bool → ℕ → List ℕ → List Range → List ℕ → Reading → Knowing
+itemsFrom padding zero s l t c =
+    pick (itemNext s c) (knowing l t 0 (startHere padding s cellType (itemKind s c) plainBit noRoom c))
     (knowing l t 0 (endHere s cellType c))
-itemsFrom (suc left) s l t c =
+itemsFrom padding (suc left) s l t c =
     pick (itemNext s c)
-    (itemsFrom left s (united (itemAt s c) l) (laidRanges (united (itemAt s c) l) t) (onItem (itemAt s c)))
+    (itemsFrom padding left s (united (itemAt padding s c) l) (laidRanges (united (itemAt padding s c) l) t) (onItem (itemAt padding s c)))
     (knowing l t (suc left) (endHere s cellType c))
 
 -- ---- one specialized knowledge
@@ -156,28 +157,28 @@ isCell (guid′.At p g) = pick (eqb (g .low) (cellGuid .low)) (eqb (g .high) (ce
 isCell (guid′.Refused r) = false
 
 -- "specialized knowledge 16"
-unfoldable pub specializedGuid : List ℕ → Reading → ReadingGuid
-specializedGuid s c = guidHere s (startOfLength s knowledgeType specializedType compoundBit withRoom 16 c)
+unfoldable pub specializedGuid : Bool → List ℕ → Reading → ReadingGuid
+specializedGuid padding s c = guidHere s (startOfLength padding s knowledgeType specializedType compoundBit withRoom 16 c)
 
 -- its end
 abbrev pub cellEnd : List ℕ → Knowing → Knowing
 cellEnd s k = standing (endHere s specializedType (k .last)) k
 
 -- "one 0x14 inside"
-unfoldable pub cellFrom : List ℕ → Knowing → Reading → Knowing
-cellFrom s k c = cellEnd s (itemsFrom (k .left) s (k .ranges) (k .table) (startOfLength s specializedType cellType compoundBit withRoom 0 c))
+unfoldable pub cellFrom : Bool → List ℕ → Knowing → Reading → Knowing
+cellFrom padding s k c = cellEnd s (itemsFrom padding (k .left) s (k .ranges) (k .table) (startOfLength padding s specializedType cellType compoundBit withRoom 0 c))
 
 -- other kinds are "checked for nesting and passed over", with so many levels left inside
-unfoldable pub specializedFrom : ℕ → List ℕ → Knowing → Knowing
-specializedFrom depth s k =
-    pick (isCell (specializedGuid s (k .last))) (cellFrom s k (onGuid (specializedGuid s (k .last))))
-    (standing (inside s depth specializedType (onGuid (specializedGuid s (k .last)))) k)
+unfoldable pub specializedFrom : Bool → ℕ → List ℕ → Knowing → Knowing
+specializedFrom padding depth s k =
+    pick (isCell (specializedGuid padding s (k .last))) (cellFrom padding s k (onGuid (specializedGuid padding s (k .last))))
+    (standing (inside padding s depth specializedType (onGuid (specializedGuid padding s (k .last)))) k)
 
 -- ---- the whole
 
-unfoldable pub knowledgeTurn : ℕ → List ℕ → Knowing → Turn Knowing Knowing
-knowledgeTurn depth s k =
-    pick (nextIs s specializedType (k .last)) (more (specializedFrom depth s k)) (done (standing (endHere s knowledgeType (k .last)) k))
+unfoldable pub knowledgeTurn : Bool → ℕ → List ℕ → Knowing → Turn Knowing Knowing
+knowledgeTurn padding depth s k =
+    pick (nextIs s specializedType (k .last)) (more (specializedFrom padding depth s k)) (done (standing (endHere s knowledgeType (k .last)) k))
 
 -- the bytes that are left: they fall with each turn
 unfoldable pub toGo : List ℕ → Reading → ℕ
@@ -188,12 +189,12 @@ toGo s (Refused r) = 0
 abbrev pub unreached : Knowing
 unreached = knowing [] [] 0 (Refused (faultAt 0 0))
 
-unfoldable pub knowledgeFrom : ℕ → List ℕ → Knowing → Knowing
-knowledgeFrom depth s k = iterate (λ m. knowledgeTurn depth s m) (λ m. toGo s (m .last)) unreached k
+unfoldable pub knowledgeFrom : Bool → ℕ → List ℕ → Knowing → Knowing
+knowledgeFrom padding depth s k = iterate (λ m. knowledgeTurn padding depth s m) (λ m. toGo s (m .last)) unreached k
 
 -- with so many ranges and entries allowed in all; the knowledge has no fields, and stands inside an open object of type `outer`
-unfoldable pub knowledgeAt : ℕ → ℕ → ℕ → List ℕ → List ℕ → Reading → Knowing
-knowledgeAt allowed depth outer s t c = knowledgeFrom depth s (knowing [] t allowed (startOfLength s outer knowledgeType compoundBit withRoom 0 c))
+unfoldable pub knowledgeAt : Bool → ℕ → ℕ → ℕ → List ℕ → List ℕ → Reading → Knowing
+knowledgeAt padding allowed depth outer s t c = knowledgeFrom padding depth s (knowing [] t allowed (startOfLength padding s outer knowledgeType compoundBit withRoom 0 c))
 
 -- ---- what reading answers, and what the working table then holds
 

@@ -6,3 +6,4 @@ pub mod Accessor
 pub mod Written
 pub mod Knowledge
 pub mod KnowledgeWritten
+pub mod Held

@@ -1,6 +1,6 @@
 -- The working tables of a store, and all that hangs on their layout: how many numbers a row and an id have, how many elements there may
--- be, what a row and an id are as numbers, and the elements and keys that stand in the tables. Whoever gives a row another column or
--- another order changes this page.
+-- be, what a row and an id are as numbers, and the elements and keys that stand in the tables, in the store's order. The lent table has its
+-- own order, and a rank in each row (`specs/Order` of `order`).
 -- Assumes nothing.
 use mathlib.Core.Path.{_≡_}
 use mathlib.Core.Bool.{false}
@@ -29,7 +29,7 @@ serialColumn = 3
 abbrev pub mostElements : ℕ
 mostElements = 256
 
--- "1,536 numbers": a table with room for the rows of all of them
+-- a working table with room for the rows of all of them
 abbrev pub rowNumbers : ℕ
 rowNumbers = 1536
 
@@ -68,13 +68,11 @@ keyMarks = 4096
 abbrev pub Marked : List ℕ → List Key → Type 0
 Marked marks keys = (k : Key) → getD marks (markOf keyMarks k) 0 ≡ 0 → seen sameKey k keys ≡ false
 
--- both tables and both runs of marks, with n rows in them
-pub record Lent (rows serialMarks ids idMarks : List ℕ) (n : ℕ) : Type 0 where
-  pub stand : RowsStand rows ids n
-  pub serial-mark-room : keyMarks ≤ length serialMarks
-  pub id-mark-room : keyMarks ≤ length idMarks
-  pub serials-marked : Marked serialMarks (serialKeys rows n)
-  pub ids-marked : Marked idMarks (idKeys ids n)
+-- the table of ids with n ids in it, and their marks
+pub record Lent (ids marks : List ℕ) (n : ℕ) : Type 0 where
+  pub id-room : n * idWidth ≤ length ids
+  pub mark-room : keyMarks ≤ length marks
+  pub marked : Marked marks (idKeys ids n)
 
 -- ---- what stands in the tables
 

@@ -2,12 +2,10 @@
 ghost use mathlib.Core.Path.{_≡_};
 ghost use Prim.Native.Nat.{_*_, _≤_};
 ghost use lib.ListN.{length};
-ghost use Rattle.store.specs.Element.{keyOf, namedKey, numberedKey, freshKey, keyHere, onKey, idField, serialField, fieldsOf, elementOn, elementAt};
+ghost use Rattle.store.specs.Element.{keyOf, namedKey, numberedKey, anyKey, freshKey, keyHere, onKey, idField, serialField, fieldsOf, elementOn, elementAt};
 ghost use Rattle.objects.specs.Steps.{Behind};
-ghost use Rattle.store.specs.Tables.{rowWidth, idWidth, idKeys, serialKeys, keyMarks, Marked, Lent};
+ghost use Rattle.store.specs.Tables.{idWidth, idKeys, keyMarks, Marked, Lent};
 use crate::table::ID_WIDTH;
-use crate::table::ROW_WIDTH;
-use crate::table::SERIAL_COLUMN;
 use crate::table::seen_key;
 use numbers::extended_guid::ExtendedGuid;
 use numbers::guid::Guid;
@@ -39,6 +37,14 @@ pub struct Element {
     pub kind: u64,
     pub id: Key,
     pub serial: Key,
+}
+
+// How strictly the elements of a package are read, which goes by what the package stands in: whether padding is taken, how many levels
+// are left inside an element, and whether serial numbers are judged (10) or only their form is.
+pub struct Strictness {
+    pub padding: bool,
+    pub levels: usize,
+    pub serials: bool,
 }
 
 // The place behind an id or a serial number, and it.
@@ -96,6 +102,26 @@ fn numbered_key(c: ReadingSerial, p: usize) -> ReadingKey
     }
 }
 
+// A serial number of which only the form counts: a null one is a key of zeros.
+fn any_key(c: ReadingSerial) -> ReadingKey
+    ensures { λ r. ⌜ r ≡ anyKey c ⌝ }
+{
+    match c {
+        ReadingSerial::Refused(r) => ReadingKey::Refused(r),
+        ReadingSerial::At(q, x) => match x {
+            Serial::Null => ReadingKey::At(
+                q,
+                Key {
+                    low: 0,
+                    high: 0,
+                    number: 0,
+                },
+            ),
+            Serial::Numbered(g, number) => ReadingKey::At(q, key_of(g, number)),
+        },
+    }
+}
+
 impl ReadingKey {
     // It stands at p and must not have been seen before.
     fn fresh(self, p: usize, was: bool) -> ReadingKey
@@ -146,57 +172,47 @@ fn id_field(d: &[u8], ids: &[u64], marks: &[u8], n: usize) -> ReadingKey
     c.fresh(0, was)
 }
 
-// The serial number behind it, with n rows before.
-fn serial_field(d: &[u8], c: Reading, rows: &[u64], marks: &[u8], n: usize) -> ReadingKey
-    requires { ⌜ (n * rowWidth ≤ length (now rows)) × (keyMarks ≤ length (now marks)) × Marked (now marks) (serialKeys (now rows) n) ⌝ }
-    ensures { λ r. ⌜ r ≡ serialField (serialKeys (now (rows .entry)) n) (now (d .entry)) c ⌝ }
+// The serial number behind it, which must not be null if serial numbers are judged. It may stand twice: "11 is kept for ids only".
+fn serial_field(d: &[u8], c: Reading, strict: Strictness) -> ReadingKey
+    ensures { λ r. ⌜ r ≡ serialField (strict .serials) (now (d .entry)) c ⌝ }
 {
-    let p = c.place();
-    let k = numbered_key(c.serial(d), p);
-    let was = seen_key(rows, marks, SERIAL_COLUMN, ROW_WIDTH, n, k.key());
-    k.fresh(p, was)
+    if strict.serials {
+        return numbered_key(c.serial(d), c.place());
+    }
+    any_key(c.serial(d))
 }
 
-// The fields of an element, in the part that its data run is.
-fn read_fields(
-    d: &[u8],
-    rows: &[u64],
-    rowmarks: &[u8],
-    ids: &[u64],
-    idmarks: &[u8],
-    n: usize,
-) -> Fields
-    requires { ⌜ Lent (now rows) (now rowmarks) (now ids) (now idmarks) n ⌝ }
-    ensures { λ r. ⌜ r ≡ fieldsOf (idKeys (now (ids .entry)) n) (serialKeys (now (rows .entry)) n) (now (d .entry)) ⌝ }
+// The fields of an element, in the part that its data run is, with n ids seen before.
+fn read_fields(d: &[u8], ids: &[u64], marks: &[u8], n: usize, strict: Strictness) -> Fields
+    requires { ⌜ Lent (now ids) (now marks) n ⌝ }
+    ensures { λ r. ⌜ r ≡ fieldsOf strict (idKeys (now (ids .entry)) n) (now (d .entry)) ⌝ }
 {
-    let i = id_field(d, ids, idmarks, n);
-    let k = serial_field(d, i.on(), rows, rowmarks, n);
+    let i = id_field(d, ids, marks, n);
+    let k = serial_field(d, i.on(), strict);
     Fields {
         id: i.key(),
         serial: k.key(),
-        last: k.on().number(d),
+        last: k.on().number(d, strict.padding),
     }
 }
 
-// The element that begins here, with so many levels for what is inside it.
+// The element that begins here, with n ids seen before.
 pub(crate) fn read_element(
     s: &[u8],
     c: Reading,
-    depth: usize,
-    rows: &[u64],
-    rowmarks: &[u8],
     ids: &[u64],
-    idmarks: &[u8],
+    marks: &[u8],
     n: usize,
+    strict: Strictness,
 ) -> ReadElement
-    requires { ⌜ Lent (now rows) (now rowmarks) (now ids) (now idmarks) n ⌝ }
-    ensures { λ r. ⌜ r ≡ elementAt depth (idKeys (now (ids .entry)) n) (serialKeys (now (rows .entry)) n) (now (s .entry)) c ⌝ }
+    requires { ⌜ Lent (now ids) (now marks) n ⌝ }
+    ensures { λ r. ⌜ r ≡ elementAt strict (idKeys (now (ids .entry)) n) (now (s .entry)) c ⌝ }
 {
-    let o = c.start(s, PACKAGE, ELEMENT, COMPOUND, ROOM);
-    let f = read_fields(o.run(s), rows, rowmarks, ids, idmarks, n);
+    let o = c.start(s, PACKAGE, ELEMENT, COMPOUND, ROOM, strict.padding);
+    let f = read_fields(o.run(s), ids, marks, n, strict);
     let last = f.last;
     let k = o.closed(s, last);
-    let e = k.inside(s, depth, ELEMENT);
+    let e = k.inside(s, strict.levels, ELEMENT, strict.padding);
     element_on(c.place(), f, k.value(), e)
 }
 

@@ -47,12 +47,12 @@ fn guid_in(c: ReadingGuid) -> Guid
 }
 
 // The fields of a range, in the part that its data run is.
-fn range_fields(d: &[u8]) -> RangeFields
-    ensures { λ r. ⌜ r ≡ rangeFields (now (d .entry)) ⌝ }
+fn range_fields(d: &[u8], padding: bool) -> RangeFields
+    ensures { λ r. ⌜ r ≡ rangeFields padding (now (d .entry)) ⌝ }
 {
     let g = Reading::At(0, 0).guid(d);
-    let from = g.on().number(d);
-    let to = from.number(d);
+    let from = g.on().number(d, padding);
+    let to = from.number(d, padding);
     let first = from.value();
     let second = to.value();
     RangeFields {
@@ -73,8 +73,8 @@ fn item_of(x: Range, c: Reading) -> Item
 
 // The start of a range. Most are of two bytes, and these are told by them alone, as one number: the first byte below, and above it
 // twice the length, which is below 128 there.
-fn range_start(s: &[u8], c: Reading) -> Reading
-    ensures { λ r. ⌜ r ≡ rangeStart (now (s .entry)) c ⌝ }
+fn range_start(s: &[u8], c: Reading, padding: bool) -> Reading
+    ensures { λ r. ⌜ r ≡ rangeStart padding (now (s .entry)) c ⌝ }
 {
     match c {
         Reading::Refused(r) => Reading::Refused(r),
@@ -86,17 +86,17 @@ fn range_start(s: &[u8], c: Reading) -> Reading
                     return Reading::At(at + 2, n);
                 }
             }
-            c.start(s, CELL, RANGE, PLAIN, ROOM)
+            c.start(s, CELL, RANGE, PLAIN, ROOM, padding)
         }
     }
 }
 
 // The range that begins here.
-fn range_item(s: &[u8], c: Reading) -> Item
-    ensures { λ r. ⌜ r ≡ rangeItem (now (s .entry)) c ⌝ }
+fn range_item(s: &[u8], c: Reading, padding: bool) -> Item
+    ensures { λ r. ⌜ r ≡ rangeItem padding (now (s .entry)) c ⌝ }
 {
-    let o = range_start(s, c);
-    let f = range_fields(o.run(s));
+    let o = range_start(s, c, padding);
+    let f = range_fields(o.run(s), padding);
     let last = f.last;
     let x = f.range;
     item_of(x, o.closed(s, last))
@@ -119,10 +119,10 @@ fn entry_of(k: ReadingSerial, c: Reading) -> Item
 }
 
 // The entry that begins here.
-fn entry_item(s: &[u8], c: Reading) -> Item
-    ensures { λ r. ⌜ r ≡ entryItem (now (s .entry)) c ⌝ }
+fn entry_item(s: &[u8], c: Reading, padding: bool) -> Item
+    ensures { λ r. ⌜ r ≡ entryItem padding (now (s .entry)) c ⌝ }
 {
-    let o = c.start(s, CELL, ENTRY, PLAIN, ROOM);
+    let o = c.start(s, CELL, ENTRY, PLAIN, ROOM, padding);
     let k = Reading::At(0, 0).serial(o.run(s));
     entry_of(k, o.closed(s, k.on()))
 }
@@ -148,13 +148,13 @@ pub(crate) fn item_kind(s: &[u8], c: Reading) -> u64
 }
 
 // The range or the entry that begins here.
-pub(crate) fn read_item(s: &[u8], c: Reading) -> Item
-    ensures { λ r. ⌜ r ≡ itemAt (now (s .entry)) c ⌝ }
+pub(crate) fn read_item(s: &[u8], c: Reading, padding: bool) -> Item
+    ensures { λ r. ⌜ r ≡ itemAt padding (now (s .entry)) c ⌝ }
 {
     if c.next_is(s, RANGE) {
-        return range_item(s, c);
+        return range_item(s, c, padding);
     }
-    entry_item(s, c)
+    entry_item(s, c, padding)
 }
 
 impl Item {

@@ -67,23 +67,30 @@ fn unite(table: &mut [u64], rows: usize, item: Item) -> usize
 }
 
 // The ranges and entries of a cell knowledge, and its end.
-fn read_items(s: &[u8], c: Reading, table: &mut [u64], rows: usize, allowed: usize) -> Known
+fn read_items(
+    s: &[u8],
+    c: Reading,
+    table: &mut [u64],
+    rows: usize,
+    allowed: usize,
+    padding: bool,
+) -> Known
     requires { ⌜ ((rows + allowed) * rangeWidth ≤ length (now table)) × Normal (rangesAt (now table) 0 rows) ⌝ }
-    ensures { λ r. ⌜ KnownIs (itemsFrom allowed (now (s .entry)) (rangesAt (now (table .entry)) 0 rows) (now (table .entry)) c) r (now (table .exit)) ⌝ }
+    ensures { λ r. ⌜ KnownIs (itemsFrom padding allowed (now (s .entry)) (rangesAt (now (table .entry)) 0 rows) (now (table .entry)) c) r (now (table .exit)) ⌝ }
 {
     let mut at = c;
     let mut n = rows;
     let mut left = allowed;
     while item_next(s, at) {
         if left == 0 {
-            let last = at.start(s, CELL, item_kind(s, at), PLAIN, NO_ROOM);
+            let last = at.start(s, CELL, item_kind(s, at), PLAIN, NO_ROOM, padding);
             return Known {
                 rows: n,
                 left,
                 last,
             };
         }
-        let item = read_item(s, at);
+        let item = read_item(s, at, padding);
         n = unite(table, n, item);
         at = item.on();
         left -= 1;
@@ -111,12 +118,19 @@ fn is_cell(c: ReadingGuid) -> bool
 }
 
 // A cell knowledge, from behind its GUID.
-fn read_cell(s: &[u8], c: Reading, table: &mut [u64], rows: usize, left: usize) -> Known
+fn read_cell(
+    s: &[u8],
+    c: Reading,
+    table: &mut [u64],
+    rows: usize,
+    left: usize,
+    padding: bool,
+) -> Known
     requires { ⌜ ((rows + left) * rangeWidth ≤ length (now table)) × Normal (rangesAt (now table) 0 rows) ⌝ }
-    ensures { λ r. ⌜ KnownIs (cellFrom (now (s .entry)) (knowing (rangesAt (now (table .entry)) 0 rows) (now (table .entry)) left c) c) r (now (table .exit)) ⌝ }
+    ensures { λ r. ⌜ KnownIs (cellFrom padding (now (s .entry)) (knowing (rangesAt (now (table .entry)) 0 rows) (now (table .entry)) left c) c) r (now (table .exit)) ⌝ }
 {
-    let o = c.start_of_length(s, SPECIALIZED, CELL, COMPOUND, ROOM, 0);
-    let k = read_items(s, o, table, rows, left);
+    let o = c.start_of_length(s, SPECIALIZED, CELL, COMPOUND, ROOM, 0, padding);
+    let k = read_items(s, o, table, rows, left, padding);
     let last = k.last;
     Known {
         rows: k.rows,
@@ -133,20 +147,21 @@ fn read_specialized(
     table: &mut [u64],
     rows: usize,
     left: usize,
+    padding: bool,
 ) -> Known
     requires { ⌜ ((rows + left) * rangeWidth ≤ length (now table)) × Normal (rangesAt (now table) 0 rows) ⌝ }
-    ensures { λ r. ⌜ KnownIs (specializedFrom depth (now (s .entry)) (knowing (rangesAt (now (table .entry)) 0 rows) (now (table .entry)) left c)) r (now (table .exit)) ⌝ }
+    ensures { λ r. ⌜ KnownIs (specializedFrom padding depth (now (s .entry)) (knowing (rangesAt (now (table .entry)) 0 rows) (now (table .entry)) left c)) r (now (table .exit)) ⌝ }
 {
-    let o = c.start_of_length(s, KNOWLEDGE, SPECIALIZED, COMPOUND, ROOM, 16);
+    let o = c.start_of_length(s, KNOWLEDGE, SPECIALIZED, COMPOUND, ROOM, 16, padding);
     let g = Reading::At(0, 0).guid(o.run(s));
     let behind = o.closed(s, g.on());
     if is_cell(g) {
-        return read_cell(s, behind, table, rows, left);
+        return read_cell(s, behind, table, rows, left, padding);
     }
     Known {
         rows,
         left,
-        last: behind.inside(s, depth, SPECIALIZED),
+        last: behind.inside(s, depth, SPECIALIZED, padding),
     }
 }
 
@@ -162,8 +177,8 @@ pub fn answer(rows: usize, c: Reading) -> ReadKnowledge
 
 // The knowledge that begins here, inside an open object of type `outer`, with so many levels inside a specialized knowledge
 // of another kind: 12 in a request, where four objects are open there. At most `allowed` ranges and entries may come, and the table
-// has room for them. It then holds the ranges in normal form; on a refusal, those before the fault. Ruled out
-// (proofs/KnowledgeWrongAnswers), of `84 00 41`: one row; a number of the table put to 0.
+// has room for them. It then holds the ranges in normal form; on a refusal, those before the fault. Padding is refused in a request and
+// taken in an answer. Ruled out (proofs/KnowledgeWrongAnswers), of `84 00 41`: one row; a number of the table put to 0.
 pub fn read_knowledge(
     s: &[u8],
     c: Reading,
@@ -171,15 +186,16 @@ pub fn read_knowledge(
     depth: usize,
     allowed: usize,
     table: &mut [u64],
+    padding: bool,
 ) -> ReadKnowledge
     requires { ⌜ allowed * rangeWidth ≤ length (now table) ⌝ }
-    ensures { λ r. ⌜ ReadsKnowledge (knowledgeAt allowed depth outer (now (s .entry)) (now (table .entry)) c) r (now (table .exit)) ⌝ }
+    ensures { λ r. ⌜ ReadsKnowledge (knowledgeAt padding allowed depth outer (now (s .entry)) (now (table .entry)) c) r (now (table .exit)) ⌝ }
 {
-    let mut at = c.start_of_length(s, outer, KNOWLEDGE, COMPOUND, ROOM, 0);
+    let mut at = c.start_of_length(s, outer, KNOWLEDGE, COMPOUND, ROOM, 0, padding);
     let mut n = 0;
     let mut left = allowed;
     while at.next_is(s, SPECIALIZED) {
-        let k = read_specialized(s, at, depth, table, n, left);
+        let k = read_specialized(s, at, depth, table, n, left, padding);
         n = k.rows;
         left = k.left;
         at = k.last;

@@ -55,7 +55,7 @@ pub fn ranges_length(table: &[u64], first: usize, rows: usize) -> usize
 
 // How many bytes the knowledge of the first rows takes. Ruled out (proofs/KnowledgeWrongAnswers): 28 for no row, as without
 // a range there is no cell knowledge; 44 for one short range, its four bytes of ends not counted.
-fn knowledge_length(table: &[u64], rows: usize) -> usize
+pub fn knowledge_length(table: &[u64], rows: usize) -> usize
     requires { ⌜ (rows ≤ mostSaid) × (rows * rangeWidth ≤ length (now table)) ⌝ }
     ensures { λ r. ⌜ (r ≡ length (knowledgeBytes (rangesAt (now (table .entry)) 0 rows))) × (r ≤ 28 + mostSaid * 36) ⌝ }
 {

@@ -1,5 +1,6 @@
 // The working tables of a store: rows of six numbers (place, length, type, the serial's GUID as two little-endian numbers,
-// the serial's number) and ids of three (the GUID as two numbers, the number). No other file knows their columns.
+// the serial's number) and ids of three (the GUID as two numbers, the number). No other file knows their columns; `order` writes
+// the rows of the lent table, which have a rank besides.
 ghost use mathlib.Core.Path.{_≡_};
 ghost use mathlib.Core.List.{_++_};
 ghost use Prim.Native.Nat.{_+_, _*_, _≤_, _<_};
@@ -102,8 +103,8 @@ fn search_key(t: &[u64], offset: usize, width: usize, n: usize, k: Key) -> bool
     false
 }
 
-// The row of an element behind n rows.
-pub(crate) fn put_row(t: &mut [u64], n: usize, x: Element)
+// The row of an element behind n rows. Ruled out (proofs/WrongAnswers): the length for the place; a row without its serial number.
+pub fn put_row(t: &mut [u64], n: usize, x: Element)
     requires { ⌜ n * rowWidth + rowWidth ≤ length (now t) ⌝ }
     ensures { λ _. ⌜ now (t .exit) ≡ take (n * rowWidth) (now (t .entry)) ++ (rowOf x ++ drop (n * rowWidth + rowWidth) (now (t .entry))) ⌝ }
 {
@@ -117,8 +118,8 @@ pub(crate) fn put_row(t: &mut [u64], n: usize, x: Element)
     t[at + 5] = serial.number;
 }
 
-// An id behind n ids.
-pub(crate) fn put_id(t: &mut [u64], n: usize, k: Key)
+// An id behind n ids. Ruled out (proofs/WrongAnswers): its halves turned; the number alone.
+pub fn put_id(t: &mut [u64], n: usize, k: Key)
     requires { ⌜ n * idWidth + idWidth ≤ length (now t) ⌝ }
     ensures { λ _. ⌜ now (t .exit) ≡ take (n * idWidth) (now (t .entry)) ++ (idOf k ++ drop (n * idWidth + idWidth) (now (t .entry))) ⌝ }
 {

@@ -1,5 +1,6 @@
 pub mod Order
 pub mod Insertion
+pub mod OneMore
 pub mod Membership
 pub mod OneForm
 pub mod Bounds

@@ -1,6 +1,6 @@
 -- A series of answers, each of which takes from the front of what is still wanted, does what demand 3 says (`converges`): the state of
 -- the series is the list that is still wanted. And steps that can always be made can be made any number of times (`chain-exists`). A
--- reader needs the statements of marked-carries, converges, all-sent and chain-exists only.
+-- reader needs the statements of marked-carries, converges, unmarked-sent, all-sent and chain-exists only.
 -- Assumes nothing.
 use mathlib.Core.Path.{_≡_, refl, sym, _∙_, ap}
 use mathlib.Core.Bool.{Bool, true, false}
@@ -141,12 +141,13 @@ module _ {E : Type 0} where
   joined-append [] t = refl
   joined-append (a ∷ s) t = rw (append-assoc, joined-append s t)
 
-  -- with an answer for each thing wanted (one, if nothing is), all is sent
+  -- where an answer is unmarked, all is sent
+  pub unmarked-sent : {w : List E} {answers : List (Answer E)} → Converges w answers → FirstUnmarked answers → joinedPages answers ≡ w
+  unmarked-sent {w} {answers} v f =
+      let a = v .whole (f .before) (f .after) (f .first) (f .split) (f .unmarked) in
+      let e : joinedPages answers ≡ joinedPages ((f .before ++ (f .first ∷ [])) ++ f .after) = rw (f .split, append-assoc) in
+      e ∙ joined-append (f .before ++ (f .first ∷ [])) (f .after) ∙ (rw (a .1, append-nil) (a .0))
+
+  -- so it is with an answer for each thing wanted (one, if nothing is)
   pub all-sent : {w : List E} {answers : List (Answer E)} → Converges w answers → max 1 (length w) ≤ length answers → joinedPages answers ≡ w
-  all-sent {w} {answers} v h = from (v .soon h .0)
-    where
-      from : FirstUnmarked answers → joinedPages answers ≡ w
-      from f =
-          let a = v .whole (f .before) (f .after) (f .first) (f .split) (f .unmarked) in
-          let e : joinedPages answers ≡ joinedPages ((f .before ++ (f .first ∷ [])) ++ f .after) = rw (f .split, append-assoc) in
-          e ∙ joined-append (f .before ++ (f .first ∷ [])) (f .after) ∙ (rw (a .1, append-nil) (a .0))
+  all-sent v h = unmarked-sent v (v .soon h .0)

@@ -7,7 +7,7 @@ use lib.ListN.{length, length-replicate}
 use Rattle.store.specs.Accessor.{tellFound}
 use Rattle.store.specs.Tables.{idWidth, mostElements, rowNumbers}
 use Rattle.store.proofs.Found.{found-row, found-none, package-most, laid-long, full-rows}
-use Rattle.client.specs.Read.{responseStart, packageIn}
+use Rattle.client.specs.Read.{responseStart, packageIn, answerStrictness}
 use Rattle.client.proofs.AnswerRest.{answer-refused, answer-is, rows-received, ids-received}
 use borrow.Author.Needs.{needs}
 use Rattle.client.proofs.accessor.find_received.Statement.{statement}
@@ -39,7 +39,7 @@ long c =
     let r = k .before .before in
     let a = r .before .before .before .before .args in
     let q = answer-is (a .s .now) (k .x .given .0 .0) (sym (r .read-rows .ensures .0) ∙ k .x .given .1) in
-    laid-long (packageIn (a .s .now)) _ _ _ _ (package-most 0x62 (a .s .now) (responseStart (a .s .now))) (length-replicate {A = ℕ} rowNumbers 0) (length-replicate {A = ℕ} (mostElements * idWidth) 0) (r .read-rows .ensures .1 ∙ rows-received (a .s .now) _ (q .1)) (r .read-rows .ensures .2 ∙ ids-received (a .s .now) _ (q .1))
+    laid-long (packageIn (a .s .now)) _ _ _ _ (package-most answerStrictness 0x62 (a .s .now) (responseStart (a .s .now))) (length-replicate {A = ℕ} rowNumbers 0) (length-replicate {A = ℕ} (mostElements * idWidth) 0) (r .read-rows .ensures .1 ∙ rows-received (a .s .now) _ (q .1)) (r .read-rows .ensures .2 ∙ ids-received (a .s .now) _ (q .1))
 
 slice-aggregate-element-in-row : tie.Need-slice-aggregate-element-in-row
 slice-aggregate-element-in-row c = long (c .before) .0
@@ -53,7 +53,7 @@ element-in-row-requires c κs =
     let k = x .before .before .before in
     let a = k .before .before .before .before .before .before .args in
     let q = answer-is (a .s .now) (k .x .given .0 .0) (sym (k .before .before .read-rows .ensures .0) ∙ k .x .given .1) in
-    let m = package-most 0x62 (a .s .now) (responseStart (a .s .now)) in
+    let m = package-most answerStrictness 0x62 (a .s .now) (responseStart (a .s .now)) in
     full-rows _ _ _ (long x .0) (long x .1) (omega arith)
 
 returns-2 : tie.Need-returns-2

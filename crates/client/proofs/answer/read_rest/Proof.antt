@@ -2,10 +2,8 @@
 -- between its start and its end.
 -- Assumes nothing.
 use mathlib.Core.Path.{_≡_, sym, _∙_}
-use Rattle.store.specs.Knowledge.{mostSaid}
-use Rattle.client.specs.Read.{changes, knowledgeIn, markAt, knowledgeEnd, receivedFrom, restOf, answerOn}
+use Rattle.client.specs.Read.{changes, markAt, knowledgeEnd, receivedFrom, restOf, answerOn}
 use Rattle.client.proofs.AnswerWithin.{good-changes-fields}
-use Rattle.client.proofs.KnowledgeOn.{knowledge-on}
 use Rattle.client.proofs.AnswerRest.{knowledge-forward}
 use borrow.Author.Needs.{needs}
 use Rattle.client.proofs.answer.read_rest.Statement.{statement}
@@ -26,14 +24,8 @@ changes-fields-requires c κs = search needs
 closed-requires : tie.Need-closed-requires
 closed-requires c κs = rw (c .changes-fields .ensures, c .before .run .ensures) (good-changes-fields _)
 
-slice-aggregate-read-knowledge : tie.Need-slice-aggregate-read-knowledge
-slice-aggregate-read-knowledge c = search needs
-
-read-knowledge-requires : tie.Need-read-knowledge-requires
-read-knowledge-requires c κs = search needs
-
-on-knowledge-requires : tie.Need-on-knowledge-requires
-on-knowledge-requires c κs = search needs
+behind-knowledge-requires : tie.Need-behind-knowledge-requires
+behind-knowledge-requires c κs = search needs
 
 ends-requires : tie.Need-ends-requires
 ends-requires c κs = search needs
@@ -66,27 +58,23 @@ place-requires-3 : tie.Need-place-requires-3
 place-requires-3 c κs = search needs
 
 -- what stands behind the storage index, behind the knowledge, and at the end
-mark-is : (c : tie.After-ends) → c .before .before .before .before .before .closed .result ≡ markAt (c .before .before .before .before .before .before .before .before .before .before .before .args .s .now) (c .before .before .before .before .before .before .before .before .before .before .before .args .c)
+mark-is : (c : tie.After-ends) → c .before .before .closed .result ≡ markAt (c .before .before .before .before .before .before .before .before .args .s .now) (c .before .before .before .before .before .before .before .before .args .c)
 unfolding changes
 mark-is c =
-    let k = c .before .before .before .before .before in
+    let k = c .before .before in
     rw (k .closed .ensures, k .before .changes-fields .ensures, k .before .before .run .ensures, k .before .before .before .start .ensures, k .before .before .before .before .sub-response .ensures)
 
-knowledge-is : (c : tie.After-ends) → c .before .on-knowledge .result ≡ knowledgeEnd (c .before .before .before .before .before .before .before .before .before .before .before .args .s .now) (c .before .before .before .before .before .before .before .before .before .before .before .args .c)
-unfolding knowledgeIn
-knowledge-is c =
-    c .before .on-knowledge .ensures
-    ∙ knowledge-on mostSaid 13 0x41 (c .before .before .before .before .before .before .before .before .before .before .before .args .s .now) _ _ _ _ (c .before .before .before .read-knowledge .ensures)
-    ∙ rw (mark-is c)
+knowledge-is : (c : tie.After-ends) → c .before .behind-knowledge .result ≡ knowledgeEnd (c .before .before .before .before .before .before .before .before .args .s .now) (c .before .before .before .before .before .before .before .before .args .c)
+knowledge-is c = c .before .behind-knowledge .ensures ∙ rw (mark-is c)
 
-end-is : (c : tie.After-ends) → c .ends .result ≡ restOf (c .before .before .before .before .before .before .before .before .before .before .before .args .s .now) (c .before .before .before .before .before .before .before .before .before .before .before .args .c)
+end-is : (c : tie.After-ends) → c .ends .result ≡ restOf (c .before .before .before .before .before .before .before .before .args .s .now) (c .before .before .before .before .before .before .before .before .args .c)
 unfolding restOf
 end-is c = c .ends .ensures ∙ rw (knowledge-is c)
 
-sub-t28 : tie.Need-sub-t28
-sub-t28 c =
+sub-t24 : tie.Need-sub-t24
+sub-t24 c =
     let e = c .before .before .before .before .before .before .before .before .before in
-    let a = e .before .before .before .before .before .before .before .before .before .before .before .args in
+    let a = e .before .before .before .before .before .before .before .before .args in
     rw (c .place3 .ensures, c .before .place2 .ensures, mark-is e, knowledge-is e)
     (knowledge-forward (a .s .now) (a .c) _ _ (sym (end-is e) ∙ c .before .before .before .before .before .before .before .enum-told .given .1))
 
@@ -109,9 +97,9 @@ returns-2 c =
       c .before .before .before .before .before .before .value .ensures,
       knowledge-is e,
       mark-is e,
-      e .before .before .before .before .before .before .before .run .ensures,
-      e .before .before .before .before .before .before .before .before .start .ensures,
-      e .before .before .before .before .before .before .before .before .before .sub-response .ensures,
+      e .before .before .before .before .run .ensures,
+      e .before .before .before .before .before .start .ensures,
+      e .before .before .before .before .before .before .sub-response .ensures,
     )
 
 pub read-rest-spec : {M : Type 1} → statement M
@@ -123,9 +111,7 @@ read-rest-spec =
     run-requires
     changes-fields-requires
     closed-requires
-    slice-aggregate-read-knowledge
-    read-knowledge-requires
-    on-knowledge-requires
+    behind-knowledge-requires
     ends-requires
     enum-known-r
     enum-told
@@ -136,6 +122,6 @@ read-rest-spec =
     place-requires
     place-requires-2
     place-requires-3
-    sub-t28
+    sub-t24
     returns
     returns-2)

@@ -28,8 +28,11 @@ package-start-requires c κs = search needs
 place-requires : tie.Need-place-requires
 place-requires c κs = search needs
 
+answer-strictness-requires : tie.Need-answer-strictness-requires
+answer-strictness-requires c κs = search needs
+
 read-package-requires : tie.Need-read-package-requires
-read-package-requires c κs = rw (c .before .before .before .before .response-start .ensures) (good-response-start _)
+read-package-requires c κs = rw (c .before .before .before .before .before .response-start .ensures) (good-response-start _)
 
 enum-known-r : tie.Need-enum-known-r
 enum-known-r c = search needs
@@ -44,20 +47,20 @@ returns-2 : tie.Need-returns-2
 unfolding answerIn answerEnd answerOn valued rowsReceived idsReceived
 returns-2 c =
     let k = c .before .before .before in
-    let s = k .before .before .before .before .before .before .before .before .args .s .now in
-    let h = rw (k .before .before .before .before .before .response-start .ensures) at (k .read-package .ensures) in
+    let s = k .before .before .before .before .before .before .before .before .before .args .s .now in
+    let h = rw (k .before .answer-strictness .ensures, k .before .before .before .before .before .before .response-start .ensures) at (k .read-package .ensures) in
     let q : packageIn s .last ≡ Refused _ = package-refused _ _ _ (sym (h .0) ∙ c .before .r .given .1) in
-    rw (le-ltb _ _ (k .before .before .before .before .before .before .if1 .left)) (rw (q, rest-fault s (c .before .r .given .0 .0)), h .1, h .2)
+    rw (le-ltb _ _ (k .before .before .before .before .before .before .before .if1 .left)) (rw (q, rest-fault s (c .before .r .given .0 .0)), h .1, h .2)
 
 returns-3 : tie.Need-returns-3
 unfolding answerIn answerEnd rowsReceived idsReceived
 returns-3 c =
     let k = c .before .before .before .before in
-    let s = k .before .before .before .before .before .before .before .before .args .s .now in
-    let h = rw (k .before .before .before .before .before .response-start .ensures) at (k .read-package .ensures) in
+    let s = k .before .before .before .before .before .before .before .before .before .args .s .now in
+    let h = rw (k .before .answer-strictness .ensures, k .before .before .before .before .before .before .response-start .ensures) at (k .read-package .ensures) in
     let q = package-holds _ _ _ _ (sym (h .0) ∙ c .before .before .e .given .1) in
-    rw (le-ltb _ _ (k .before .before .before .before .before .before .if1 .left))
-    (rw (c .read-rest .ensures, k .before .before .before .place .ensures, k .before .before .before .before .package-start .ensures, k .before .before .before .before .before .response-start .ensures, q .0, q .1), h .1, h .2)
+    rw (le-ltb _ _ (k .before .before .before .before .before .before .before .if1 .left))
+    (rw (c .read-rest .ensures, k .before .before .before .before .place .ensures, k .before .before .before .before .before .package-start .ensures, k .before .before .before .before .before .before .response-start .ensures, q .0, q .1), h .1, h .2)
 
 pub read-rows-spec : {M : Type 1} → statement M
 read-rows-spec =
@@ -68,6 +71,7 @@ read-rows-spec =
     response-start-requires
     package-start-requires
     place-requires
+    answer-strictness-requires
     read-package-requires
     enum-known-r
     enum-known-e

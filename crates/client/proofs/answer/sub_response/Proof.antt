@@ -16,7 +16,7 @@ sub-response-fields-requires : tie.Need-sub-response-fields-requires
 sub-response-fields-requires c κs = search needs
 
 closed-requires : tie.Need-closed-requires
-closed-requires c κs = rw (c .sub-response-fields .ensures, c .before .run .ensures) (good-sub-response-fields _)
+closed-requires c κs = rw (c .sub-response-fields .ensures, c .before .run .ensures) (good-sub-response-fields _ _)
 
 returns : tie.Need-returns
 unfolding subResponse

@@ -36,7 +36,7 @@ returns-3 c =
     let r = c .before .before .before in
     let e = r .before .before in
     let k = e .before .before .before .args .k .now in
-    rw (c .finish .ensures, c .before .on-knowledge .ensures, knowledge-on mostSaid 12 0x42 k _ _ _ _ (r .read-knowledge .ensures))
+    rw (c .finish .ensures, c .before .on-knowledge .ensures, knowledge-on _ mostSaid 12 0x42 k _ _ _ _ (r .read-knowledge .ensures))
     (given-some k (e .before .if1 .left) (e .if2 .left))
 
 pub knowledge-given-spec : {M : Type 1} → statement M

@@ -1,11 +1,11 @@
--- `compact::form_at` meets its contract: the tests that led to a `return` say which case of `formAt` holds.
+-- `compact::form_at` meets its contract: the tests that led to a `return` say which case of `readCompact` holds.
 -- Assumes nothing.
 use native.Mathlib.Omega.{arith}
 use borrow.Author.Tests.{eq-eqb, ne-eqb}
 use Prim.Native.Nat.{_<_}
 use lib.ListN.{getD}
 use lib.Count.{trailingZeros}
-use Rattle.numbers.specs.Compact.{formAt}
+use Rattle.numbers.specs.Compact.{readCompact}
 use Rattle.numbers.proofs.LowestBit.{zeros-lt}
 use borrow.Author.Needs.{needs}
 use Rattle.numbers.proofs.compact.form_at.Statement.{statement}
@@ -15,14 +15,14 @@ at-front-requires : tie.Need-at-front-requires
 at-front-requires c κs = search needs
 
 returns : tie.Need-returns
-unfolding formAt
+unfolding readCompact
 returns c = rw (eq-eqb _ _ (c .before .if1 .taken), c .at-front .ensures)
 
 shared-slice-read-b : tie.Need-shared-slice-read-b
 shared-slice-read-b c = search needs
 
 returns-2 : tie.Need-returns-2
-unfolding formAt
+unfolding readCompact
 returns-2 c = rw (ne-eqb _ _ (c .before .before .if1 .left), eq-eqb _ _ (c .if2 .taken))
 
 -- the first byte has a set bit
@@ -36,7 +36,7 @@ read-form-requires : tie.Need-read-form-requires
 read-form-requires c κs = omega (arith, form c)
 
 returns-3 : tie.Need-returns-3
-unfolding formAt
+unfolding readCompact
 returns-3 c = rw (ne-eqb _ _ (c .before .before .before .if1 .left), ne-eqb _ _ (c .before .if2 .left)) (c .read-form .ensures)
 
 pub form-at-spec : {M : Type 1} → statement M

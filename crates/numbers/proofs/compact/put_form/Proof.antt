@@ -6,9 +6,9 @@ use borrow.Author.Needs.{needs}
 use native.Mathlib.Omega.{arith}
 use lib.ListN.{length, set, length-set}
 use borrow.Rule.Slice.PartMut.{same-len-mid}
-use Rattle.numbers.specs.Compact.{marked, sizeOf}
+use Rattle.numbers.specs.Compact.{withForm, sizeOf}
 use Rattle.laws.proofs.Parts.{tail-part, tail-length, mid-tail}
-use Rattle.numbers.proofs.Forms.{size-long, size-short, long-put, marked-shl, marked-short}
+use Rattle.numbers.proofs.Forms.{size-long, size-short, long-put, with-form-shl, with-form-short}
 use Rattle.numbers.proofs.compact.put_form.Statement.{statement}
 use Rattle.numbers.proofs.compact.put_form.Tie as tie
 
@@ -47,11 +47,11 @@ add-put-le c = search needs
 
 -- what is written as one number is the value's, and has at most seven bytes
 one-number : (c : tie.Else1) →
-    (c .before .before .args .v * ((1 * 2 ^ c .before .before .args .k) % 2 ^ 64 * 2) + (1 * 2 ^ c .before .before .args .k) % 2 ^ 64 ≡ marked (c .before .before .args .k) (c .before .before .args .v))
-    × (marked (c .before .before .args .k) (c .before .before .args .v) < 256 ^ 7)
+    (c .before .before .args .v * ((1 * 2 ^ c .before .before .args .k) % 2 ^ 64 * 2) + (1 * 2 ^ c .before .before .args .k) % 2 ^ 64 ≡ withForm (c .before .before .args .k) (c .before .before .args .v))
+    × (withForm (c .before .before .args .k) (c .before .before .args .v) < 256 ^ 7)
 one-number c =
     let s = c .before .before in
-    (marked-shl (s .args .k) (s .args .v) (omega arith), marked-short (s .args .k) (s .args .v) (s .pre .0) (c .if1 .left) (s .pre .2))
+    (with-form-shl (s .args .k) (s .args .v) (omega arith), with-form-short (s .args .k) (s .args .v) (s .pre .0) (c .if1 .left) (s .pre .2))
 
 mul-put-le : tie.Need-mul-put-le
 mul-put-le c = omega (arith, one-number (c .before))

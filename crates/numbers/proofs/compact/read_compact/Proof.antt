@@ -12,11 +12,11 @@ over-long-requires c κs = search needs
 returns : tie.Need-returns
 returns c = rw (c .over-long .ensures) (sym (single-over _ _ (c .before .if1 .taken)))
 
-item-requires : tie.Need-item-requires
-item-requires c κs = search needs
+form-at-requires : tie.Need-form-at-requires
+form-at-requires c κs = search needs
 
 returns-2 : tie.Need-returns-2
-returns-2 c = rw (c .item .ensures) (sym (single-item _ _ (c .before .if1 .left)))
+returns-2 c = rw (c .form-at .ensures) (sym (single-item _ _ (c .before .if1 .left)))
 
 pub read-compact-spec : {M : Type 1} → statement M
-read-compact-spec = tie.close (tie.spec over-long-requires returns item-requires returns-2)
+read-compact-spec = tie.close (tie.spec over-long-requires returns form-at-requires returns-2)

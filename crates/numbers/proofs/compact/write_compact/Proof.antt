@@ -4,7 +4,7 @@ use mathlib.Core.Path.{_≡_, sym, ap, _∙_}
 use native.Mathlib.Omega.{arith}
 use lib.ListN.{length}
 use Rattle.numbers.specs.Compact.{sizeOf, compactBytes}
-use Rattle.numbers.proofs.Forms.{form-of-le, marked-lt, compact-is, length-compact}
+use Rattle.numbers.proofs.Forms.{form-of-le, with-form-lt, compact-is, length-compact}
 use Rattle.numbers.proofs.Calls.{wrote-short, wrote-done}
 use borrow.Author.Needs.{needs}
 use Rattle.numbers.proofs.compact.write_compact.Statement.{statement}
@@ -42,7 +42,7 @@ put-form-requires : tie.Need-put-form-requires
 put-form-requires c κs =
     let s = c .before .before .before .before .before .before in
     let e = c .before .before .before .form-of .ensures in
-    (omega (arith, form-of-le (s .args .v)), omega arith, rw e (marked-lt (s .args .v) (s .fits .v .fits)))
+    (omega (arith, form-of-le (s .args .v)), omega arith, rw e (with-form-lt (s .args .v) (s .fits .v .fits)))
 
 same-length-2 : tie.Need-same-length-2
 same-length-2 c = search needs

@@ -11,10 +11,10 @@ use native.Mathlib.Nat.{pow-le-pow-right}
 use Rattle.laws.specs.Bytes.{bytes}
 use Rattle.laws.proofs.Numbers.{length-bytes}
 use Rattle.laws.proofs.Placing.{laid-behind}
-use Rattle.numbers.specs.Compact.{marked}
+use Rattle.numbers.specs.Compact.{withForm}
 use Rattle.numbers.specs.Guid.{guidBytes}
 use Rattle.numbers.specs.ExtendedGuid.{shortBytes}
-use Rattle.numbers.proofs.Forms.{marked-shl}
+use Rattle.numbers.proofs.Forms.{with-form-shl}
 use Rattle.numbers.proofs.ExtendedGuids.{length-short}
 use Rattle.numbers.proofs.Calls.{wrote-short, wrote-done}
 use borrow.Author.Needs.{needs}
@@ -37,12 +37,12 @@ shl-low c = search needs
 
 -- the number that the code writes, of at most three bytes
 one-number : (c : tie.Else1) →
-    (c .before .before .args .x * ((1 * 2 ^ c .before .before .args .k) % 2 ^ 64 * 2) + (1 * 2 ^ c .before .before .args .k) % 2 ^ 64 ≡ marked (c .before .before .args .k) (c .before .before .args .x))
-    × (marked (c .before .before .args .k) (c .before .before .args .x) < 256 ^ 3)
+    (c .before .before .args .x * ((1 * 2 ^ c .before .before .args .k) % 2 ^ 64 * 2) + (1 * 2 ^ c .before .before .args .k) % 2 ^ 64 ≡ withForm (c .before .before .args .k) (c .before .before .args .x))
+    × (withForm (c .before .before .args .k) (c .before .before .args .x) < 256 ^ 3)
 one-number c =
     let s = c .before .before in
     let q : 256 ^ s .args .m ≤ 256 ^ 3 = pow-le-pow-right {n = 256} (lit< tt) {i = s .args .m} {j = 3} (omega arith) in
-    (marked-shl (s .args .k) (s .args .x) (omega arith), omega arith)
+    (with-form-shl (s .args .k) (s .args .x) (omega arith), omega arith)
 
 mul-put-le : tie.Need-mul-put-le
 mul-put-le c = omega (arith, one-number (c .before))
@@ -77,10 +77,10 @@ returns-2 c =
     let k = c .before .before .before .before .before .before in
     let a = k .before .before .before .before .args in
     let e = length-short (a .k) (a .m) (a .g) (a .x) in
-    let w = bytes (a .m) (marked (a .k) (a .x)) in
+    let w = bytes (a .m) (withForm (a .k) (a .x)) in
     wrote-done (shortBytes (a .k) (a .m) (a .g) (a .x)) (a .out .now) _ (a .m + 16) e (k .before .before .if1 .left)
     (rw (mid-tail, c .before .before .put-guid .ensures, tail-part, k .put-le .ensures, one-number (k .before .before) .0)
-    (laid-behind w (guidBytes (a .g)) (drop (a .m) (a .out .now)) (a .m) 16 (length-bytes (a .m) (marked (a .k) (a .x))) ∙ rw (drop-drop 16 (a .m) (a .out .now))))
+    (laid-behind w (guidBytes (a .g)) (drop (a .m) (a .out .now)) (a .m) 16 (length-bytes (a .m) (withForm (a .k) (a .x))) ∙ rw (drop-drop 16 (a .m) (a .out .now))))
 
 pub write-short-spec : {M : Type 1} → statement M
 write-short-spec =

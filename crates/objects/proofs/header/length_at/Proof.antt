@@ -19,7 +19,7 @@ at-place-requires c κs = search needs
 
 returns-2 : tie.Need-returns-2
 unfolding lengthAt
-returns-2 c = rw (eq-eqb _ _ (c .before .before .if1 .left), compact-past _ _ (c .before .if2 .taken), c .at-place .ensures)
+returns-2 c = rw (eq-eqb _ _ (c .before .before .if1 .left), compact-past _ _ _ (c .before .if2 .taken), c .at-place .ensures)
 
 sub-item : tie.Need-sub-item
 sub-item c = search needs
@@ -36,12 +36,12 @@ item-requires c κs = search needs
 enum-known-v : tie.Need-enum-known-v
 enum-known-v c = search needs
 
-add-t15 : tie.Need-add-t15
-add-t15 c =
+add-t16 : tie.Need-add-t16
+add-t16 c =
     let k = c .before .before .before in
     let a = k .before .before .before .before .before .args in
     let e = sym (k .item .ensures) ∙ c .before .v .given .1 in
-    omega (arith, compact-fits (a .s .now) (a .at) _ _ (rw tail-part at e))
+    omega (arith, compact-fits _ (a .s .now) (a .at) _ _ _ (rw tail-part at e))
 
 enum-known-r : tie.Need-enum-known-r
 enum-known-r c = search needs
@@ -75,7 +75,7 @@ length-at-spec =
     part-item-end
     item-requires
     enum-known-v
-    add-t15
+    add-t16
     enum-known-r
     at-place-requires-2
     returns-3

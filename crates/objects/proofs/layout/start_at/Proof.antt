@@ -13,15 +13,15 @@ short-number-requires c κs = search needs
 short-is-requires : tie.Need-short-is-requires
 short-is-requires c κs = search needs
 
-add-t13 : tie.Need-add-t13
-add-t13 c =
+add-t14 : tie.Need-add-t14
+add-t14 c =
     let h = short-is _ _ _ (sym (c .before .before .short-is .ensures) ∙ c .before .if2 .taken) in
     let w = short-room _ _ _ 0 (sym (c .before .before .before .short-number .ensures)) (h .0) (omega arith) in
     omega arith
 
 returns : tie.Need-returns
 returns c =
-    sym (short-start-on _ _ _ _ _ _ _ (sym (c .before .before .before .short-number .ensures)) (sym (c .before .before .short-is .ensures) ∙ c .before .if2 .taken) (c .before .before .before .before .if1 .taken) (c .if3 .taken))
+    sym (short-start-on _ _ _ _ _ _ _ _ (sym (c .before .before .before .short-number .ensures)) (sym (c .before .before .short-is .ensures) ∙ c .before .if2 .taken) (c .before .before .before .before .if1 .taken) (c .if3 .taken))
 
 start-by-header-requires : tie.Need-start-by-header-requires
 start-by-header-requires c κs = search needs
@@ -35,7 +35,7 @@ start-at-spec =
     (tie.spec
     short-number-requires
     short-is-requires
-    add-t13
+    add-t14
     returns
     start-by-header-requires
     returns-2)

@@ -7,6 +7,7 @@ use native.Mathlib.Omega.{arith}
 use lib.ListN.{length}
 use denote.Ref.{now}
 use borrow.Author.Needs.{needs}
+use Rattle.numbers.specs.Compact.{paddingTaken}
 use Rattle.objects.specs.Nesting.{runAt}
 use Rattle.objects.specs.Next.{nextAt, toldNumber}
 use Rattle.objects.specs.declared.nesting.Passed.the-variants.{Refused}
@@ -94,21 +95,21 @@ read-object-told-refusal-requires : (t : ℕ) → read-object-lts.Need-told-refu
 read-object-told-refusal-requires t c κs =
     let k = c .before .before .before in
     let z = k .before .before .before .before .before in
-    let w = refused-within _ _ _ _ (z .pre .1) (object-next-on _ _ _ _ (sym (k .next-by-header .ensures) ∙ c .before .r .given .1)) in
+    let w = refused-within _ _ _ _ _ (z .pre .1) (object-next-on _ _ _ _ _ (sym (k .next-by-header .ensures) ∙ c .before .r .given .1)) in
     let l = z .good .0 .1 in
     omega arith
 
 read-object-returns : (t : ℕ) → read-object-lts.Need-returns (in-object t) (read-object-at t) read-object.Post
 read-object-returns t c =
     let k = c .before .before .before .before in
-    told-fault _ _ _ _ (c .told-refusal .ensures) (object-next-on _ _ _ _ (sym (k .next-by-header .ensures) ∙ c .before .before .r .given .1))
+    told-fault _ _ _ _ (c .told-refusal .ensures) (object-next-on _ _ _ _ _ (sym (k .next-by-header .ensures) ∙ c .before .before .r .given .1))
 
 read-object-enum-known-e : (t : ℕ) → read-object-lts.Need-enum-known-e (in-object t) (read-object-at t) read-object.Post
 read-object-enum-known-e t c = search needs
 
 read-object-returns-2 : (t : ℕ) → read-object-lts.Need-returns-2 (in-object t) (read-object-at t) read-object.Post
 read-object-returns-2 t c =
-    told-place _ _ _ (object-next-on _ _ _ _ (sym (c .before .before .before .next-by-header .ensures) ∙ c .before .e .given .1))
+    told-place _ _ _ (object-next-on _ _ _ _ _ (sym (c .before .before .before .next-by-header .ensures) ∙ c .before .e .given .1))
 
 read-object-enum-told : (t : ℕ) → read-object-lts.Need-enum-told (in-object t) (read-object-at t) read-object.Post
 read-object-enum-told t c = search needs
@@ -127,7 +128,7 @@ read-object-returns-3 : (t : ℕ) → read-object-lts.Need-returns-3 (in-object 
 read-object-returns-3 t c =
     let k = c .before .before .before .before in
     told-fault _ _ _ _ (c .told-refusal2 .ensures)
-    (object-next-on _ _ _ _ (sym (k .next-by-header .ensures) ∙ c .before .before .enum-told .given .1) ∙ ap Refused (sym (c .before .at-place .ensures)))
+    (object-next-on _ _ _ _ _ (sym (k .next-by-header .ensures) ∙ c .before .before .enum-told .given .1) ∙ ap Refused (sym (c .before .at-place .ensures)))
 
 read-object-enum-known-k : (t : ℕ) → read-object-lts.Need-enum-known-k (in-object t) (read-object-at t) read-object.Post
 read-object-enum-known-k t c = search needs
@@ -137,34 +138,34 @@ abbrev Joined : ℕ → Type 0
 Joined t = read-object-lts.Joined1 (in-object t) (read-object-at t) read-object.Post
 
 opens : (t : ℕ) (c : Joined t)
-    → nextAt (now (c .before .before .before .before .args .s)) (c .before .before .before .before .args .at) (c .before .before .before .before .args .depth)
+    → nextAt (c .before .before .before .before .args .padding) (now (c .before .before .before .before .args .s)) (c .before .before .before .before .args .at) (c .before .before .before .before .args .depth)
     ≡ Opens (c .if1 .kind) (c .if1 .inside)
 opens t c =
     let o = c .before in
     ⊎-elim
-    (λ w. opens-as _ _ _ _ _ _ _ (sym (w .1 .ensures) ∙ w .3 .given .1) (w .5) (w .6))
-    (λ w. opened-opens _ _ _ _ _ _ _ (sym (o .before .short-number .ensures)) (sym (o .opened-at .ensures)) (w .0 .left) (w .1) (w .2))
+    (λ w. opens-as _ _ _ _ _ _ _ _ (sym (w .1 .ensures) ∙ w .3 .given .1) (w .5) (w .6))
+    (λ w. opened-opens _ _ _ _ _ _ _ _ (sym (o .before .short-number .ensures)) (sym (o .opened-at .ensures)) (w .0 .left) (w .1) (w .2))
     (c .if1 .came)
 
 read-object-sub-read-run : (t : ℕ) → read-object-lts.Need-sub-read-run (in-object t) (read-object-at t) read-object.Post
-read-object-sub-read-run t c = next-ahead _ _ _ _ (opens t c) .2
+read-object-sub-read-run t c = next-ahead _ _ _ _ _ (opens t c) .2
 
 read-object-read-run-requires : (t : ℕ) → read-object-lts.Need-read-run-requires (in-object t) (read-object-at t) read-object.Post
 read-object-read-run-requires t c κs =
-    let w = next-ahead _ _ _ _ (opens t c) in
+    let w = next-ahead _ _ _ _ _ (opens t c) in
     let e = w .1 in
     let h = w .2 in
     let m = c .before .before .before .before .pre .0 in
     (omega arith, e)
 
 read-object-returns-4 : (t : ℕ) → read-object-lts.Need-returns-4 (in-object t) (read-object-at t) read-object.Post
-read-object-returns-4 t c = c .read-run .ensures ∙ ap (toldNumber _) (sym (object-next-on _ _ _ _ (opens t (c .before))))
+read-object-returns-4 t c = c .read-run .ensures ∙ ap (toldNumber _) (sym (object-next-on _ _ _ _ _ (opens t (c .before))))
 
 abbrev read-run-Inv-loop : read-run-lts.InvT-loop
-read-run-Inv-loop s at depth kind placed i₀ i = (runAt s at depth kind ≡ runAt s i depth kind) × (i ≤ length s)
+read-run-Inv-loop s at depth kind placed padding i₀ i = (runAt padding s at depth kind ≡ runAt padding s i depth kind) × (i ≤ length s)
 
 abbrev read-run-μ-loop : read-run-lts.MeasureT-loop
-read-run-μ-loop s at depth kind placed i₀ i = length s - i
+read-run-μ-loop s at depth kind placed padding i₀ i = length s - i
 
 read-run-loop-holds : (t : ℕ) → read-run-lts.Need-loop-holds (in-run t) (read-run-at t) read-run.Post read-run-Inv-loop read-run-μ-loop
 read-run-loop-holds t c = (refl, search needs)
@@ -178,7 +179,7 @@ read-run-enum-known-e t c = search needs
 read-run-loop-less : (t : ℕ) → read-run-lts.Need-loop-less (in-run t) (read-run-at t) read-run.Post read-run-Inv-loop read-run-μ-loop
 read-run-loop-less t c =
     let k = c .before .before .before in
-    let w = met-is _ _ _ _ (sym (k .met-at .ensures) ∙ c .before .e .given .1) 0 in
+    let w = met-is paddingTaken _ _ _ _ (sym (k .met-at .ensures) ∙ c .before .e .given .1) 0 in
     let a = w .1 in
     let b = w .2 in
     omega arith
@@ -186,7 +187,7 @@ read-run-loop-less t c =
 read-run-loop-again : (t : ℕ) → read-run-lts.Need-loop-again (in-run t) (read-run-at t) read-run.Post read-run-Inv-loop read-run-μ-loop
 read-run-loop-again t c =
     let k = c .before .before .before in
-    let w = met-is _ _ _ _ (sym (k .met-at .ensures) ∙ c .before .e .given .1) _ in
+    let w = met-is _ _ _ _ _ (sym (k .met-at .ensures) ∙ c .before .e .given .1) _ in
     (k .before .loop .inv .0 ∙ w .0, w .2)
 
 read-run-enum-known-e-2 : (t : ℕ) → read-run-lts.Need-enum-known-e-2 (in-run t) (read-run-at t) read-run.Post read-run-Inv-loop read-run-μ-loop
@@ -195,7 +196,7 @@ read-run-enum-known-e-2 t c = search needs
 read-run-returns : (t : ℕ) → read-run-lts.Need-returns (in-run t) (read-run-at t) read-run.Post read-run-Inv-loop read-run-μ-loop
 read-run-returns t c =
     let k = c .before .before .before in
-    told-place _ _ _ (k .before .loop .inv .0 ∙ met-is _ _ _ _ (sym (k .met-at .ensures) ∙ c .before .e2 .given .1) _)
+    told-place _ _ _ (k .before .loop .inv .0 ∙ met-is _ _ _ _ _ (sym (k .met-at .ensures) ∙ c .before .e2 .given .1) _)
 
 read-run-enum-told : (t : ℕ) → read-run-lts.Need-enum-told (in-run t) (read-run-at t) read-run.Post read-run-Inv-loop read-run-μ-loop
 read-run-enum-told t c = search needs
@@ -210,12 +211,12 @@ read-run-returns-2 : (t : ℕ) → read-run-lts.Need-returns-2 (in-run t) (read-
 read-run-returns-2 t c =
     let k = c .before .before .before .before in
     let l = k .before .before .before .good .0 .1 in
-    let m = met-is _ _ _ _ (sym (k .met-at .ensures) ∙ c .before .before .enum-told .given .1) _ _ refl in
-    told-stops _ _ _ _ _ _ (omega arith) (c .before .read-object .ensures) (c .if1 .taken) ∙ ap (toldNumber _) (sym (k .before .loop .inv .0 ∙ m))
+    let m = met-is _ _ _ _ _ (sym (k .met-at .ensures) ∙ c .before .before .enum-told .given .1) _ _ refl in
+    told-stops _ _ _ _ _ _ _ (omega arith) (c .before .read-object .ensures) (c .if1 .taken) ∙ ap (toldNumber _) (sym (k .before .loop .inv .0 ∙ m))
 
 read-run-loop-less-2 : (t : ℕ) → read-run-lts.Need-loop-less-2 (in-run t) (read-run-at t) read-run.Post read-run-Inv-loop read-run-μ-loop
 read-run-loop-less-2 t c =
-    let w = object-next _ _ _ _ (told-goes _ _ _ (c .before .read-object .ensures) (c .if1 .left)) in
+    let w = object-next _ _ _ _ _ (told-goes _ _ _ (c .before .read-object .ensures) (c .if1 .left)) in
     let a = w .0 in
     let b = w .1 in
     omega arith
@@ -224,8 +225,8 @@ read-run-loop-again-2 : (t : ℕ) → read-run-lts.Need-loop-again-2 (in-run t) 
 read-run-loop-again-2 t c =
     let k = c .before .before .before .before in
     let q = told-goes _ _ _ (c .before .read-object .ensures) (c .if1 .left) in
-    let m = met-is _ _ _ _ (sym (k .met-at .ensures) ∙ c .before .before .enum-told .given .1) _ _ q in
-    (k .before .loop .inv .0 ∙ m, object-next _ _ _ _ q .1)
+    let m = met-is _ _ _ _ _ (sym (k .met-at .ensures) ∙ c .before .before .enum-told .given .1) _ _ q in
+    (k .before .loop .inv .0 ∙ m, object-next _ _ _ _ _ q .1)
 
 pub +read-object+read-run-spec : {M : Type 1} → statement M
 +read-object+read-run-spec = close μ-read-object μ-read-run (λ t. read-object-lts.spec (in-object t)

@@ -30,8 +30,8 @@ returns c =
     let h = rw (k .left-of .ensures) at (c .before .if1 .taken) in
     rw (e, lt-ltb _ _ h, c .at-place .ensures)
 
-add-t14 : tie.Need-add-t14
-add-t14 c = search needs
+add-t15 : tie.Need-add-t15
+add-t15 c = search needs
 
 returns-2 : tie.Need-returns-2
 unfolding dataPast
@@ -55,6 +55,6 @@ data-past-spec =
     left-of-requires
     at-place-requires
     returns
-    add-t14
+    add-t15
     returns-2
     returns-3)

@@ -22,19 +22,19 @@ enum-known-k : tie.Need-enum-known-k
 enum-known-k c = search needs
 
 returns : tie.Need-returns
-returns c = next-own-end _ _ _ _ _ _ (sym (c .before .before .before .before .next-by-header .ensures) ∙ c .before .before .k .given .1) (c .if1 .taken)
+returns c = next-own-end _ _ _ _ _ _ _ (sym (c .before .before .before .before .next-by-header .ensures) ∙ c .before .before .k .given .1) (c .if1 .taken)
 
 returns-2 : tie.Need-returns-2
-returns-2 c = next-met _ _ _ _ _ (sym (c .before .before .next-by-header .ensures) ∙ c .enum-told .given .1)
+returns-2 c = next-met _ _ _ _ _ _ (sym (c .before .before .next-by-header .ensures) ∙ c .enum-told .given .1)
 
 returns-3 : tie.Need-returns-3
-returns-3 c = next-met _ _ _ _ _ (sym (c .before .before .next-by-header .ensures) ∙ c .enum-told2 .given .1)
+returns-3 c = next-met _ _ _ _ _ _ (sym (c .before .before .next-by-header .ensures) ∙ c .enum-told2 .given .1)
 
 returns-4 : tie.Need-returns-4
-returns-4 c = next-met _ _ _ _ _ (sym (c .before .before .next-by-header .ensures) ∙ c .enum-told3 .given .1)
+returns-4 c = next-met _ _ _ _ _ _ (sym (c .before .before .next-by-header .ensures) ∙ c .enum-told3 .given .1)
 
 returns-5 : tie.Need-returns-5
-returns-5 c = next-other-end _ _ _ _ _ _ (sym (c .before .before .before .before .next-by-header .ensures) ∙ c .before .before .k .given .1) (c .if1 .left)
+returns-5 c = next-other-end _ _ _ _ _ _ _ (sym (c .before .before .before .before .next-by-header .ensures) ∙ c .before .before .k .given .1) (c .if1 .left)
 
 pub met-by-header-spec : {M : Type 1} → statement M
 met-by-header-spec =

@@ -18,8 +18,8 @@ enum-known-r c = search needs
 enum-known-kind : tie.Need-enum-known-kind
 enum-known-kind c = search needs
 
-add-t17 : tie.Need-add-t17
-add-t17 c =
+add-t18 : tie.Need-add-t18
+add-t18 c =
     let w = header-fits-at _ _ _ (sym (c .before .before .before .header-at .ensures) ∙ c .before .kind .given .1) in
     omega arith
 
@@ -75,7 +75,10 @@ returns-4 c = search (lt-ltb, le-ltb, eq-eqb, ne-eqb, c .before .before .before 
 
 returns-5 : tie.Need-returns-5
 unfolding nextAt
-returns-5 c = search (lt-ltb, le-ltb, eq-eqb, ne-eqb, c .before .before .before .before .before .if1 .taken, sym (c .before .before .before .data-past .ensures) ∙ c .before .e .given .1, sym (c .before .before .before .before .before .before .before .before .before .header-at .ensures) ∙ c .before .before .before .before .before .before .before .kind2 .given .1)
+returns-5 c =
+    let header = sym (c .before .before .before .before .before .before .before .before .before .header-at .ensures) ∙ c .before .before .before .before .before .before .before .kind2 .given .1 in
+    let behind = sym (c .before .before .before .data-past .ensures) ∙ c .before .e .given .1 in
+    rw (header, c .before .before .before .before .before .if1 .taken, ne-eqb _ _ (c .before .before .before .before .if2 .left), behind)
 
 returns-6 : tie.Need-returns-6
 unfolding nextAt
@@ -92,7 +95,7 @@ next-by-header-spec =
     header-at-requires
     enum-known-r
     enum-known-kind
-    add-t17
+    add-t18
     enum-known-kind-2
     at-place-requires
     returns

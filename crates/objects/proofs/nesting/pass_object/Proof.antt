@@ -13,7 +13,7 @@ at-place-requires : tie.Need-at-place-requires
 at-place-requires c κs = search needs
 
 returns : tie.Need-returns
-returns c = ap Refused (c .at-place .ensures) ∙ sym (object-behind _ _ _ (c .before .if1 .taken))
+returns c = ap Refused (c .at-place .ensures) ∙ sym (object-behind _ _ _ _ (c .before .if1 .taken))
 
 read-object-requires : tie.Need-read-object-requires
 read-object-requires c κs = search needs
@@ -28,13 +28,13 @@ sub-place : tie.Need-sub-place
 sub-place c =
     let k = c .before .before in
     let l = k .before .before .before .good .0 .1 in
-    told-both _ _ _ _ _ (omega arith) (object-ahead _ _ _) (k .read-object .ensures) (c .read-object2 .ensures) (c .before .if2 .left) .1
+    told-both _ _ _ _ _ (omega arith) (object-ahead _ _ _ _) (k .read-object .ensures) (c .read-object2 .ensures) (c .before .if2 .left) .1
 
 cast-at-place : tie.Need-cast-at-place
 cast-at-place c =
     let k = c .before .before in
     let l = k .before .before .before .good .0 .1 in
-    let w = told-both _ _ _ _ _ (omega arith) (object-ahead _ _ _) (k .read-object .ensures) (c .read-object2 .ensures) (c .before .if2 .left) .0 in
+    let w = told-both _ _ _ _ _ (omega arith) (object-ahead _ _ _ _) (k .read-object .ensures) (c .read-object2 .ensures) (c .before .if2 .left) .0 in
     omega arith
 
 at-place-requires-2 : tie.Need-at-place-requires-2
@@ -45,7 +45,7 @@ returns-3 c =
     let e = c .before .before in
     let k = e .before in
     let l = k .before .before .before .good .0 .1 in
-    let w = told-both _ _ _ _ _ (omega arith) (object-ahead _ _ _) (k .read-object .ensures) (c .before .read-object2 .ensures) (e .if2 .left) .2 in
+    let w = told-both _ _ _ _ _ (omega arith) (object-ahead _ _ _ _) (k .read-object .ensures) (c .before .read-object2 .ensures) (e .if2 .left) .2 in
     ap Refused (c .at-place2 .ensures) ∙ sym w
 
 pub pass-object-spec : {M : Type 1} → statement M

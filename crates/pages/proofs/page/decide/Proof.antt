@@ -1,34 +1,36 @@
--- `page::decide` meets its contract. The invariant is `Under`: still to come are the wanted of the rows from the place on.
+-- `page::decide` meets its contract. The invariant is `Under`: still to come are those that are queued from the place on.
 -- Assumes nothing.
 use mathlib.Core.Path.{_≡_, refl, sym, ap, _∙_}
 use mathlib.Core.List.{List, _∷_}
 use Prim.Native.Nat.{_+_, _-_, _*_, _^_, _≤_, _<_}
 use native.Mathlib.Omega.{arith}
-use lib.ListN.{length, take}
+use lib.ListN.{length, take, getD}
 use borrow.Author.Tests.{not-true, not-false}
 use Rattle.talk.specs.declared.range.Range.{Range}
 use Rattle.ranges.specs.RangeTable.{rangeWidth, rangesAt}
 use Rattle.store.specs.Knowledge.{mostSaid}
 use Rattle.store.specs.KnowledgeWritten.{rangesBytes}
-use Rattle.store.specs.Tables.{mostElements}
-use Rattle.store.proofs.Elements.{rows-up-to}
-use Rattle.pages.specs.Choice.{serialRange}
-use Rattle.pages.specs.Tables.{chosenIn, Priced}
+use Rattle.store.specs.Tables.{mostElements, elementInRow}
+use Rattle.store.specs.declared.element.Element.{Element}
+use Rattle.store.specs.Held.{serialRange}
+use Rattle.store.proofs.StoreHeld.{normal-with}
+use Rattle.order.specs.Queue.{queuedIn}
+use Rattle.pages.specs.Tables.{Priced}
 use Rattle.pages.specs.declared.page.Page.{Page}
+use Rattle.order.proofs.Queueing.{queued-row}
 use Rattle.pages.proofs.Stops.{sendable-ranges}
-use Rattle.pages.proofs.Pricing.{normal-with}
-use Rattle.pages.proofs.Chosen.{chosenFrom, chosen-start, chosen-not, chosen-one, chosen-none}
-use Rattle.pages.proofs.UnderWay.{Under, under-start, spelled-most, under-same, under-pass, under-end, price-most, under-stop, under-take}
+use Rattle.pages.proofs.Chosen.{queuedFrom, queued-one, queued-each, queued-none}
+use Rattle.pages.proofs.UnderWay.{Under, under-start, spelled-most, under-same, under-end, price-most, under-stop, under-take}
 use borrow.Author.Needs.{needs}
 use Rattle.pages.proofs.page.decide.Statement.{statement}
 use Rattle.pages.proofs.page.decide.Tie as tie
 
 abbrev Inv-loop : tie.InvT-loop
-Inv-loop rows ids n flags t₀ count b p₀ t p =
-    (p .place ≤ n) × Under (chosenIn rows ids n flags) (rangesAt t₀ 0 count) t₀ b (chosenFrom rows ids n flags (p .place)) t p
+Inv-loop rows ids wanted queue t₀ count b p₀ t p =
+    (p .place ≤ wanted) × Under (queuedIn rows ids wanted queue) (rangesAt t₀ 0 count) t₀ b (queuedFrom rows ids wanted queue (p .place)) t p
 
 abbrev μ-loop : tie.MeasureT-loop
-μ-loop rows ids n flags t₀ count b p₀ t p = n - p .place
+μ-loop rows ids wanted queue t₀ count b p₀ t p = wanted - p .place
 
 -- ---- the places: where the call begins, the head of the loop, and behind the price of a wanted element
 
@@ -36,27 +38,32 @@ abbrev begun : tie.At-loop Inv-loop μ-loop → tie.Start Inv-loop μ-loop
 begun l = l .before .before .before .before .before .before .before .before
 
 abbrev looked : tie.After-price-of Inv-loop μ-loop → tie.At-loop Inv-loop μ-loop
-looked k = k .before .before .before .before .before .before .before .before
+looked k = k .before .before .before .before .before .before .before
 
-within : (k : tie.After-price-of Inv-loop μ-loop) → looked k .loop .p .place < begun (looked k) .args .n
-within k = k .before .before .before .before .before .before .if1 .taken
+within : (k : tie.After-price-of Inv-loop μ-loop) → looked k .loop .p .place < begun (looked k) .args .wanted
+within k = k .before .before .before .before .before .if1 .taken
 
-light-here : (k : tie.After-price-of Inv-loop μ-loop) → k .before .before .before .element-in-row .result .length ≤ 2 ^ 24
+element-here : (k : tie.After-price-of Inv-loop μ-loop)
+    → k .before .before .before .element-in-row .result ≡ elementInRow (begun (looked k) .args .rows .now) (begun (looked k) .args .ids .now) (getD (begun (looked k) .args .queue .now) (looked k .loop .p .place) 0)
+element-here k = rw (k .before .before .before .before .row-at .ensures) at (k .before .before .before .element-in-row .ensures)
+
+light-here : (k : tie.After-price-of Inv-loop μ-loop) → k .before .before .before .element-in-row .result .length ≤ 2 ^ 32
 light-here k =
-    rw (k .before .before .before .element-in-row .ensures) (begun (looked k) .pre .0 .short (looked k .loop .p .place) (within k))
+    let s = begun (looked k) in
+    let a = s .args in
+    rw (element-here k)
+    (queued-each (a .rows .now) (a .ids .now) (a .wanted) (a .queue .now) (looked k .loop .p .place) (λ (x : Element). x .length ≤ 2 ^ 32) (within k) (s .pre .0 .queued .long) (s .pre .0 .short))
 
 -- the element is the next of those that are wanted
 next-wanted : (k : tie.After-price-of Inv-loop μ-loop)
-    → Under (chosenIn (begun (looked k) .args .rows .now) (begun (looked k) .args .ids .now) (begun (looked k) .args .n) (begun (looked k) .args .flags .now))
+    → Under (queuedIn (begun (looked k) .args .rows .now) (begun (looked k) .args .ids .now) (begun (looked k) .args .wanted) (begun (looked k) .args .queue .now))
     (rangesAt (begun (looked k) .args .t .now) 0 (begun (looked k) .args .count)) (begun (looked k) .args .t .now) (begun (looked k) .args .b)
-    (k .before .before .before .element-in-row .result ∷ chosenFrom (begun (looked k) .args .rows .now) (begun (looked k) .args .ids .now) (begun (looked k) .args .n) (begun (looked k) .args .flags .now) (looked k .loop .p .place + 1))
+    (k .before .before .before .element-in-row .result ∷ queuedFrom (begun (looked k) .args .rows .now) (begun (looked k) .args .ids .now) (begun (looked k) .args .wanted) (begun (looked k) .args .queue .now) (looked k .loop .p .place + 1))
     (looked k .loop .t) (looked k .loop .p)
 next-wanted k =
-    let a = begun (looked k) .args in
-    let e = k .before .before .before in
-    let i = within k in
-    let flagged = begun (looked k) .pre .0 .flagged in
-    under-same (looked k .loop .inv .1) (chosen-one (a .rows .now) (a .ids .now) (a .n) (a .flags .now) (looked k .loop .p .place) i (omega arith) (e .before .if2 .left) (e .element-in-row .ensures))
+    let s = begun (looked k) in
+    let a = s .args in
+    under-same (looked k .loop .inv .1) (queued-one (a .rows .now) (a .ids .now) (a .wanted) (a .queue .now) (looked k .loop .p .place) (within k) (s .pre .0 .queued .long) (element-here k))
 
 priced-here : (k : tie.After-price-of Inv-loop μ-loop) → Priced (looked k .loop .t) (looked k .loop .p .ranges) (serialRange (k .before .before .before .element-in-row .result)) (k .price-of .result)
 priced-here k = rw (k .before .serial-range .ensures) at (k .price-of .ensures)
@@ -74,46 +81,22 @@ loop-holds c =
     let s = c .before .before .before .before .before .before .before in
     let a = s .args in
     let z : a .count - 0 ≡ a .count = omega arith in
-    rw (c .new .ensures, c .before .ranges-length .ensures .0, z, ← chosen-start (a .rows .now) (a .ids .now) (a .n) (a .flags .now)) (omega arith, under-start (chosenIn (a .rows .now) (a .ids .now) (a .n) (a .flags .now)) (rangesAt (a .t .now) 0 (a .count)) (a .t .now) (a .b) (a .count) (s .pre .0 .said) (s .pre .0 .ranges-stand .0) refl)
+    rw (c .new .ensures, c .before .ranges-length .ensures .0, z) (omega arith, under-start (queuedIn (a .rows .now) (a .ids .now) (a .wanted) (a .queue .now)) (rangesAt (a .t .now) 0 (a .count)) (a .t .now) (a .b) (a .count) (s .pre .0 .carry .said) (s .pre .0 .carry .ranges-stand .0) refl)
 
-shared-slice-read-if2 : tie.Need-shared-slice-read-if2 Inv-loop μ-loop
-shared-slice-read-if2 c = search needs
-
-pass-requires : tie.Need-pass-requires Inv-loop μ-loop
-pass-requires c κs = search needs
-
-loop-less : tie.Need-loop-less Inv-loop μ-loop
-loop-less c =
-    let l = c .before .before .before .before .before in
-    let s = begun l in
-    let a = s .args in
-    let p = l .loop .p in
-    let e : c .pass .result .place ≡ p .place + 1 = ap (λ (x : Page). x .place) (c .pass .ensures) in
-    let i : p .place < a .n = c .before .before .before .if1 .taken in
-    omega arith
-
-loop-again : tie.Need-loop-again Inv-loop μ-loop
-loop-again c =
-    let l = c .before .before .before .before .before in
-    let s = begun l in
-    let a = s .args in
-    let p = l .loop .p in
-    let u = l .loop .inv .1 in
-    let i : p .place < a .n = c .before .before .before .if1 .taken in
-    let flagged : a .n ≤ length (a .flags .now) = s .pre .0 .flagged in
-    rw (c .pass .ensures) (omega arith, under-pass u (chosen-not (a .rows .now) (a .ids .now) (a .n) (a .flags .now) (p .place) i (omega arith) (c .before .if2 .taken)))
+row-at-requires : tie.Need-row-at-requires Inv-loop μ-loop
+row-at-requires c κs = let long = begun (c .before .before) .pre .0 .queued .long in omega arith
 
 element-in-row-requires : tie.Need-element-in-row-requires Inv-loop μ-loop
 element-in-row-requires c κs =
-    let l = c .before .before .before .before in
-    rows-up-to (begun l .pre .0 .stand) _ (omega arith)
+    let l = c .before .before .before in
+    rw (c .row-at .ensures) (queued-row (begun l .pre .0 .queued) (l .loop .p .place) (c .before .if1 .taken))
 
 serial-range-requires : tie.Need-serial-range-requires Inv-loop μ-loop
 serial-range-requires c κs = search needs
 
 price-of-requires : tie.Need-price-of-requires Inv-loop μ-loop
 price-of-requires c κs =
-    let l = c .before .before .before .before .before .before .before in
+    let l = c .before .before .before .before .before .before in
     let s = begun l in
     let a = s .args in
     let p = l .loop .p in
@@ -121,7 +104,7 @@ price-of-requires c κs =
     let cap : p .ranges ≤ mostSaid = u .carried in
     let long : length (l .loop .t) ≡ length (a .t .now) = u .same-length in
     let room : p .ranges * rangeWidth ≤ length (a .t .now) = u .room in
-    (cap, omega arith, u .spelled ∙ ap (λ (r : List Range). length (rangesBytes r)) (sym (u .held)), rw (u .held) (normal-with (take (p .count) _) _ (s .pre .0 .ranges-stand .1)))
+    (cap, omega arith, u .spelled ∙ ap (λ (r : List Range). length (rangesBytes r)) (sym (u .held)), rw (u .held) (normal-with (take (p .count) _) _ (s .pre .0 .carry .ranges-stand .1)))
 
 add-stored : tie.Need-add-stored Inv-loop μ-loop
 add-stored c =
@@ -133,10 +116,10 @@ add-stored c =
     let u = l .loop .inv .1 in
     let e = k .before .before .before in
     let x = e .element-in-row .result in
-    let i : p .place < a .n = within k in
-    let few-elements : a .n ≤ mostElements = s .pre .0 .few in
-    let light : x .length ≤ 2 ^ 24 = light-here k in
-    let small : p .bytes ≤ 2 ^ 24 * p .place = u .small in
+    let i : p .place < a .wanted = within k in
+    let few-elements : a .wanted ≤ mostElements = s .pre .0 .few in
+    let light : x .length ≤ 2 ^ 32 = light-here k in
+    let small : p .bytes ≤ 2 ^ 32 * p .place = u .small in
     omega arith
 
 whole-of-requires : tie.Need-whole-of-requires Inv-loop μ-loop
@@ -149,12 +132,12 @@ whole-of-requires c κs =
     let u = l .loop .inv .1 in
     let e = k .before .before .before in
     let x = e .element-in-row .result in
-    let i : p .place < a .n = within k in
+    let i : p .place < a .wanted = within k in
     let v = next-wanted k in
     let priced = priced-here k in
-    let few-elements : a .n ≤ mostElements = s .pre .0 .few in
-    let light : x .length ≤ 2 ^ 24 = light-here k in
-    let small : p .bytes ≤ 2 ^ 24 * p .place = u .small in
+    let few-elements : a .wanted ≤ mostElements = s .pre .0 .few in
+    let light : x .length ≤ 2 ^ 32 = light-here k in
+    let small : p .bytes ≤ 2 ^ 32 * p .place = u .small in
     let fixed : a .b .fixed ≤ 2 ^ 32 = s .pre .1 in
     let cap : p .ranges ≤ mostSaid = u .carried in
     omega (arith, price-most v priced)
@@ -167,8 +150,8 @@ add-is-sendable c =
     let a = s .args in
     let p = l .loop .p in
     let u = l .loop .inv .1 in
-    let i : p .place < a .n = within k in
-    let few-elements : a .n ≤ mostElements = s .pre .0 .few in
+    let i : p .place < a .wanted = within k in
+    let few-elements : a .wanted ≤ mostElements = s .pre .0 .few in
     let few : p .count ≤ p .place = u .few in
     omega arith
 
@@ -183,16 +166,16 @@ stop-requires c κs =
     let a = s .args in
     let p = l .loop .p in
     let u = l .loop .inv .1 in
-    let i : p .place < a .n = within k in
-    let few-elements : a .n ≤ mostElements = s .pre .0 .few in
-    let small : p .bytes ≤ 2 ^ 24 * p .place = u .small in
+    let i : p .place < a .wanted = within k in
+    let few-elements : a .wanted ≤ mostElements = s .pre .0 .few in
+    let small : p .bytes ≤ 2 ^ 32 * p .place = u .small in
     let fixed : a .b .fixed ≤ 2 ^ 32 = s .pre .1 in
     let cap : p .ranges ≤ mostSaid = u .carried in
     let spelled : p .spelled ≤ 36 * p .ranges = spelled-most u in
     omega arith
 
 same-length : tie.Need-same-length Inv-loop μ-loop
-same-length c = c .before .before .before .before .before .before .before .before .before .before .before .before .before .before .before .loop .inv .1 .same-length
+same-length c = c .before .before .before .before .before .before .before .before .before .before .before .before .before .before .loop .inv .1 .same-length
 
 returns : tie.Need-returns Inv-loop μ-loop
 returns c =
@@ -202,10 +185,10 @@ returns c =
     let a = s .args in
     let p = l .loop .p in
     let u = l .loop .inv .1 in
-    let i : p .place < a .n = within k in
+    let i : p .place < a .wanted = within k in
     let v = next-wanted k in
     let priced = priced-here k in
-    let f = rw (c .before .before .before .before .whole-of .ensures) at (sym (c .before .before .is-sendable .ensures) ∙ not-true (c .before .before .is-sendable .result) (c .before .if3 .taken)) in
+    let f = rw (c .before .before .before .before .whole-of .ensures) at (sym (c .before .before .is-sendable .ensures) ∙ not-true (c .before .before .is-sendable .result) (c .before .if2 .taken)) in
     under-stop v priced f (rw (c .before .before .before .before .whole-of .ensures) at (c .stop .ensures))
 
 take-requires : tie.Need-take-requires Inv-loop μ-loop
@@ -219,32 +202,32 @@ take-requires c κs =
     let e = k .before .before .before in
     let x = e .element-in-row .result in
     let q = k .price-of .result in
-    let i : p .place < a .n = within k in
-    let few-elements : a .n ≤ mostElements = s .pre .0 .few in
-    let light : x .length ≤ 2 ^ 24 = light-here k in
-    let small : p .bytes ≤ 2 ^ 24 * p .place = u .small in
+    let i : p .place < a .wanted = within k in
+    let few-elements : a .wanted ≤ mostElements = s .pre .0 .few in
+    let light : x .length ≤ 2 ^ 32 = light-here k in
+    let small : p .bytes ≤ 2 ^ 32 * p .place = u .small in
     let few : p .count ≤ p .place = u .few in
     let held : p .ranges * rangeWidth ≤ length (a .t .now) = u .room in
     let long : length (l .loop .t) ≡ length (a .t .now) = u .same-length in
-    let room : a .b .most * rangeWidth ≤ length (a .t .now) = s .pre .0 .room in
-    let f = rw (c .before .before .before .before .whole-of .ensures) at (sym (c .before .before .is-sendable .ensures) ∙ not-false (c .before .before .is-sendable .result) (c .before .if3 .left)) in
+    let room : a .b .most * rangeWidth ≤ length (a .t .now) = s .pre .0 .carry .room in
+    let f = rw (c .before .before .before .before .whole-of .ensures) at (sym (c .before .before .is-sendable .ensures) ∙ not-false (c .before .before .is-sendable .result) (c .before .if2 .left)) in
     let g : q .ranges ≤ a .b .most = sendable-ranges (a .b .most) (a .b .limit) (a .b .room) (p .count + 1) (p .bytes + x .length) (q .ranges) _ f in
     let priced = priced-here k in
     (omega arith, omega arith, omega arith, omega arith, omega arith, priced)
 
-loop-less-2 : tie.Need-loop-less-2 Inv-loop μ-loop
-loop-less-2 c =
+loop-less : tie.Need-loop-less Inv-loop μ-loop
+loop-less c =
     let k = c .before .before .before .before .before .before .before .before .before .before in
     let l = looked k in
     let s = begun l in
     let a = s .args in
     let p = l .loop .p in
-    let i : p .place < a .n = within k in
+    let i : p .place < a .wanted = within k in
     let z : c .before .before .take .result .place ≡ p .place + 1 = ap (λ (y : Page). y .place) (c .before .before .take .ensures .0) in
     omega arith
 
-loop-again-2 : tie.Need-loop-again-2 Inv-loop μ-loop
-loop-again-2 c =
+loop-again : tie.Need-loop-again Inv-loop μ-loop
+loop-again c =
     let k = c .before .before .before .before .before .before .before .before .before .before in
     let l = looked k in
     let s = begun l in
@@ -253,13 +236,13 @@ loop-again-2 c =
     let u = l .loop .inv .1 in
     let e = k .before .before .before in
     let x = e .element-in-row .result in
-    let i : p .place < a .n = within k in
+    let i : p .place < a .wanted = within k in
     let v = next-wanted k in
     let priced = priced-here k in
-    let light : x .length ≤ 2 ^ 24 = light-here k in
+    let light : x .length ≤ 2 ^ 32 = light-here k in
     let d = c .before .before in
-    let f = rw (d .before .before .before .before .before .whole-of .ensures) at (sym (d .before .before .before .is-sendable .ensures) ∙ not-false (d .before .before .before .is-sendable .result) (d .before .before .if3 .left)) in
-    rw (d .take .ensures .0) (omega arith, under-take v priced (d .take .last .1 .0) (s .pre .0 .most-carried) (s .pre .0 .room) light (d .take .ensures .1) f)
+    let f = rw (d .before .before .before .before .before .whole-of .ensures) at (sym (d .before .before .before .is-sendable .ensures) ∙ not-false (d .before .before .before .is-sendable .result) (d .before .before .if2 .left)) in
+    rw (d .take .ensures .0) (omega arith, under-take v priced (d .take .last .1 .0) (s .pre .0 .carry .most-carried) (s .pre .0 .carry .room) light (d .take .ensures .1) f)
 
 end-requires : tie.Need-end-requires Inv-loop μ-loop
 end-requires c κs =
@@ -268,10 +251,10 @@ end-requires c κs =
     let a = s .args in
     let p = l .loop .p in
     let u = l .loop .inv .1 in
-    let few-elements : a .n ≤ mostElements = s .pre .0 .few in
-    let small : p .bytes ≤ 2 ^ 24 * p .place = u .small in
+    let few-elements : a .wanted ≤ mostElements = s .pre .0 .few in
+    let small : p .bytes ≤ 2 ^ 32 * p .place = u .small in
     let fixed : a .b .fixed ≤ 2 ^ 32 = s .pre .1 in
-    let inside : p .place ≤ a .n = l .loop .inv .0 in
+    let inside : p .place ≤ a .wanted = l .loop .inv .0 in
     let cap : p .ranges ≤ mostSaid = u .carried in
     let spelled : p .spelled ≤ 36 * p .ranges = spelled-most u in
     omega arith
@@ -286,7 +269,7 @@ returns-2 c =
     let a = s .args in
     let p = l .loop .p in
     let u = l .loop .inv .1 in
-    under-end u (chosen-none (a .rows .now) (a .ids .now) (a .n) (a .flags .now) (p .place) (c .before .if1 .left)) (c .end .ensures)
+    under-end u (queued-none (a .rows .now) (a .ids .now) (a .wanted) (a .queue .now) (p .place) (c .before .if1 .left)) (c .end .ensures)
 
 pub decide-spec : {M : Type 1} → statement M
 decide-spec =
@@ -297,10 +280,7 @@ decide-spec =
     ranges-length-requires
     new-requires
     loop-holds
-    shared-slice-read-if2
-    pass-requires
-    loop-less
-    loop-again
+    row-at-requires
     element-in-row-requires
     serial-range-requires
     price-of-requires
@@ -312,8 +292,8 @@ decide-spec =
     same-length
     returns
     take-requires
-    loop-less-2
-    loop-again-2
+    loop-less
+    loop-again
     end-requires
     same-length-2
     returns-2)

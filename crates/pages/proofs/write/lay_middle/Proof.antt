@@ -6,9 +6,12 @@ use native.Mathlib.Omega.{arith}
 use lib.ListN.{length, length-append}
 use Rattle.objects.specs.Header.{endBytes}
 use Rattle.laws.proofs.Placing.{lays-then}
-use Rattle.pages.specs.Written.{subResponseBytes, changesBytes}
+use Rattle.request.specs.Message.{queryChangesRequest}
+use Rattle.request.specs.Response.{subResponseBytes}
+use Rattle.pages.specs.Written.{changesBytes}
 use Rattle.pages.specs.Tables.{answerMiddle}
-use Rattle.pages.proofs.Lengths.{length-back, length-middle}
+use Rattle.request.proofs.ResponseLengths.{length-back}
+use Rattle.pages.proofs.Lengths.{length-middle}
 use borrow.Author.Needs.{needs}
 use Rattle.pages.proofs.write.lay_middle.Statement.{statement}
 use Rattle.pages.proofs.write.lay_middle.Tie as tie
@@ -39,7 +42,7 @@ returns c =
     let x = y .before .before .before .before in
     let a = x .before .before .before .args in
     let e = endBytes 0x15 in
-    let f = subResponseBytes (a .id) in
+    let f = subResponseBytes queryChangesRequest (a .id) in
     let g = changesBytes (a .index) (a .partial) in
     let k = length-back in
     let l = length-append f g in

@@ -2,13 +2,16 @@
 -- Assumes nothing.
 use mathlib.Core.List.{_++_}
 use native.Mathlib.Omega.{arith}
-use lib.ListN.{take, length-append}
+use lib.ListN.{length-append}
 use Rattle.ranges.specs.RangeTable.{rangesAt}
 use Rattle.store.specs.KnowledgeWritten.{knowledgeBytes}
+use Rattle.store.specs.Held.{elementsBytes}
 use Rattle.laws.proofs.Placing.{lays-then}
-use Rattle.pages.specs.Written.{elementsBytes, endsBytes}
-use Rattle.pages.specs.Tables.{chosenIn, answerFront, answerMiddle}
-use Rattle.pages.proofs.Lengths.{length-front, length-back, answer-parts, answer-room}
+use Rattle.request.specs.Response.{endsBytes, answerFront}
+use Rattle.order.specs.Queue.{queuedIn}
+use Rattle.pages.specs.Tables.{answerMiddle}
+use Rattle.request.proofs.ResponseLengths.{length-front, length-back}
+use Rattle.pages.proofs.Lengths.{answer-parts, answer-room}
 use borrow.Author.Needs.{needs}
 use Rattle.pages.proofs.write.write_answer.Statement.{statement}
 use Rattle.pages.proofs.write.write_answer.Tie as tie
@@ -23,7 +26,7 @@ lay-elements-requires : tie.Need-lay-elements-requires
 lay-elements-requires c κs =
     let s = c .before .before .before .before .before .before .before .before .before .before .before in
     let h = answer-room _ _ _ _ _ _ _ (s .pre .fits) in
-    (s .pre .stand, s .pre .flagged, omega (arith, length-front))
+    (s .pre .queued, omega (arith, length-front))
 
 lay-middle-requires : tie.Need-lay-middle-requires
 lay-middle-requires c κs =
@@ -59,7 +62,7 @@ returns c =
     let u = v .before .before .before .before in
     let s = u .before .before .before .before .before .before .before .before in
     let a = s .args in
-    let w = elementsBytes (a .store .now) (take (a .page .count) (chosenIn (a .rows .now) (a .ids .now) (a .n) (a .flags .now))) in
+    let w = elementsBytes (a .store .now) (queuedIn (a .rows .now) (a .ids .now) (a .page .count) (a .queue .now)) in
     let m = answerMiddle (a .page .id) (a .page .index) (a .page .partial) in
     let k = knowledgeBytes (rangesAt (a .table .now) 0 (a .page .ranges)) in
     let b = endsBytes in
@@ -69,7 +72,7 @@ returns c =
     let i = length-front in
     let j = length-back in
     let h = answer-room _ _ _ _ _ _ _ (s .pre .fits) in
-    rw (answer-parts (a .store .now) (a .page .id) (a .page .index) (take (a .page .count) (chosenIn (a .rows .now) (a .ids .now) (a .n) (a .flags .now))) (a .page .partial) (rangesAt (a .table .now) 0 (a .page .ranges)))
+    rw (answer-parts (a .store .now) (a .page .id) (a .page .index) (queuedIn (a .rows .now) (a .ids .now) (a .page .count) (a .queue .now)) (a .page .partial) (rangesAt (a .table .now) 0 (a .page .ranges)))
     (lays-then 0 answerFront (w ++ (m ++ (k ++ b))) (a .out .now) (u .lay-front .result) (u .lay-front .last .0) (z .lay-back .result) (z .lay-back .last .0) (omega arith) (u .lay-front .ensures)
     (lays-then (u .lay-front .result) w (m ++ (k ++ b)) (u .lay-front .last .0) (v .lay-elements .result) (v .lay-elements .last .0) (z .lay-back .result) (z .lay-back .last .0) (omega arith) (v .lay-elements .ensures)
     (lays-then (v .lay-elements .result) m (k ++ b) (v .lay-elements .last .0) (x .lay-middle .result) (x .lay-middle .last .0) (z .lay-back .result) (z .lay-back .last .0) (omega arith) (x .lay-middle .ensures)

@@ -16,7 +16,7 @@ sub-request-fields-requires : tie.Need-sub-request-fields-requires
 sub-request-fields-requires c κs = search needs
 
 closed-requires : tie.Need-closed-requires
-closed-requires c κs = rw (c .sub-request-fields .ensures, c .before .run .ensures) (good-sub-request-fields _)
+closed-requires c κs = rw (c .sub-request-fields .ensures, c .before .run .ensures) (good-sub-request-fields _ _)
 
 returns : tie.Need-returns
 unfolding subRequest

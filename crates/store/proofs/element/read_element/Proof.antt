@@ -19,7 +19,7 @@ read-fields-requires c κs = search needs
 closed-requires : tie.Need-closed-requires
 closed-requires c κs =
     rw (c .read-fields .ensures, c .before .run .ensures)
-    (good-fields _ _ (runHere (c .before .before .before .before .before .before .before .before .args .s .now) (c .before .before .start .result)))
+    (good-fields _ _ (runHere (c .before .before .before .before .before .before .args .s .now) (c .before .before .start .result)))
 
 inside-requires : tie.Need-inside-requires
 inside-requires c κs = search needs
@@ -34,7 +34,7 @@ element-on-requires : tie.Need-element-on-requires
 element-on-requires c κs =
     let k = c .before .before .before in
     rw (c .before .place .ensures, c .before .before .inside .ensures, k .closed .ensures, k .before .read-fields .ensures, k .before .before .run .ensures, k .before .before .before .start .ensures)
-    (data-behind _ _ _ _ _)
+    (data-behind _ _ _ _)
 
 returns : tie.Need-returns
 unfolding elementAt dataOf

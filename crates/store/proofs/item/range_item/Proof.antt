@@ -16,7 +16,7 @@ range-fields-requires : tie.Need-range-fields-requires
 range-fields-requires c κs = search needs
 
 closed-requires : tie.Need-closed-requires
-closed-requires c κs = rw (c .before .range-fields .ensures, c .before .before .run .ensures) (good-range-fields _)
+closed-requires c κs = rw (c .before .range-fields .ensures, c .before .before .run .ensures) (good-range-fields _ _)
 
 item-of-requires : tie.Need-item-of-requires
 item-of-requires c κs = search needs

@@ -20,13 +20,13 @@ short-number-requires c κs = search needs
 cast-if1 : tie.Need-cast-if1
 cast-if1 c = search needs
 
-add-t12 : tie.Need-add-t12
-add-t12 c =
+add-t13 : tie.Need-add-t13
+add-t13 c =
     let h = range-there _ _ _ (sym (c .before .before .short-number .ensures)) (c .before .if1 .taken) in
     omega arith
 
 returns : tie.Need-returns
-returns c = rw (c .before .before .before .before .c2 .given .1) (sym (range-start _ _ _ _ (sym (c .before .before .short-number .ensures)) (c .before .if1 .taken) (c .if2 .taken)))
+returns c = rw (c .before .before .before .before .c2 .given .1) (sym (range-start _ _ _ _ _ (sym (c .before .before .short-number .ensures)) (c .before .if1 .taken) (c .if2 .taken)))
 
 start-requires : tie.Need-start-requires
 start-requires c κs = search needs
@@ -46,7 +46,7 @@ range-start-spec =
     enum-known-c-2
     short-number-requires
     cast-if1
-    add-t12
+    add-t13
     returns
     start-requires
     returns-2

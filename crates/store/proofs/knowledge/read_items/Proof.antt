@@ -11,11 +11,11 @@ use Rattle.store.proofs.knowledge.read_items.Statement.{statement}
 use Rattle.store.proofs.knowledge.read_items.Tie as tie
 
 abbrev Inv-loop : tie.InvT-loop
-Inv-loop s table₀ rows allowed at₀ n₀ left₀ table at n left =
-    (length table ≡ length table₀) × Uniting s (itemsFrom allowed s (rangesAt table₀ 0 rows) table₀ at₀) table at n left
+Inv-loop s table₀ rows allowed padding at₀ n₀ left₀ table at n left =
+    (length table ≡ length table₀) × Uniting padding s (itemsFrom padding allowed s (rangesAt table₀ 0 rows) table₀ at₀) table at n left
 
 abbrev μ-loop : tie.MeasureT-loop
-μ-loop s table₀ rows allowed at₀ n₀ left₀ table at n left = left
+μ-loop s table₀ rows allowed padding at₀ n₀ left₀ table at n left = left
 
 loop-holds : tie.Need-loop-holds Inv-loop μ-loop
 loop-holds c = let a = c .before .before in (refl, record { room = a .pre .0; normal = a .pre .1; rest = refl })
@@ -36,7 +36,7 @@ returns : tie.Need-returns Inv-loop μ-loop
 returns c =
     let l = c .before .before .before .before .before in
     let e = sym (c .before .before .before .before .item-next .ensures) ∙ c .before .before .before .if1 .taken in
-    uniting-over (l .loop .inv .1) e (c .before .before .if2 .taken) _ refl refl (c .start .ensures ∙ rw (c .before .item-kind .ensures))
+    uniting-over _ (l .loop .inv .1) e (c .before .before .if2 .taken) _ refl refl (c .start .ensures ∙ rw (c .before .item-kind .ensures))
 
 read-item-requires : tie.Need-read-item-requires Inv-loop μ-loop
 read-item-requires c κs = search needs
@@ -61,8 +61,8 @@ loop-again c =
     let r = c .before .before .before .before .before in
     let l = r .before .before .before .before in
     let e = sym (r .before .before .before .item-next .ensures) ∙ r .before .before .if1 .taken in
-    let m = uniting-more (l .loop .inv .1) e (r .before .if2 .left) in
-    let f = uniting-long (l .loop .inv .1) (r .before .if2 .left) ∙ l .loop .inv .0 in
+    let m = uniting-more _ (l .loop .inv .1) e (r .before .if2 .left) in
+    let f = uniting-long _ (l .loop .inv .1) (r .before .if2 .left) ∙ l .loop .inv .0 in
     let i = c .before .before .before .unite .ensures in
     rw (c .on .ensures, i .0, i .1, r .read-item .ensures) (f, m)
 
@@ -76,7 +76,7 @@ returns-2 : tie.Need-returns-2 Inv-loop μ-loop
 returns-2 c =
     let l = c .before .before .before in
     let e = sym (c .before .before .item-next .ensures) ∙ c .before .if1 .left in
-    uniting-end (l .loop .inv .1) e _ refl refl (c .end .ensures)
+    uniting-end _ (l .loop .inv .1) e _ refl refl (c .end .ensures)
 
 pub read-items-spec : {M : Type 1} → statement M
 read-items-spec =

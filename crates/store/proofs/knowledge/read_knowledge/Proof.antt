@@ -12,17 +12,17 @@ use Rattle.store.proofs.knowledge.read_knowledge.Statement.{statement}
 use Rattle.store.proofs.knowledge.read_knowledge.Tie as tie
 
 abbrev Inv-loop : tie.InvT-loop
-Inv-loop s outer depth allowed table₀ at₀ n₀ left₀ table at n left =
-    (length table ≡ length table₀) × Learning depth s (knowledgeFrom depth s (knowing [] table₀ allowed at₀)) table at n left
+Inv-loop s outer depth allowed table₀ padding at₀ n₀ left₀ table at n left =
+    (length table ≡ length table₀) × Learning padding depth s (knowledgeFrom padding depth s (knowing [] table₀ allowed at₀)) table at n left
 
 abbrev μ-loop : tie.MeasureT-loop
-μ-loop s outer depth allowed table₀ at₀ n₀ left₀ table at n left = toGo s at
+μ-loop s outer depth allowed table₀ padding at₀ n₀ left₀ table at n left = toGo s at
 
 start-of-length-requires : tie.Need-start-of-length-requires Inv-loop μ-loop
 start-of-length-requires c κs = search needs
 
 loop-holds : tie.Need-loop-holds Inv-loop μ-loop
-loop-holds c = (refl, learning-start _ _ _ _ _ (c .before .before .before .pre))
+loop-holds c = (refl, learning-start _ _ _ _ _ _ (c .before .before .before .pre))
 
 next-is-requires : tie.Need-next-is-requires Inv-loop μ-loop
 next-is-requires c κs = search needs
@@ -36,7 +36,7 @@ loop-less : tie.Need-loop-less Inv-loop μ-loop
 loop-less c =
     let r = c .before .before in
     let e = sym (r .before .before .before .next-is .ensures) ∙ r .before .before .if1 .taken in
-    rw (r .read-specialized .ensures .last) (specialized-falls _ _ _ e)
+    rw (r .read-specialized .ensures .last) (specialized-falls _ _ _ _ e)
 
 loop-again : tie.Need-loop-again Inv-loop μ-loop
 loop-again c =
@@ -44,7 +44,7 @@ loop-again c =
     let l = r .before .before .before .before in
     let e = sym (r .before .before .before .next-is .ensures) ∙ r .before .before .if1 .taken in
     let h = l .loop .inv .0 in
-    (omega arith, learning-more (l .loop .inv .1) e (r .read-specialized .result) _ (r .read-specialized .ensures))
+    (omega arith, learning-more _ (l .loop .inv .1) e (r .read-specialized .result) _ (r .read-specialized .ensures))
 
 end-requires : tie.Need-end-requires Inv-loop μ-loop
 end-requires c κs = search needs
@@ -60,7 +60,7 @@ unfolding knowledgeAt
 returns c =
     let l = c .before .before .before .before in
     let e = sym (c .before .before .before .next-is .ensures) ∙ c .before .before .if1 .left in
-    rw (← l .before .start-of-length .ensures) (learning-end (l .loop .inv .1) e _ (c .answer .ensures ∙ rw (c .before .end .ensures)))
+    rw (← l .before .start-of-length .ensures) (learning-end _ (l .loop .inv .1) e _ (c .answer .ensures ∙ rw (c .before .end .ensures)))
 
 pub read-knowledge-spec : {M : Type 1} → statement M
 read-knowledge-spec =

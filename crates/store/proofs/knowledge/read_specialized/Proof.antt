@@ -23,7 +23,7 @@ on-requires c κs = search needs
 closed-requires : tie.Need-closed-requires
 closed-requires c κs =
     let g = c .before in
-    rw (c .on .ensures, g .guid .ensures) (run-good _ _ _ _ (g .before .before .start-of-length .ensures) (g .before .run .ensures))
+    rw (c .on .ensures, g .guid .ensures) (run-good _ _ _ _ _ (g .before .before .start-of-length .ensures) (g .before .run .ensures))
 
 is-cell-requires : tie.Need-is-cell-requires
 is-cell-requires c κs = search needs
@@ -42,8 +42,8 @@ returns c =
     let g = i .before .before .before in
     let o = g .before .before .start-of-length .ensures in
     let d = g .before .run .ensures in
-    let cell = sym (run-cell _ _ _ _ o d) ∙ ap isCell (sym (g .guid .ensures)) ∙ sym (i .is-cell .ensures) ∙ r .before .before .if1 .taken in
-    let behind = rw (i .before .before .on .ensures, g .guid .ensures) at (i .before .closed .ensures) ∙ run-closed _ _ _ _ o d in
+    let cell = sym (run-cell _ _ _ _ _ o d) ∙ ap isCell (sym (g .guid .ensures)) ∙ sym (i .is-cell .ensures) ∙ r .before .before .if1 .taken in
+    let behind = rw (i .before .before .on .ensures, g .guid .ensures) at (i .before .closed .ensures) ∙ run-closed _ _ _ _ _ o d in
     rw (cell, ← behind) (r .read-cell .ensures)
 
 inside-requires : tie.Need-inside-requires
@@ -57,8 +57,8 @@ returns-2 c =
     let o = g .before .before .start-of-length .ensures in
     let d = g .before .run .ensures in
     let a = g .before .before .before .before .before in
-    let cell = sym (run-cell _ _ _ _ o d) ∙ ap isCell (sym (g .guid .ensures)) ∙ sym (i .is-cell .ensures) ∙ c .before .if1 .left in
-    let behind = rw (i .before .before .on .ensures, g .guid .ensures) at (i .before .closed .ensures) ∙ run-closed _ _ _ _ o d in
+    let cell = sym (run-cell _ _ _ _ _ o d) ∙ ap isCell (sym (g .guid .ensures)) ∙ sym (i .is-cell .ensures) ∙ c .before .if1 .left in
+    let behind = rw (i .before .before .on .ensures, g .guid .ensures) at (i .before .closed .ensures) ∙ run-closed _ _ _ _ _ o d in
     rw (cell, ← behind) (known-start (a .args .table .now) (a .args .rows) (a .args .left) _ (a .pre .0) (a .pre .1) _ refl refl (c .inside .ensures))
 
 pub read-specialized-spec : {M : Type 1} → statement M

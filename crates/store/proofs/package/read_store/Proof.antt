@@ -16,6 +16,9 @@ returns : tie.Need-returns
 unfolding storeWalk flat storedOf
 returns c = rw (lt-ltb _ _ (c .before .if1 .taken), c .over-long .ensures) (refl, refl, refl)
 
+store-strictness-requires : tie.Need-store-strictness-requires
+store-strictness-requires c κs = search needs
+
 read-package-requires : tie.Need-read-package-requires
 read-package-requires c κs = search needs
 
@@ -36,16 +39,16 @@ unfolding storeWalk
 returns-2 c =
     let k = c .before in
     let p = k .before .before in
-    let w = p .read-package .ensures in
-    rw (le-ltb _ _ (p .before .before .before .if1 .left)) (finished-refused _ _ _ _ (sym (k .r .given .1) ∙ w .0), w .1, w .2)
+    let w = rw (p .before .store-strictness .ensures) at (p .read-package .ensures) in
+    rw (le-ltb _ _ (p .before .before .before .before .if1 .left)) (finished-refused _ _ _ _ (sym (k .r .given .1) ∙ w .0), w .1, w .2)
 
 returns-3 : tie.Need-returns-3
 unfolding storeWalk
 returns-3 c =
     let k = c .before .before .before in
     let p = k .before .before in
-    let w = p .read-package .ensures in
-    rw (le-ltb _ _ (p .before .before .before .if1 .left)) (
+    let w = rw (p .before .store-strictness .ensures) at (p .read-package .ensures) in
+    rw (le-ltb _ _ (p .before .before .before .before .if1 .left)) (
       c .count-if-fine .ensures ∙ ap (storedOf _) (c .before .finish .ensures) ∙ finished-holds _ _ _ _ _ (sym (k .e .given .1) ∙ w .0),
       w .1,
       w .2,
@@ -57,6 +60,7 @@ read-store-spec =
     (tie.spec
     over-long-requires
     returns
+    store-strictness-requires
     read-package-requires
     enum-known-r
     enum-known-e

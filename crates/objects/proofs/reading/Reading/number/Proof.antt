@@ -21,7 +21,7 @@ at-place-requires c κs = search needs
 
 returns : tie.Need-returns
 unfolding number
-returns c = rw (c .before .before .before .self2 .given .1, compact-past _ _ (c .before .if1 .taken), c .at-place .ensures)
+returns c = rw (c .before .before .before .self2 .given .1, compact-past _ _ _ (c .before .if1 .taken), c .at-place .ensures)
 
 sub-item : tie.Need-sub-item
 sub-item c = search needs
@@ -38,12 +38,12 @@ item-requires c κs = search needs
 enum-known-v : tie.Need-enum-known-v
 enum-known-v c = search needs
 
-add-t17 : tie.Need-add-t17
-add-t17 c =
+add-t18 : tie.Need-add-t18
+add-t18 c =
     let k = c .before in
     let a = k .before .before .before .before .before .before .before .before .before .args in
     let e = rw tail-part at (sym (k .before .before .item .ensures) ∙ k .v .given .1) in
-    omega (arith, compact-fits (a .s .now) (k .before .before .before .before .before .before .self2 .given .0 .0) (k .v .given .0 .0) (k .v .given .0 .1 .0) e)
+    omega (arith, compact-fits _ (a .s .now) (k .before .before .before .before .before .before .self2 .given .0 .0) (k .v .given .0 .0) (k .v .given .0 .1 .0) _ e)
 
 enum-known-r : tie.Need-enum-known-r
 enum-known-r c = search needs
@@ -76,7 +76,7 @@ number-spec =
     part-item-end
     item-requires
     enum-known-v
-    add-t17
+    add-t18
     enum-known-r
     at-place-requires-2
     returns-2

@@ -21,7 +21,7 @@ at-place-requires c κs = search needs
 
 returns : tie.Need-returns
 unfolding numberIs
-returns c = rw (c .before .before .before .self2 .given .1, compact-past _ _ (c .before .if1 .taken), c .at-place .ensures)
+returns c = rw (c .before .before .before .self2 .given .1, compact-past _ _ _ (c .before .if1 .taken), c .at-place .ensures)
 
 sub-item : tie.Need-sub-item
 sub-item c = search needs
@@ -38,12 +38,12 @@ item-requires c κs = search needs
 enum-known-v : tie.Need-enum-known-v
 enum-known-v c = search needs
 
-add-t20 : tie.Need-add-t20
-add-t20 c =
+add-t21 : tie.Need-add-t21
+add-t21 c =
     let k = c .before .before in
     let a = k .before .before .before .before .before .before .before .before .before .args in
     let e = rw tail-part at (sym (k .before .before .item .ensures) ∙ k .v .given .1) in
-    omega (arith, compact-fits (a .s .now) (k .before .before .before .before .before .before .self2 .given .0 .0) (k .v .given .0 .0) (k .v .given .0 .1 .0) e)
+    omega (arith, compact-fits _ (a .s .now) (k .before .before .before .before .before .before .self2 .given .0 .0) (k .v .given .0 .0) (k .v .given .0 .1 .0) _ e)
 
 returns-2 : tie.Need-returns-2
 unfolding numberIs
@@ -83,7 +83,7 @@ number-is-spec =
     part-item-end
     item-requires
     enum-known-v
-    add-t20
+    add-t21
     returns-2
     at-place-requires-2
     enum-known-r

@@ -1,7 +1,7 @@
 -- `Page::take` meets its contract.
 -- Assumes nothing.
 use mathlib.Core.Path.{refl}
-use Rattle.pages.specs.Choice.{serialRange}
+use Rattle.store.specs.Held.{serialRange}
 use Rattle.pages.proofs.Pricing.{laid-law}
 use borrow.Author.Needs.{needs}
 use Rattle.pages.proofs.page.Page.take.Statement.{statement}

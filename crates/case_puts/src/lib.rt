@@ -1,0 +1,2 @@
+// The mode of the test program for puts.
+pub mod changes;

@@ -1,0 +1,16 @@
+pub mod Rearranged
+pub mod Members
+pub mod Ordering
+pub mod GroupMembers
+pub mod Grouping
+pub mod GroupOrder
+pub mod Parting
+pub mod Joining
+pub mod Queueing
+pub mod Linking
+pub mod Laying
+pub mod GroupsLaying
+pub mod Standing
+pub mod FirstGroups
+pub mod Putting
+pub mod WrongAnswers

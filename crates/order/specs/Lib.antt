@@ -1,0 +1,5 @@
+pub mod Order
+pub mod Groups
+pub mod Rearranged
+pub mod Queue
+pub mod Links
