@@ -23,7 +23,7 @@ use Rattle.order.proofs.Queueing.{at-take}
 
 -- ---- the first k
 
-module _ {rows ids lumped lumpids laid ends : List ℕ} {gs : List Group} {w : ℕ} (l : GroupsLaid rows ids lumped lumpids laid ends gs w) (k : ℕ) where
+module _ {rows ids : List ℕ} {n : ℕ} {sums earliest laid ends : List ℕ} {gs : List Group} {w : ℕ} (l : GroupsLaid rows ids n sums earliest laid ends gs w) (k : ℕ) where
   members-split : membersOf gs ≡ membersOf (take k gs) ++ membersOf (drop k gs)
   members-split = ap membersOf (sym (take-append-drop k gs)) ∙ members-append (take k gs) (drop k gs)
 
@@ -73,14 +73,16 @@ unfolding elementsInRows
 each-row P rows ids i zero h = tt
 each-row P rows ids i (suc n) h = (h i (omega arith), each-row P rows ids (suc i) n (λ j l. h j (omega arith)))
 
+-- what holds of each row holds of the members of the groups that are chosen
+pub chosen-each : (P : Element → Type 0) (test : Element → Bool) (rows ids : List ℕ) (n : ℕ) → ((j : ℕ) → j < n → P (elementInRow rows ids j))
+    → Each (λ (g : Group). Each P (members g)) (chosenGroups test (ordered (elementsIn rows ids n)))
+chosen-each P test rows ids n h =
+    each-kept (λ (g : Group). Each P (members g)) _ (groups (ordered (elementsIn rows ids n)))
+    (each-grouped P (ordered (elementsIn rows ids n)) (rearranged-each P (rearranged (elementsIn rows ids n)) (each-row P rows ids 0 n (λ j l. h j (omega arith)))))
+
 -- of the groups of rows that are not over-long
 pub chosen-short : (test : Element → Bool) (rows ids : List ℕ) (n : ℕ) → ((j : ℕ) → j < n → elementInRow rows ids j .length ≤ 2 ^ 24)
     → length (membersOf (chosenGroups test (ordered (elementsIn rows ids n)))) ≤ mostElements
     → Each (λ (x : Element). x .length ≤ 2 ^ 32) (map lump (chosenGroups test (ordered (elementsIn rows ids n))))
 chosen-short test rows ids n short few =
-    lumps-short (chosenGroups test (ordered (elementsIn rows ids n)))
-    (each-kept (λ (g : Group). Each (λ (x : Element). x .length ≤ 2 ^ 24) (members g)) _ (groups (ordered (elementsIn rows ids n)))
-    (each-grouped (λ (x : Element). x .length ≤ 2 ^ 24) (ordered (elementsIn rows ids n))
-    (rearranged-each (λ (x : Element). x .length ≤ 2 ^ 24) (rearranged (elementsIn rows ids n))
-    (each-row (λ (x : Element). x .length ≤ 2 ^ 24) rows ids 0 n (λ j l. short j (omega arith))))))
-    few
+    lumps-short (chosenGroups test (ordered (elementsIn rows ids n))) (chosen-each (λ (x : Element). x .length ≤ 2 ^ 24) test rows ids n short) few

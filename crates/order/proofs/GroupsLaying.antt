@@ -7,25 +7,27 @@ use mathlib.Core.List.{List, [], _∷_, _++_, map, append-assoc, append-nil, map
 use Prim.Native.Nat.{ℕ, zero, suc, _+_, _*_, _≤_, _<_}
 use native.Mathlib.Omega.{arith}
 use native.Mathlib.Numerals.{add-one}
-use lib.ListN.{length, take, drop, getD, set, length-set, length-append, length-map}
-use lib.Seq.{getD-set-same, getD-set-other, take-append-le}
+use lib.ListN.{length, take, getD, set, length-set, length-append}
+use lib.Seq.{getD-set-same, getD-set-other, take-append-le, take-suc-set}
 use Rattle.laws.specs.Pick.{pick}
 use Rattle.laws.specs.Once.{seen}
-use Rattle.laws.proofs.Cases.{by-bool, by-eq}
+use Rattle.laws.proofs.Cases.{by-bool, by-eq, impossible}
 use Rattle.talk.specs.Each.{Each}
 use Rattle.talk.specs.Wanted.{keep}
 use Rattle.talk.proofs.Delivery.{keep-append}
+use Rattle.talk.proofs.Things.{each-so}
 use Rattle.store.specs.Element.{sameKey}
-use Rattle.store.specs.Tables.{RowsStand, mostElements, rowWidth, idWidth, rowOf, idOf, rowsOf, idsOf, elementsIn}
+use Rattle.store.specs.Tables.{RowsStand, mostElements, elementInRow}
 use Rattle.store.specs.declared.element.Element.{Element}
 use Rattle.store.specs.declared.element.Key.{Key}
 use Rattle.store.proofs.Chains.{same-turn}
-use Rattle.store.proofs.Elements.{elements-held}
-use Rattle.store.proofs.Rows.{same-itself, put-more}
+use Rattle.store.proofs.Rows.{same-itself, same-equal}
 use Rattle.order.specs.Groups.{Group, members, membersOf, sharing, groupsBehind, groups, someOf, storedLength}
-use Rattle.order.specs.Links.{withLength, lump, queuedAt, queuedFrom, groupFrom, FlagsAre, ToLay, MembersLaid, ToGroup, chosenGroups, GroupsLaid}
+use Rattle.order.specs.Links.{withLength, lump, bare, summedRow, queuedAt, queuedFrom, groupFrom, FlagsAre, ToLay, MembersLaid, ToGroup, chosenGroups, GroupsLaid}
 use Rattle.order.specs.Queue.{elementsAt, queuedIn}
+use Rattle.order.specs.Rearranged.{Pairs}
 use Rattle.order.specs.declared.groups.Laid.{Laid}
+use Rattle.order.proofs.Rearranged.{each-append, pairs-append}
 use Rattle.order.proofs.GroupMembers.{members-append, length-more, length-least}
 use Rattle.order.proofs.Grouping.{length-members}
 use Rattle.order.proofs.Linking.{from-turn, from-end}
@@ -37,8 +39,8 @@ chosenBy test g = someOf test (members g)
 -- ---- the turns
 
 -- the first of the ends is 0
-pub first-end : {rows ids : List ℕ} {n : ℕ} {queue links flags passed lumped lumpids laid ends : List ℕ} → ToGroup rows ids n queue links flags passed lumped lumpids laid ends
-    → ToGroup rows ids n queue links flags passed lumped lumpids laid (set ends 0 0) × (getD (set ends 0 0) 0 0 ≡ 0)
+pub first-end : {rows ids : List ℕ} {n : ℕ} {queue links flags passed sums earliest laid ends : List ℕ} → ToGroup rows ids n queue links flags passed sums earliest laid ends
+    → ToGroup rows ids n queue links flags passed sums earliest laid (set ends 0 0) × (getD (set ends 0 0) 0 0 ≡ 0)
 first-end {ends = ends} t =
     let r = t .ends-room in
     let e = length-set ends 0 0 in (
@@ -50,14 +52,15 @@ first-end {ends = ends} t =
         flags-long = t .flags-long;
         passed-long = t .passed-long;
         none-passed = t .none-passed;
-        lumps-room = t .lumps-room;
+        sums-room = t .sums-room;
+        earliest-room = t .earliest-room;
         room = t .room;
         ends-room = omega arith;
       },
       getD-set-same ends 0 0 0 (omega arith),
     )
 
-pub record GroupsLaying (rows ids : List ℕ) (n : ℕ) (queue flags passed₀ lumped₀ lumpids₀ laid₀ ends₀ passed lumped lumpids laid ends : List ℕ) (w at k : ℕ) : Type 0 where
+pub record GroupsLaying (rows ids : List ℕ) (n : ℕ) (queue flags passed₀ sums₀ earliest₀ laid₀ ends₀ passed sums earliest laid ends : List ℕ) (w at k : ℕ) : Type 0 where
   pub looked : List Group
   pub done : List Group
   pub before : List Key
@@ -68,23 +71,25 @@ pub record GroupsLaying (rows ids : List ℕ) (n : ℕ) (queue flags passed₀ l
   pub passed-is : (j : ℕ) → k ≤ j → j < n → getD passed j 0 ≡ pick (seen sameKey (queuedAt rows ids queue j .serial) before) 1 0
   pub w-is : w ≡ length done
   pub at-is : at ≡ length (membersOf done)
-  pub lumps : lumped ≡ rowsOf (map lump done) ++ drop (w * rowWidth) lumped₀
-  pub lump-ids : lumpids ≡ idsOf (map lump done) ++ drop (w * idWidth) lumpids₀
+  pub lumps : map bare (map (summedRow rows ids sums) (take w earliest)) ≡ map bare (map lump done)
+  pub rows-inside : Each (λ (i : ℕ). i < n) (take w earliest)
+  pub rows-before : Each (λ (i : ℕ). seen sameKey (elementInRow rows ids i .serial) before ≡ true) (take w earliest)
+  pub apart : Pairs (λ (i j : ℕ). i ≡ j → ⊥) (take w earliest)
   pub are : queuedIn rows ids at laid ≡ membersOf done
   pub within : Each (λ (i : ℕ). RowsStand rows ids (i + 1)) (take at laid)
   pub ends-are : (j : ℕ) → j ≤ w → getD ends j 0 ≡ length (membersOf (take j done))
   pub passed-long : length passed ≡ length passed₀
-  pub lumped-long : length lumped ≡ length lumped₀
-  pub lumpids-long : length lumpids ≡ length lumpids₀
+  pub sums-long : length sums ≡ length sums₀
+  pub earliest-long : length earliest ≡ length earliest₀
   pub laid-long : length laid ≡ length laid₀
   pub ends-long : length ends ≡ length ends₀
 
-module _ (rows ids : List ℕ) (n : ℕ) (queue links flags passed₀ lumped₀ lumpids₀ laid₀ ends₀ : List ℕ) (t : ToGroup rows ids n queue links flags passed₀ lumped₀ lumpids₀ laid₀ ends₀) where
+module _ (rows ids : List ℕ) (n : ℕ) (queue links flags passed₀ sums₀ earliest₀ laid₀ ends₀ : List ℕ) (t : ToGroup rows ids n queue links flags passed₀ sums₀ earliest₀ laid₀ ends₀) where
   abbrev long-queue : n ≤ length queue
   long-queue = t .queued .long
 
-  pub groups-start : getD ends₀ 0 0 ≡ 0 → GroupsLaying rows ids n queue flags passed₀ lumped₀ lumpids₀ laid₀ ends₀ passed₀ lumped₀ lumpids₀ laid₀ ends₀ 0 0 0
-  unfolding keep membersOf seen Rattle.store.specs.Tables.flat
+  pub groups-start : getD ends₀ 0 0 ≡ 0 → GroupsLaying rows ids n queue flags passed₀ sums₀ earliest₀ laid₀ ends₀ passed₀ sums₀ earliest₀ laid₀ ends₀ 0 0 0
+  unfolding keep membersOf seen
   groups-start e =
       record {
         looked = [];
@@ -98,13 +103,15 @@ module _ (rows ids : List ℕ) (n : ℕ) (queue links flags passed₀ lumped₀ 
         w-is = refl;
         at-is = refl;
         lumps = refl;
-        lump-ids = refl;
+        rows-inside = tt;
+        rows-before = tt;
+        apart = tt;
         are = refl;
         within = tt;
         ends-are = λ j l. let z : j ≡ 0 = omega arith in rw z e;
         passed-long = refl;
-        lumped-long = refl;
-        lumpids-long = refl;
+        sums-long = refl;
+        earliest-long = refl;
         laid-long = refl;
         ends-long = refl;
       }
@@ -112,7 +119,7 @@ module _ (rows ids : List ℕ) (n : ℕ) (queue links flags passed₀ lumped₀ 
   length-all : length (membersOf (groups (queuedFrom rows ids n queue 0))) ≡ n
   length-all = length-members (queuedFrom rows ids n queue 0) ∙ length-from rows ids n queue long-queue n 0 (omega arith)
 
-  module _ {passed lumped lumpids laid ends : List ℕ} {w at k : ℕ} (l : GroupsLaying rows ids n queue flags passed₀ lumped₀ lumpids₀ laid₀ ends₀ passed lumped lumpids laid ends w at k) (h : k < n) where
+  module _ {passed sums earliest laid ends : List ℕ} {w at k : ℕ} (l : GroupsLaying rows ids n queue flags passed₀ sums₀ earliest₀ laid₀ ends₀ passed sums earliest laid ends w at k) (h : k < n) where
     abbrev x : Element
     x = queuedAt rows ids queue k
 
@@ -126,7 +133,7 @@ module _ (rows ids : List ℕ) (n : ℕ) (queue links flags passed₀ lumped₀ 
     unseen-then true e f = absurd (let z : _≡_ {A = ℕ} 1 0 = sym e ∙ f in omega arith)
     unseen-then false e f = refl
 
-    pub groups-passed : (getD passed k 0 ≡ 0 → ⊥) → GroupsLaying rows ids n queue flags passed₀ lumped₀ lumpids₀ laid₀ ends₀ passed lumped lumpids laid ends w at (k + 1)
+    pub groups-passed : (getD passed k 0 ≡ 0 → ⊥) → GroupsLaying rows ids n queue flags passed₀ sums₀ earliest₀ laid₀ ends₀ passed sums earliest laid ends w at (k + 1)
     unfolding groupsBehind
     groups-passed f =
         let s = seen-then (seen sameKey (x .serial) (l .before)) (l .passed-is k (omega arith) h) f in
@@ -143,13 +150,15 @@ module _ (rows ids : List ℕ) (n : ℕ) (queue links flags passed₀ lumped₀ 
           w-is = l .w-is;
           at-is = l .at-is;
           lumps = l .lumps;
-          lump-ids = l .lump-ids;
+          rows-inside = l .rows-inside;
+          rows-before = l .rows-before;
+          apart = l .apart;
           are = l .are;
           within = l .within;
           ends-are = l .ends-are;
           passed-long = l .passed-long;
-          lumped-long = l .lumped-long;
-          lumpids-long = l .lumpids-long;
+          sums-long = l .sums-long;
+          earliest-long = l .earliest-long;
           laid-long = l .laid-long;
           ends-long = l .ends-long;
         }
@@ -210,6 +219,7 @@ module _ (rows ids : List ℕ) (n : ℕ) (queue links flags passed₀ lumped₀ 
             inside = h;
             passed-long = omega arith;
             room = omega arith;
+            few = let few : n ≤ mostElements = t .queued .few in omega arith;
           }
 
       module _ {passed′ laid′ : List ℕ} {r : Laid} (m : MembersLaid rows ids n queue flags k passed passed′ at laid laid′ r) where
@@ -226,6 +236,17 @@ module _ (rows ids : List ℕ) (n : ℕ) (queue links flags passed₀ lumped₀ 
             let e : r .chosen ≡ chosenBy test g = m .chosen test fl ∙ ap (someOf test) group-is in
             keep-append (chosenBy test) (l .looked) (g ∷ []) ∙ rw (l .chosen test fl, e)
 
+        -- the rows whose serial numbers came before, and this one's own
+        before-more : Each (λ (j : ℕ). seen sameKey (elementInRow rows ids j .serial) (x .serial ∷ l .before) ≡ true) (take w earliest)
+        unfolding seen
+        before-more =
+            each-so (λ (j : ℕ). seen sameKey (elementInRow rows ids j .serial) (l .before) ≡ true) (λ (j : ℕ). seen sameKey (elementInRow rows ids j .serial) (x .serial ∷ l .before) ≡ true) (take w earliest)
+            (λ j e. rw e (by-bool (sameKey (elementInRow rows ids j .serial) (x .serial)) (λ s. rw s) (λ s. rw s))) (l .rows-before)
+
+        own-before : seen sameKey (elementInRow rows ids (r .earliest) .serial) (x .serial ∷ l .before) ≡ true
+        unfolding seen
+        own-before = rw (same-turn (elementInRow rows ids (r .earliest) .serial) (x .serial), m .shares)
+
         members-more : (gs : List Group) → membersOf (gs ++ (g ∷ [])) ≡ membersOf gs ++ members g
         unfolding membersOf
         members-more gs = members-append gs (g ∷ []) ∙ ap (λ (r : List Element). membersOf gs ++ r) (append-nil (members g))
@@ -234,7 +255,7 @@ module _ (rows ids : List ℕ) (n : ℕ) (queue links flags passed₀ lumped₀ 
         length-members-more gs = ap length (members-more gs) ∙ length-append (membersOf gs) (members g)
 
         -- of which none is chosen
-        pub groups-left : r .chosen ≡ false → GroupsLaying rows ids n queue flags passed₀ lumped₀ lumpids₀ laid₀ ends₀ passed′ lumped lumpids laid′ ends w at (k + 1)
+        pub groups-left : r .chosen ≡ false → GroupsLaying rows ids n queue flags passed₀ sums₀ earliest₀ laid₀ ends₀ passed′ sums earliest laid′ ends w at (k + 1)
         groups-left c =
             let a = length-members-more (l .looked) in
             let b = l .fewer in
@@ -250,27 +271,68 @@ module _ (rows ids : List ℕ) (n : ℕ) (queue links flags passed₀ lumped₀ 
               w-is = l .w-is;
               at-is = l .at-is;
               lumps = l .lumps;
-              lump-ids = l .lump-ids;
+              rows-inside = l .rows-inside;
+              rows-before = before-more;
+              apart = l .apart;
               are = ap (elementsAt rows ids) (m .kept) ∙ l .are;
               within = rw (m .kept) (l .within);
               ends-are = l .ends-are;
               passed-long = m .passed-long ∙ l .passed-long;
-              lumped-long = l .lumped-long;
-              lumpids-long = l .lumpids-long;
+              sums-long = l .sums-long;
+              earliest-long = l .earliest-long;
               laid-long = m .long ∙ l .laid-long;
               ends-long = l .ends-long;
             }
 
-        -- of which one is chosen
-        lump-is : withLength x (r .stored) ≡ lump g
+        -- of which one is chosen: its earliest row, which has its serial number
+        abbrev i : ℕ
+        i = r .earliest
+
+        serial-is : elementInRow rows ids i .serial ≡ x .serial
+        serial-is = sym (same-equal (x .serial) (elementInRow rows ids i .serial) (m .shares))
+
+        lump-is : bare (withLength (elementInRow rows ids i) (r .stored)) ≡ bare (lump g)
         unfolding lump
-        lump-is = ap (withLength x) (m .stored ∙ ap storedLength group-is)
+        lump-is = rw (serial-is, m .stored, group-is)
 
-        lumps-more : map lump (l .done ++ (g ∷ [])) ≡ map lump (l .done) ++ (lump g ∷ [])
-        lumps-more = map-append lump (l .done) (g ∷ [])
+        -- it stands in the queue for no other group, whose serial number came before
+        row-apart : Each (λ (j : ℕ). j ≡ i → ⊥) (take w earliest)
+        row-apart =
+            let u = unseen-then (seen sameKey (x .serial) (l .before)) (l .passed-is k (omega arith) h) f in
+            each-so (λ (j : ℕ). seen sameKey (elementInRow rows ids j .serial) (l .before) ≡ true) (λ (j : ℕ). j ≡ i → ⊥) (take w earliest)
+            (λ j a e.
+            let z : true ≡ false = sym a ∙ ap (λ (j : ℕ). seen sameKey (elementInRow rows ids j .serial) (l .before)) e ∙ ap (λ (k : Key). seen sameKey k (l .before)) serial-is ∙ u in
+            impossible (cc))
+            (l .rows-before)
 
-        w-lumps : length (map lump (l .done)) ≡ w
-        w-lumps = length-map (l .done) lump ∙ sym (l .w-is)
+        sums-kept : (places : List ℕ) → Each (λ (j : ℕ). j ≡ i → ⊥) places → map (summedRow rows ids (set sums i (r .stored))) places ≡ map (summedRow rows ids sums) places
+        sums-kept [] a = refl
+        sums-kept (j ∷ places) a = rw (getD-set-other sums i j (r .stored) 0 (a .0), sums-kept places (a .1))
+
+        earliest-taken : take (w + 1) (set earliest w i) ≡ take w earliest ++ (i ∷ [])
+        earliest-taken =
+            let a = groups-room in
+            let b = t .earliest-room in
+            let c = l .earliest-long in
+            rw (add-one w) (take-suc-set earliest w i (omega arith))
+
+        lumps-more : map bare (map (summedRow rows ids (set sums i (r .stored))) (take (w + 1) (set earliest w i))) ≡ map bare (map lump (l .done ++ (g ∷ [])))
+        lumps-more =
+            let inside = m .inside in
+            let a = t .sums-room in
+            let b = l .sums-long in
+            let own : getD (set sums i (r .stored)) i 0 ≡ r .stored = getD-set-same sums i (r .stored) 0 (omega arith) in
+            rw (
+              earliest-taken,
+              map-append (summedRow rows ids (set sums i (r .stored))) (take w earliest) (i ∷ []),
+              map-append bare (map (summedRow rows ids (set sums i (r .stored))) (take w earliest)) (summedRow rows ids (set sums i (r .stored)) i ∷ []),
+              map-append lump (l .done) (g ∷ []),
+              map-append bare (map lump (l .done)) (lump g ∷ []),
+              sums-kept (take w earliest) row-apart,
+              l .lumps,
+              own,
+              lump-is,
+            )
 
         end-is : r .end ≡ length (membersOf (l .done ++ (g ∷ [])))
         end-is = m .end ∙ (let a = l .at-is in let b = length-members-more (l .done) in let c = ap length group-is in omega arith)
@@ -293,13 +355,9 @@ module _ (rows ids : List ℕ) (n : ℕ) (queue links flags passed₀ lumped₀ 
             take-all (y ∷ xs) zero e = absurd (omega arith)
             take-all (y ∷ xs) (suc m) e = ap (λ (r : List _). y ∷ r) (take-all xs m (omega arith))
 
-        pub groups-laid : r .chosen ≡ true → {lumped′ lumpids′ : List ℕ}
-            → lumped′ ≡ take (w * rowWidth) lumped ++ (rowOf (withLength x (r .stored)) ++ drop (w * rowWidth + rowWidth) lumped)
-            → lumpids′ ≡ take (w * idWidth) lumpids ++ (idOf (x .id) ++ drop (w * idWidth + idWidth) lumpids)
-            → length lumped′ ≡ length lumped → length lumpids′ ≡ length lumpids
-            → GroupsLaying rows ids n queue flags passed₀ lumped₀ lumpids₀ laid₀ ends₀ passed′ lumped′ lumpids′ laid′ (set ends (w + 1) (r .end)) (w + 1) (r .end) (k + 1)
-        unfolding lump
-        groups-laid c {lumped′} {lumpids′} p q long-rows long-ids =
+        pub groups-laid : r .chosen ≡ true
+            → GroupsLaying rows ids n queue flags passed₀ sums₀ earliest₀ laid₀ ends₀ passed′ (set sums i (r .stored)) (set earliest w i) laid′ (set ends (w + 1) (r .end)) (w + 1) (r .end) (k + 1)
+        groups-laid c =
             let a = length-members-more (l .looked) in
             let b = length-members-more (l .done) in
             let d = l .fewer in
@@ -316,34 +374,31 @@ module _ (rows ids : List ℕ) (n : ℕ) (queue links flags passed₀ lumped₀ 
               passed-is = passed-more;
               w-is = omega arith;
               at-is = end-is;
-              lumps =
-                  p ∙ ap (λ (e : Element). take (w * rowWidth) lumped ++ (rowOf e ++ drop (w * rowWidth + rowWidth) lumped)) lump-is
-                  ∙ put-more rowOf rowWidth (λ e. refl) (map lump (l .done)) (lump g) lumped lumped₀ w w-lumps (l .lumps)
-                  ∙ rw (lumps-more, add-one w);
-              lump-ids =
-                  q ∙ put-more (λ e. idOf (e .id)) idWidth (λ e. refl) (map lump (l .done)) (lump g) lumpids lumpids₀ w w-lumps (l .lump-ids)
-                  ∙ rw (lumps-more, add-one w);
+              lumps = lumps-more;
+              rows-inside = rw earliest-taken (each-append (λ (j : ℕ). j < n) (take w earliest) (i ∷ []) (l .rows-inside) (m .inside, tt));
+              rows-before = rw earliest-taken (each-append (λ (j : ℕ). seen sameKey (elementInRow rows ids j .serial) (x .serial ∷ l .before) ≡ true) (take w earliest) (i ∷ []) before-more (own-before, tt));
+              apart = rw earliest-taken (pairs-append (λ (j j′ : ℕ). j ≡ j′ → ⊥) (take w earliest) (i ∷ []) (l .apart) (tt, tt) (each-so (λ (j : ℕ). j ≡ i → ⊥) (λ (j : ℕ). Each (λ (j′ : ℕ). j ≡ j′ → ⊥) (i ∷ [])) (take w earliest) (λ j a. (a, tt)) row-apart));
               are = m .are ∙ rw (l .are, group-is) (sym (members-more (l .done)));
               within = m .within (l .within);
               ends-are = ends-more;
               passed-long = m .passed-long ∙ l .passed-long;
-              lumped-long = long-rows ∙ l .lumped-long;
-              lumpids-long = long-ids ∙ l .lumpids-long;
+              sums-long = length-set sums i (r .stored) ∙ l .sums-long;
+              earliest-long = length-set earliest w i ∙ l .earliest-long;
               laid-long = m .long ∙ l .laid-long;
               ends-long = length-set ends (w + 1) (r .end) ∙ l .ends-long;
             }
 
   -- ---- all of them
 
-  pub groups-end : {passed lumped lumpids laid ends : List ℕ} {w at k : ℕ}
-      → GroupsLaying rows ids n queue flags passed₀ lumped₀ lumpids₀ laid₀ ends₀ passed lumped lumpids laid ends w at k → n ≤ k → (test : Element → Bool) → FlagsAre test rows ids n flags
-      → GroupsLaid rows ids lumped lumpids laid ends (chosenGroups test (queuedFrom rows ids n queue 0)) w
+  pub groups-end : {passed sums earliest laid ends : List ℕ} {w at k : ℕ}
+      → GroupsLaying rows ids n queue flags passed₀ sums₀ earliest₀ laid₀ ends₀ passed sums earliest laid ends w at k → n ≤ k → (test : Element → Bool) → FlagsAre test rows ids n flags
+      → GroupsLaid rows ids n sums earliest laid ends (chosenGroups test (queuedFrom rows ids n queue 0)) w
   unfolding groupsBehind
-  groups-end {passed} {lumped} {lumpids} {laid} {ends} {w} {at} {k} l h test f =
+  groups-end {passed} {sums} {earliest} {laid} {ends} {w} {at} {k} l h test f =
       let every : l .looked ≡ groups (queuedFrom rows ids n queue 0) =
       sym (append-nil (l .looked)) ∙ ap (λ (r : List Element). l .looked ++ groupsBehind (l .before) r) (sym (from-end rows ids n queue long-queue k h)) ∙ l .all in
       let done-is : l .done ≡ chosenGroups test (queuedFrom rows ids n queue 0) = sym (l .chosen test f) ∙ ap (keep (chosenBy test)) every in
-      subst (λ (gs : List Group). GroupsLaid rows ids lumped lumpids laid ends gs w) done-is
+      subst (λ (gs : List Group). GroupsLaid rows ids n sums earliest laid ends gs w) done-is
       (let a = l .at-is in
       let b = l .fewer in
       let c = ap (λ (gs : List Group). length (membersOf gs)) every in
@@ -353,15 +408,14 @@ module _ (rows ids : List ℕ) (n : ℕ) (queue links flags passed₀ lumped₀ 
       let room = t .room in
       let most : n ≤ mostElements = t .queued .few in
       let long = l .laid-long in
-      let stand = t .lumps-room in
-      let row-room = stand .row-room in
-      let id-room = stand .id-room in
-      let rows-long = l .lumped-long in
-      let ids-long = l .lumpids-long in
+      let earliest-room = t .earliest-room in
+      let earliest-long = l .earliest-long in
       record {
         counted = l .w-is;
-        stand = record { row-room = omega arith; id-room = omega arith };
-        lumps = rw (l .lumps, l .lump-ids) (ap (elementsIn _ _) (z ∙ sym (length-map (l .done) lump)) ∙ elements-held (map lump (l .done)) _ _);
+        long = omega arith;
+        inside = l .rows-inside;
+        apart = l .apart;
+        lumps = l .lumps;
         few = omega arith;
         queued = record { long = omega arith; within = rw a at (l .within) };
         are = rw a at (l .are);

@@ -14,7 +14,7 @@ use Rattle.laws.specs.Pick.{pick}
 use Rattle.laws.proofs.Cases.{by-bool, by-eq, by-lt}
 use Rattle.talk.specs.Each.{Each}
 use Rattle.talk.specs.Wanted.{keep}
-use Rattle.store.specs.Tables.{RowsStand}
+use Rattle.store.specs.Tables.{RowsStand, elementInRow}
 use Rattle.store.specs.declared.element.Element.{Element}
 use Rattle.store.proofs.Rows.{same-itself}
 use Rattle.order.specs.Groups.{sharing, someOf, storedLength}
@@ -50,7 +50,7 @@ length-from rows ids n queue long (suc d) k e = rw (from-turn rows ids n queue l
 
 -- ---- the turns
 
-pub record Laying (rows ids : List ℕ) (n : ℕ) (queue flags : List ℕ) (k : ℕ) (passed passed′ : List ℕ) (at : ℕ) (laid laid′ : List ℕ) (end stored : ℕ) (chosen : Bool) (p : ℕ) : Type 0 where
+pub record Laying (rows ids : List ℕ) (n : ℕ) (queue flags : List ℕ) (k : ℕ) (passed passed′ : List ℕ) (at : ℕ) (laid laid′ : List ℕ) (end stored : ℕ) (chosen : Bool) (earliest p : ℕ) : Type 0 where
   pub done : List Element
   pub from : k ≤ p
   pub inside : p ≤ n
@@ -60,6 +60,8 @@ pub record Laying (rows ids : List ℕ) (n : ℕ) (queue flags : List ℕ) (k : 
   pub stored-is : stored ≡ storedLength done
   pub small : stored ≤ 2 ^ 24 * length done
   pub chosen-is : (test : Element → Bool) → FlagsAre test rows ids n flags → chosen ≡ someOf test done
+  pub early : earliest < n
+  pub early-shares : sharing (queuedAt rows ids queue k) (elementInRow rows ids earliest) ≡ true
   pub are : queuedIn rows ids end laid′ ≡ queuedIn rows ids at laid ++ done
   pub kept : take at laid′ ≡ take at laid
   pub within : Each (λ (i : ℕ). RowsStand rows ids (i + 1)) (take at laid) → Each (λ (i : ℕ). RowsStand rows ids (i + 1)) (take end laid′)
@@ -82,7 +84,7 @@ module _ (rows ids : List ℕ) (n : ℕ) (queue links flags : List ℕ) (k : ℕ
       let b = length-from rows ids n queue long-queue (n - k) k (omega arith) in
       omega arith
 
-  pub laying-start : Laying rows ids n queue flags k passed passed at laid laid at 0 false k
+  pub laying-start : Laying rows ids n queue flags k passed passed at laid laid at 0 false (getD queue k 0) k
   unfolding storedLength someOf
   laying-start =
       let i = t .inside in
@@ -96,6 +98,8 @@ module _ (rows ids : List ℕ) (n : ℕ) (queue links flags : List ℕ) (k : ℕ
         stored-is = refl;
         small = omega arith;
         chosen-is = λ test f. refl;
+        early = row-inside (t .queued) k i;
+        early-shares = same-itself (x .serial);
         are = sym (append-nil (queuedIn rows ids at laid));
         kept = refl;
         within = λ w. w;
@@ -104,7 +108,7 @@ module _ (rows ids : List ℕ) (n : ℕ) (queue links flags : List ℕ) (k : ℕ
         passed-long = refl;
       }
 
-  module _ {passed′ laid′ : List ℕ} {end stored : ℕ} {chosen : Bool} {p : ℕ} (l : Laying rows ids n queue flags k passed passed′ at laid laid′ end stored chosen p) (h : p < n) where
+  module _ {passed′ laid′ : List ℕ} {end stored : ℕ} {chosen : Bool} {earliest p : ℕ} (l : Laying rows ids n queue flags k passed passed′ at laid laid′ end stored chosen earliest p) (h : p < n) where
     abbrev y : Element
     y = queuedAt rows ids queue p
 
@@ -168,8 +172,12 @@ module _ (rows ids : List ℕ) (n : ℕ) (queue links flags : List ℕ) (k : ℕ
         (λ d. rw (le-ltb j p c, lt-ltb j next d, none-between j (omega arith) d))
         (λ d. rw (le-ltb j p c, le-ltb j next d))))
 
+    -- what holds of the row so far and of this one holds of the earlier of the two
+    earlier : (P : ℕ → Type 0) → P (getD queue p 0) → P earliest → P (pick (ltb (getD queue p 0) earliest) (getD queue p 0) earliest)
+    earlier P a b = by-bool (ltb (getD queue p 0) earliest) (λ e. rw e a) (λ e. rw e b)
+
     pub laying-more : (chosen′ : Bool) → chosen′ ≡ orFlag chosen (getD flags (getD queue p 0) 0) → (y-short : y .length ≤ 2 ^ 24)
-        → Laying rows ids n queue flags k passed (set passed′ p 1) at laid (set laid′ end (getD queue p 0)) (end + 1) (stored + y .length) chosen′ next
+        → Laying rows ids n queue flags k passed (set passed′ p 1) at laid (set laid′ end (getD queue p 0)) (end + 1) (stored + y .length) chosen′ (pick (ltb (getD queue p 0) earliest) (getD queue p 0) earliest) next
     unfolding storedLength
     laying-more chosen′ c short =
         let i = getD queue p 0 in
@@ -192,6 +200,8 @@ module _ (rows ids : List ℕ) (n : ℕ) (queue links flags : List ℕ) (k : ℕ
           chosen-is =
               λ test f.
               c ∙ rw (l .chosen-is test f, f i (row-inside (t .queued) p h)) (sym (some-more test (l .done) y));
+          early = earlier (λ (j : ℕ). j < n) (row-inside (t .queued) p h) (l .early);
+          early-shares = earlier (λ (j : ℕ). sharing x (elementInRow rows ids j) ≡ true) shares-now (l .early-shares);
           are = ap (elementsAt rows ids) taken ∙ at-append rows ids (take end laid′) (i ∷ []) ∙ ap (λ (r : List Element). r ++ (y ∷ [])) (l .are) ∙ append-assoc (queuedIn rows ids at laid) (l .done) (y ∷ []);
           kept = take-set-le at laid′ end i (omega arith) ∙ l .kept;
           within =
@@ -202,10 +212,10 @@ module _ (rows ids : List ℕ) (n : ℕ) (queue links flags : List ℕ) (k : ℕ
           passed-long = length-set passed′ p 1 ∙ l .passed-long;
         }
 
-  pub laying-end : {passed′ laid′ : List ℕ} {end stored : ℕ} {chosen : Bool} {p : ℕ} → Laying rows ids n queue flags k passed passed′ at laid laid′ end stored chosen p → n ≤ p
-      → MembersLaid rows ids n queue flags k passed passed′ at laid laid′ (record { end = end; stored = stored; chosen = chosen })
+  pub laying-end : {passed′ laid′ : List ℕ} {end stored : ℕ} {chosen : Bool} {earliest p : ℕ} → Laying rows ids n queue flags k passed passed′ at laid laid′ end stored chosen earliest p → n ≤ p
+      → MembersLaid rows ids n queue flags k passed passed′ at laid laid′ (record { end = end; stored = stored; chosen = chosen; earliest = earliest })
   unfolding keep
-  laying-end {passed′} {laid′} {end} {stored} {chosen} {p} l h =
+  laying-end {passed′} {laid′} {end} {stored} {chosen} {earliest} {p} l h =
       let all : l .done ≡ groupFrom rows ids n queue k =
       sym (append-nil (l .done)) ∙ ap (λ (r : List Element). l .done ++ keep (sharing x) r) (sym (from-end rows ids n queue long-queue p h)) ∙ l .rest in
       record {
@@ -213,6 +223,8 @@ module _ (rows ids : List ℕ) (n : ℕ) (queue links flags : List ℕ) (k : ℕ
         few = group-few;
         stored = l .stored-is ∙ ap storedLength all;
         chosen = λ test f. l .chosen-is test f ∙ ap (someOf test) all;
+        inside = l .early;
+        shares = l .early-shares;
         are = l .are ∙ ap (λ (g : List Element). queuedIn rows ids at laid ++ g) all;
         kept = l .kept;
         within = l .within;

@@ -10,7 +10,7 @@ pub mod Queueing
 pub mod Linking
 pub mod Laying
 pub mod GroupsLaying
-pub mod Standing
+pub mod Marking
 pub mod FirstGroups
 pub mod Putting
 pub mod WrongAnswers

@@ -39,6 +39,15 @@ module _ {E : Type 0} where
   rearranged-each P nothing h = tt
   rearranged-each P (one-more r i) h = inserted-each P i (h .0) (rearranged-each P r (h .1))
 
+  -- and the other way round
+  inserted-back : {x : E} {l m xs : List E} → Inserted x l m → Rearranged l xs → Rearranged m (x ∷ xs)
+  inserted-back (here l) r = one-more r (here _)
+  inserted-back {x} (there y i) (one-more r j) = one-more (inserted-back i r) (there x j)
+
+  pub rearranged-back : {xs ys : List E} → Rearranged xs ys → Rearranged ys xs
+  rearranged-back nothing = nothing
+  rearranged-back (one-more r i) = inserted-back i (rearranged-back r)
+
   -- those of which a test holds, before the others in any order
   pub kept-first : (test : E → Bool) (xs : List E) {m : List E} → Rearranged (keep (λ x. not (test x)) xs) m → Rearranged xs (keep test xs ++ m)
   unfolding keep

@@ -1,12 +1,12 @@
 -- Wrong answers that the definitions and contracts of this crate rule out, each on a named input.
 -- Assumes nothing.
 use mathlib.Core.Path.{_≡_, ap}
-use mathlib.Core.Bool.{not}
+use mathlib.Core.Bool.{true, false, not}
 use mathlib.Core.List.{List, [], _∷_}
 use Prim.Native.Nat.{ℕ}
 use native.Mathlib.Omega.{arith}
 use lib.Dec.{eqb}
-use lib.ListN.{length, getD}
+use lib.ListN.{length, take, getD}
 use Rattle.laws.specs.Once.{seen}
 use Rattle.laws.specs.Placed.{Lays}
 use Rattle.laws.proofs.Cases.{impossible}
@@ -16,7 +16,7 @@ use Rattle.store.specs.Tables.{flat, rowsOf}
 use Rattle.store.specs.declared.element.Element.{Element}
 use Rattle.order.specs.Order.{rankOf, ordered, rankedRows}
 use Rattle.order.specs.Groups.{Group, membersOf, groupsBehind, groups, someOf, single}
-use Rattle.order.specs.Queue.{placesOf, placesFrom, queueOf, positionsFrom}
+use Rattle.order.specs.Queue.{placesOf, placesFrom, queueOf, risingFrom, marking}
 use Rattle.order.specs.Links.{chosenGroups}
 
 -- an element of this type at this place
@@ -136,12 +136,22 @@ at-the-chosen : chosenGroups (λ (x : Element). not (eqb (x .place) 3)) (numbere
 unfolding groupsBehind seen sameKey keep someOf
 at-the-chosen h = let z : _≡_ {A = ℕ} 3 49 = ap firstPlace h in omega arith
 
--- ---- rows as they stand: from 1 on; the last one first
+-- ---- rows that a queue marks: those from the first on; one more than the first of the queue
 
-from-one : positionsFrom 0 2 ≡ 1 ∷ 2 ∷ [] → ⊥
-unfolding positionsFrom
-from-one h = impossible (cc)
+from-the-first : marking (2 ∷ 3 ∷ []) (0 ∷ 0 ∷ 0 ∷ 0 ∷ []) ≡ 1 ∷ 1 ∷ 0 ∷ 0 ∷ [] → ⊥
+unfolding marking
+from-the-first h = impossible (cc)
 
-last-first : positionsFrom 0 2 ≡ 1 ∷ 0 ∷ [] → ⊥
-unfolding positionsFrom
-last-first h = impossible (cc)
+one-too-many : marking (take 1 (2 ∷ 3 ∷ [])) (0 ∷ 0 ∷ 0 ∷ 0 ∷ []) ≡ 0 ∷ 0 ∷ 1 ∷ 1 ∷ [] → ⊥
+unfolding marking
+one-too-many h = impossible (cc)
+
+-- ---- positions that rise: where the last one falls; not, where it falls behind those that are asked for
+
+falls-at-last : risingFrom 0 (take 3 (2 ∷ 3 ∷ 1 ∷ [])) ≡ true → ⊥
+unfolding risingFrom
+falls-at-last h = impossible (cc)
+
+falls-behind : risingFrom 0 (take 2 (2 ∷ 3 ∷ 1 ∷ [])) ≡ false → ⊥
+unfolding risingFrom
+falls-behind h = impossible (cc)

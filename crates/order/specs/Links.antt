@@ -10,10 +10,11 @@ use lib.Dec.{eqb}
 use Rattle.laws.specs.Pick.{pick}
 use Rattle.talk.specs.Each.{Each}
 use Rattle.talk.specs.Wanted.{keep}
-use Rattle.store.specs.Tables.{RowsStand, mostElements, elementInRow, elementsIn}
+use Rattle.store.specs.Tables.{RowsStand, mostElements, elementInRow}
 use Rattle.store.specs.declared.element.Element.{Element}
 use Rattle.order.specs.Groups.{Group, members, membersOf, sharing, groups, someOf, storedLength}
 use Rattle.order.specs.Queue.{elementsAt, queuedIn, Queued}
+use Rattle.order.specs.Rearranged.{Pairs}
 use Rattle.order.specs.declared.groups.Laid.{Laid}
 
 -- ---- rows in their order: n positions, each of one of n rows
@@ -80,6 +81,7 @@ pub record ToLay (rows ids : List ℕ) (n : ℕ) (queue links flags : List ℕ) 
   pub inside : k < n
   pub passed-long : n ≤ length passed
   pub room : at + length (groupFrom rows ids n queue k) ≤ length laid
+  pub few : at + length (groupFrom rows ids n queue k) ≤ mostElements
 
 -- the members stand behind the first `at` of the queue of members, their positions are passed, and this is what they come to
 pub record MembersLaid (rows ids : List ℕ) (n : ℕ) (queue flags : List ℕ) (k : ℕ) (passed passed′ : List ℕ) (at : ℕ) (laid laid′ : List ℕ) (r : Laid) : Type 0 where
@@ -87,6 +89,8 @@ pub record MembersLaid (rows ids : List ℕ) (n : ℕ) (queue flags : List ℕ) 
   pub few : length (groupFrom rows ids n queue k) ≤ n
   pub stored : r .stored ≡ storedLength (groupFrom rows ids n queue k)
   pub chosen : (test : Element → Bool) → FlagsAre test rows ids n flags → r .chosen ≡ someOf test (groupFrom rows ids n queue k)
+  pub inside : r .earliest < n
+  pub shares : sharing (queuedAt rows ids queue k) (elementInRow rows ids (r .earliest)) ≡ true
   pub are : queuedIn rows ids (r .end) laid′ ≡ queuedIn rows ids at laid ++ groupFrom rows ids n queue k
   pub kept : take at laid′ ≡ take at laid
   pub within : Each (λ (i : ℕ). RowsStand rows ids (i + 1)) (take at laid) → Each (λ (i : ℕ). RowsStand rows ids (i + 1)) (take (r .end) laid′)
@@ -104,11 +108,19 @@ withLength x n = record { place = x .place; length = n; kind = x .kind; id = x .
 unfoldable pub lump : Group → Element
 lump g = withLength (g .first) (storedLength (members g))
 
+-- all that a page takes of an element: its serial number and its length
+abbrev pub bare : Element → Element
+bare x = record { place = 0; length = x .length; kind = 0; id = x .serial; serial = x .serial }
+
+-- a row as if it were all of its group: with the length that stands for it in a table of sums
+abbrev pub summedRow : List ℕ → List ℕ → List ℕ → ℕ → Element
+summedRow rows ids sums i = withLength (elementInRow rows ids i) (getD sums i 0)
+
 abbrev pub chosenGroups : (Element → Bool) → List Element → List Group
 chosenGroups test xs = keep (λ (g : Group). someOf test (members g)) (groups xs)
 
 -- what laying them is lent: nothing is passed yet, and there is room for as many groups and members as there are rows
-pub record ToGroup (rows ids : List ℕ) (n : ℕ) (queue links flags passed lumped lumpids laid ends : List ℕ) : Type 0 where
+pub record ToGroup (rows ids : List ℕ) (n : ℕ) (queue links flags passed sums earliest laid ends : List ℕ) : Type 0 where
   pub queued : RowsQueued rows ids queue n
   pub short : (i : ℕ) → i < n → elementInRow rows ids i .length ≤ 2 ^ 24
   pub links-long : n ≤ length links
@@ -116,15 +128,19 @@ pub record ToGroup (rows ids : List ℕ) (n : ℕ) (queue links flags passed lum
   pub flags-long : n ≤ length flags
   pub passed-long : n ≤ length passed
   pub none-passed : (k : ℕ) → k < n → getD passed k 0 ≡ 0
-  pub lumps-room : RowsStand lumped lumpids n
+  pub sums-room : n ≤ length sums
+  pub earliest-room : n ≤ length earliest
   pub room : n ≤ length laid
   pub ends-room : n < length ends
 
--- each stands as one row in tables of its own, its members stand in a queue, and it is told how many the first j groups have
-pub record GroupsLaid (rows ids lumped lumpids laid ends : List ℕ) (gs : List Group) (w : ℕ) : Type 0 where
+-- for each stands one of its rows, in a queue, with the sum of the stored lengths in a table; its members stand in another queue; and it is
+-- told how many the first j groups have
+pub record GroupsLaid (rows ids : List ℕ) (n : ℕ) (sums earliest laid ends : List ℕ) (gs : List Group) (w : ℕ) : Type 0 where
   pub counted : w ≡ length gs
-  pub stand : RowsStand lumped lumpids w
-  pub lumps : elementsIn lumped lumpids w ≡ map lump gs
+  pub long : w ≤ length earliest
+  pub inside : Each (λ (i : ℕ). i < n) (take w earliest)
+  pub apart : Pairs (λ (i j : ℕ). i ≡ j → ⊥) (take w earliest)
+  pub lumps : map bare (map (summedRow rows ids sums) (take w earliest)) ≡ map bare (map lump gs)
   pub few : length (membersOf gs) ≤ mostElements
   pub queued : Queued rows ids laid (length (membersOf gs))
   pub are : queuedIn rows ids (length (membersOf gs)) laid ≡ membersOf gs
@@ -132,5 +148,5 @@ pub record GroupsLaid (rows ids lumped lumpids laid ends : List ℕ) (gs : List 
 
 -- told of whatever test the flags are of, where the elements are xs in their order
 abbrev pub GroupsTold : List ℕ → List ℕ → ℕ → List ℕ → List Element → List ℕ → List ℕ → List ℕ → List ℕ → ℕ → Type 0
-GroupsTold rows ids n flags xs lumped lumpids laid ends w =
-    (test : Element → Bool) → FlagsAre test rows ids n flags → GroupsLaid rows ids lumped lumpids laid ends (chosenGroups test xs) w
+GroupsTold rows ids n flags xs sums earliest laid ends w =
+    (test : Element → Bool) → FlagsAre test rows ids n flags → GroupsLaid rows ids n sums earliest laid ends (chosenGroups test xs) w

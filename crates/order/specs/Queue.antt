@@ -3,8 +3,9 @@
 use mathlib.Core.Path.{_≡_}
 use Prim.Native.Nat.{ℕ, zero, suc, _+_, _*_, _≤_, _<_}
 use mathlib.Core.List.{List, [], _∷_, _++_, map}
-use lib.ListN.{length, take, drop, getD}
-use lib.Dec.{eqb}
+use lib.ListN.{length, take, drop, getD, set}
+use mathlib.Core.Bool.{Bool, true, false}
+use lib.Dec.{eqb, ltb}
 use Rattle.laws.specs.Pick.{pick}
 use Rattle.talk.specs.Each.{Each}
 use Rattle.store.specs.Tables.{RowsStand, mostElements, elementInRow}
@@ -68,6 +69,16 @@ elementsAt rows ids places = map (λ (i : ℕ). elementInRow rows ids i) places
 -- those that are queued, w of them
 abbrev pub queuedIn : List ℕ → List ℕ → ℕ → List ℕ → List Element
 queuedIn rows ids w queue = elementsAt rows ids (take w queue)
+
+-- whether no position is less than the one before it, which for the first is this
+unfoldable pub risingFrom : ℕ → List ℕ → Bool
+risingFrom last [] = true
+risingFrom last (i ∷ places) = pick (ltb i last) false (risingFrom i places)
+
+-- the flags of the rows at these positions set
+unfoldable pub marking : List ℕ → List ℕ → List ℕ
+marking [] flags = flags
+marking (i ∷ places) flags = set (marking places flags) i 1
 
 -- n positions from i on, one after the other
 unfoldable pub positionsFrom : ℕ → ℕ → List ℕ

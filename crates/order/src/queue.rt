@@ -1,12 +1,12 @@
 // The rows that flags choose, by rank: one pass puts the position of each into the part of its rank, and the parts are joined.
 ghost use mathlib.Core.Path.{_≡_};
-ghost use mathlib.Core.List.{_++_};
 ghost use Prim.Native.Nat.{ℕ, _+_, _*_, _≤_, _<_};
-ghost use lib.ListN.{length, drop, getD, set};
+ghost use lib.ListN.{length, take, getD, set};
+ghost use Rattle.talk.specs.Each.{Each};
 ghost use Rattle.laws.specs.Placed.{Lays};
 ghost use Rattle.store.specs.Tables.{RowsStand, mostElements, elementsIn};
 ghost use Rattle.order.specs.Order.{rankOf};
-ghost use Rattle.order.specs.Queue.{ranks, partLength, PartsStand, Parted, joinedParts, queueOf, positionsFrom};
+ghost use Rattle.order.specs.Queue.{ranks, partLength, PartsStand, Parted, joinedParts, queueOf, risingFrom, marking};
 use objects::layout::part;
 use store::element::Element;
 use store::lay::lay_part;
@@ -111,14 +111,35 @@ pub fn queue_rows(rows: &[u64], ids: &[u64], n: usize, flags: &[u8], queue: &mut
     join_parts(queue, &parts, &counts)
 }
 
-// The positions of n rows as they stand, at the front of the queue. Ruled out (proofs/WrongAnswers): from 1 on; the last one first.
-pub fn queue_standing(queue: &mut [u8], n: usize)
-    requires { ⌜ (n ≤ mostElements) × (n ≤ length (now queue)) ⌝ }
-    ensures { λ _. ⌜ now (queue .exit) ≡ positionsFrom 0 n ++ drop n (now (queue .entry)) ⌝ }
+// Whether the first n positions of a queue rise, as those of rows in the store's order do. Ruled out (proofs/WrongAnswers): yes, where the
+// last one falls; no, where it falls behind these.
+pub fn rises(queue: &[u8], n: usize) -> bool
+    requires { ⌜ n ≤ length (now queue) ⌝ }
+    ensures { λ r. ⌜ r ≡ risingFrom 0 (take n (now (queue .entry))) ⌝ }
 {
+    let mut last = 0;
     let mut k = 0;
     while k < n {
-        queue[k] = k as u8;
+        let i = row_at(queue, k);
+        if i < last {
+            return false;
+        }
+        last = i;
         k += 1;
+    }
+    true
+}
+
+// The flags of the rows at the first n positions of a queue set, and the others as they were. Ruled out (proofs/WrongAnswers): those of n rows
+// from the first on; one more than n.
+pub fn mark_rows(queue: &[u8], n: usize, flags: &mut [u8])
+    requires { ⌜ (n ≤ length (now queue)) × Each (λ (i : ℕ). i < length (now flags)) (take n (now queue)) ⌝ }
+    ensures { λ _. ⌜ now (flags .exit) ≡ marking (take n (now (queue .entry))) (now (flags .entry)) ⌝ }
+{
+    let mut k = n;
+    while 0 < k {
+        k -= 1;
+        let i = row_at(queue, k);
+        flags[i] = 1;
     }
 }

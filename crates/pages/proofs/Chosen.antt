@@ -1,5 +1,6 @@
--- The wanted among the elements of the working tables: those that are queued still to come, turn by turn; the elements that flags choose are
--- those that filters leave in and the ranges do not know; and the groups that have one of these are the wanted groups.
+-- The wanted among the elements of the working tables: those that are queued still to come, turn by turn, whichever element a position
+-- stands for; the elements that flags choose are those that filters leave in and the ranges do not know; and the groups that have one of
+-- these are the wanted groups.
 -- Assumes nothing.
 use mathlib.Core.Path.{_≡_, refl, subst}
 use mathlib.Core.Bool.{Bool, true, false, not}
@@ -20,7 +21,7 @@ use Rattle.store.specs.declared.element.Element.{Element}
 use Rattle.store.specs.Tables.{elementInRow, elementsInRows, elementsIn}
 use Rattle.order.specs.Order.{ordered}
 use Rattle.order.specs.Groups.{groups}
-use Rattle.order.specs.Queue.{chosen, elementsAt, queuedIn}
+use Rattle.order.specs.Queue.{chosen}
 use Rattle.order.proofs.GroupMembers.{some-share}
 use Rattle.order.proofs.Grouping.{members-share}
 use Rattle.request.specs.Meaning.{filtersRead, leftIn, letsIn}
@@ -31,24 +32,25 @@ use Rattle.pages.specs.declared.deciding.Asked.{Asked}
 
 -- ---- those that are queued from place i on
 
-abbrev pub queuedFrom : List ℕ → List ℕ → ℕ → List ℕ → ℕ → List Element
-queuedFrom rows ids w queue i = elementsAt rows ids (drop i (take w queue))
+-- where the element of a position is that of its row, or that of its row weighed
+abbrev pub queuedFrom : (ℕ → Element) → ℕ → List ℕ → ℕ → List Element
+queuedFrom f w queue i = map f (drop i (take w queue))
 
-each-behind : (P : Element → Type 0) (rows ids : List ℕ) (i : ℕ) (l : List ℕ) → Each P (elementsAt rows ids l) → Each P (elementsAt rows ids (drop i l))
-each-behind P rows ids zero l e = e
-each-behind P rows ids (suc i) [] e = tt
-each-behind P rows ids (suc i) (j ∷ l) e = each-behind P rows ids i l (e .1)
+each-behind : (P : Element → Type 0) (f : ℕ → Element) (i : ℕ) (l : List ℕ) → Each P (map f l) → Each P (map f (drop i l))
+each-behind P f zero l e = e
+each-behind P f (suc i) [] e = tt
+each-behind P f (suc i) (j ∷ l) e = each-behind P f i l (e .1)
 
-module _ (rows ids : List ℕ) (w : ℕ) (queue : List ℕ) (i : ℕ) where
-  pub queued-one : i < w → w ≤ length queue → {x : Element} → x ≡ elementInRow rows ids (getD queue i 0) → queuedFrom rows ids w queue i ≡ x ∷ queuedFrom rows ids w queue (i + 1)
+module _ (f : ℕ → Element) (w : ℕ) (queue : List ℕ) (i : ℕ) where
+  pub queued-one : i < w → w ≤ length queue → {x : Element} → x ≡ f (getD queue i 0) → queuedFrom f w queue i ≡ x ∷ queuedFrom f w queue (i + 1)
   queued-one h g x-is =
       let l : i < length (take w queue) = omega (arith, length-take-le w queue g) in
       rw (drop-cons (take w queue) i 0 l, getD-take w queue i 0 h, add-one i, x-is)
 
-  pub queued-each : (P : Element → Type 0) → i < w → w ≤ length queue → Each P (queuedIn rows ids w queue) → P (elementInRow rows ids (getD queue i 0))
-  queued-each P h g e = (subst (Each P) (queued-one h g refl) (each-behind P rows ids i (take w queue) e)) .0
+  pub queued-each : (P : Element → Type 0) → i < w → w ≤ length queue → Each P (map f (take w queue)) → P (f (getD queue i 0))
+  queued-each P h g e = (subst (Each P) (queued-one h g refl) (each-behind P f i (take w queue) e)) .0
 
-  pub queued-none : w ≤ i → queuedFrom rows ids w queue i ≡ []
+  pub queued-none : w ≤ i → queuedFrom f w queue i ≡ []
   queued-none h = let l : length (take w queue) ≤ i = omega (arith, length-take w queue) in rw (drop-of-length-le (take w queue) l)
 
 -- ---- those that are wanted

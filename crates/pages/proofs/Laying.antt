@@ -14,7 +14,7 @@ use Rattle.pages.proofs.Chosen.{queuedFrom, queued-one, queued-none}
 
 -- the bytes of those of the first k that are queued from place i on
 abbrev pub toLay : List ℕ → List ℕ → List ℕ → ℕ → List ℕ → ℕ → List ℕ
-toLay s rows ids k queue i = elementsBytes s (queuedFrom rows ids k queue i)
+toLay s rows ids k queue i = elementsBytes s (queuedFrom (elementInRow rows ids) k queue i)
 
 -- what holds whenever the loop's test is reached: with what is still to be laid at p the output is what it is to be, and the
 -- place behind it is that behind all
@@ -36,7 +36,7 @@ module _ {s rows ids : List ℕ} {k : ℕ} {queue : List ℕ} {behind : ℕ} {to
 
   taken : i < k → toLay s rows ids k queue i ≡ next ++ toLay s rows ids k queue (i + 1)
   unfolding elementsBytes
-  taken h = ap (elementsBytes s) (queued-one rows ids k queue i h long refl)
+  taken h = ap (elementsBytes s) (queued-one (elementInRow rows ids) k queue i h long refl)
 
   -- there is room for the next
   pub laying-fits : i < k → p + length next ≤ length out
@@ -67,7 +67,7 @@ module _ {s rows ids : List ℕ} {k : ℕ} {queue : List ℕ} {behind : ℕ} {to
   pub laying-end : k ≤ i → (p ≡ behind) × (out ≡ told)
   unfolding elementsBytes
   laying-end h =
-      let e : toLay s rows ids k queue i ≡ [] = ap (elementsBytes s) (queued-none rows ids k queue i h) in (
+      let e : toLay s rows ids k queue i ≡ [] = ap (elementsBytes s) (queued-none (elementInRow rows ids) k queue i h) in (
         let a = ap length e in let b = u .place in omega arith,
         sym (laid-nothing p out) ∙ ap (λ (w : List ℕ). laid p w out) (sym e) ∙ u .rest,
       )

@@ -4,8 +4,10 @@ pub mod Chosen
 pub mod UnderWay
 pub mod AnyOrder
 pub mod Gathering
+pub mod Weighing
 pub mod Lengths
 pub mod Lumps
+pub mod Summed
 pub mod Copying
 pub mod Laying
 pub mod Stored

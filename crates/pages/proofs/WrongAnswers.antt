@@ -34,6 +34,7 @@ use Rattle.order.specs.Groups.{storedLength}
 use Rattle.pages.specs.Choice.{isKnown}
 use Rattle.pages.specs.Decision.{isSendable, decision}
 use Rattle.pages.specs.Written.{changesData, partialByte}
+use Rattle.pages.specs.Weighed.{weighed}
 use Rattle.pages.specs.Tables.{wholeOf, fixedLength, Priced, Decides}
 use Rattle.pages.specs.Answer.{rangeRows, answerOf, answerTold, tellAnswered, rowsAfter, TellsLength, WritesAnswer}
 use Rattle.pages.specs.declared.price.Price.{Price}
@@ -103,6 +104,19 @@ one-range-more h = impossible (cc)
 second-unlimited : true ≡ isSendable 512 91 1000 2 92 1 178 → ⊥
 unfolding isSendable
 second-unlimited h = impossible (cc)
+
+-- ---- weighed_row, where the columns are of one number: the length that stands in the row; that of the next row
+
+abbrev lengthWeighed : ℕ
+lengthWeighed = weighed (3 ∷ 46 ∷ 5 ∷ 0 ∷ 0 ∷ 7 ∷ []) (0 ∷ 0 ∷ 7 ∷ []) (100 ∷ 200 ∷ []) (record { width = 1; at = 0 }) 0 .length
+
+own-length : 46 ≡ lengthWeighed → ⊥
+unfolding weighed
+own-length h = omega arith
+
+next-length : 200 ≡ lengthWeighed → ⊥
+unfolding weighed
+next-length h = omega arith
 
 -- ---- decide, with nothing wanted and nothing known: sent without room; a needed length that is the room
 

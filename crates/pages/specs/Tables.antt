@@ -22,20 +22,22 @@ use Rattle.store.specs.Tables.{mostElements, RowsStand, elementInRow, elementsI
 use Rattle.store.specs.Held.{serialRange, rangesWith}
 use Rattle.store.specs.declared.element.Element.{Element}
 use Rattle.talk.specs.Each.{Each}
-use Rattle.order.specs.Rearranged.{Rearranged}
+use Rattle.order.specs.Rearranged.{Rearranged, Pairs}
 use Rattle.order.specs.Order.{ordered}
 use Rattle.order.specs.Groups.{Group, membersOf, storedLength}
 use Rattle.order.specs.Links.{lump, FlagsAre, chosenGroups}
-use Rattle.order.specs.Queue.{queuedIn, Queued}
+use Rattle.order.specs.Queue.{chosen, queuedIn, Queued}
 use Rattle.request.specs.Message.{queryChangesRequest}
 use Rattle.request.specs.Response.{subResponseBytes}
 use Rattle.pages.specs.Decision.{Measure, decision}
 use Rattle.pages.specs.Written.{changesBytes, answerBytes}
+use Rattle.pages.specs.Weighed.{sumColumn, weighedIn, weighedRows, lengthPlace, Weighs}
 use Rattle.pages.specs.declared.page.Bounds.{Bounds}
 use Rattle.pages.specs.declared.page.Chosen.{Chosen}
 use Rattle.pages.specs.declared.page.Decided.{Decided}
 use Rattle.pages.specs.declared.page.Decided.the-variants.{Sent, Crowded, Short}
 use Rattle.pages.specs.declared.price.Price.{Price}
+use Rattle.pages.specs.declared.weighed.Column.{Column}
 use Rattle.pages.specs.declared.whole.Flagged.{Flagged}
 use Rattle.pages.specs.declared.write.Sending.{Sending}
 
@@ -59,8 +61,8 @@ pub record Priced (t : List ℕ) (count : ℕ) (x : Range) (p : Price) : Type 0 
   pub counted : p .ranges ≡ length (insert x (rangesAt t 0 count))
   pub priced : p .spelled ≡ length (rangesBytes (insert x (rangesAt t 0 count)))
 
--- ---- deciding by the tables: the elements that are queued are wanted, in this order. Where elements share a serial number, each of them
--- stands for a group (`lump` of `order`)
+-- ---- deciding by the tables: the rows that are queued are wanted, in this order, each with the length that a column has for it
+-- (`Weighed`). Where elements share a serial number, each of them stands for a group (`lump` of `order`)
 
 -- an answer's length, part by part: `fixed` is its length with no element and no range, and the first range brings the 25 bytes of
 -- a cell knowledge
@@ -111,11 +113,11 @@ pub record ToChoose (rows ids : List ℕ) (n : ℕ) (queue t : List ℕ) (count 
   pub roomy : n ≤ length queue
   pub carry : ToCarry t count most
 
--- what deciding is lent: a queue of w elements, none of them long; and the ranges
-pub record ToDecide (rows ids : List ℕ) (w : ℕ) (queue t : List ℕ) (count most : ℕ) : Type 0 where
-  pub queued : Queued rows ids queue w
+-- what deciding is lent: a queue of w rows, none of them long; and the ranges
+pub record ToDecide (rows ids lengths : List ℕ) (c : Column) (w : ℕ) (queue t : List ℕ) (count most : ℕ) : Type 0 where
+  pub queued : Weighs rows ids lengths c queue w
   pub few : w ≤ mostElements
-  pub short : Each (λ (x : Element). x .length ≤ 2 ^ 32) (queuedIn rows ids w queue)
+  pub short : Each (λ (x : Element). x .length ≤ 2 ^ 32) (weighedIn rows ids lengths c w queue)
   pub carry : ToCarry t count most
 
 -- what deciding promises: the decision, and the working table at exit
@@ -173,23 +175,51 @@ isWhole Crowded = false
 isWhole (Short n) = false
 
 -- what trying is lent: a queue in either order, of the same elements, none under 46 bytes, and a table of ranges of which no row counts
-pub record ToTry (rows ids : List ℕ) (count : ℕ) (tried : List ℕ) (wanted : ℕ) (queue t : List ℕ) (b : Bounds) : Type 0 where
-  pub first : ToDecide rows ids count tried t 0 (b .most)
-  pub then : ToDecide rows ids wanted queue t 0 (b .most)
-  pub same : Rearranged (queuedIn rows ids count tried) (queuedIn rows ids wanted queue)
+pub record ToTry (rows ids lengths : List ℕ) (c : Column) (count : ℕ) (tried : List ℕ) (wanted : ℕ) (queue t : List ℕ) (b : Bounds) : Type 0 where
+  pub first : ToDecide rows ids lengths c count tried t 0 (b .most)
+  pub then : ToDecide rows ids lengths c wanted queue t 0 (b .most)
+  pub same : Rearranged (weighedIn rows ids lengths c count tried) (weighedIn rows ids lengths c wanted queue)
   pub some : 0 < count
   pub few : count ≤ b .most
-  pub least : Each (λ (x : Element). 46 ≤ x .length) (queuedIn rows ids wanted queue)
+  pub least : Each (λ (x : Element). 46 ≤ x .length) (weighedIn rows ids lengths c wanted queue)
+
+-- what deciding by flags is lent: n rows with their flags, and a queue of those whose flag is not 0, in any order, none of them long and
+-- none under 46 bytes; and the ranges
+pub record ToWeigh (rows ids : List ℕ) (n : ℕ) (lengths : List ℕ) (c : Column) (flags queue : List ℕ) (wanted : ℕ) (t : List ℕ) (count most : ℕ) : Type 0 where
+  pub stand : RowsStand rows ids n
+  pub few : n ≤ mostElements
+  pub flagged : n ≤ length flags
+  pub column : (i : ℕ) → i < n → lengthPlace c i < length lengths
+  pub queued : Weighs rows ids lengths c queue wanted
+  pub wanted-few : wanted ≤ mostElements
+  pub same : Rearranged (chosen (weighedRows rows ids lengths c n) flags) (weighedIn rows ids lengths c wanted queue)
+  pub short : Each (λ (x : Element). x .length ≤ 2 ^ 32) (weighedIn rows ids lengths c wanted queue)
+  pub least : Each (λ (x : Element). 46 ≤ x .length) (weighedIn rows ids lengths c wanted queue)
+  pub carry : ToCarry t count most
+
+-- what deciding by sums is lent: n rows, a table with a sum for each, and a queue of those that stand for groups, no two of them the same;
+-- none of the sums is long, and none under 46 bytes; and the ranges
+pub record ToSum (rows ids : List ℕ) (n : ℕ) (sums earliest : List ℕ) (wanted : ℕ) (t : List ℕ) (count most : ℕ) : Type 0 where
+  pub stand : RowsStand rows ids n
+  pub few : n ≤ mostElements
+  pub sums-long : n ≤ length sums
+  pub long : wanted ≤ length earliest
+  pub wanted-few : wanted ≤ mostElements
+  pub inside : Each (λ (i : ℕ). i < n) (take wanted earliest)
+  pub apart : Pairs (λ (i j : ℕ). i ≡ j → ⊥) (take wanted earliest)
+  pub short : Each (λ (x : Element). x .length ≤ 2 ^ 32) (weighedIn rows ids sums sumColumn wanted earliest)
+  pub least : Each (λ (x : Element). 46 ≤ x .length) (weighedIn rows ids sums sumColumn wanted earliest)
+  pub carry : ToCarry t count most
 
 -- those elements in the first positions of a queue, counted and their lengths summed
-pub record Gathered (rows ids : List ℕ) (xs : List Element) (queue : List ℕ) (f : Flagged) : Type 0 where
+pub record Gathered (rows ids lengths : List ℕ) (c : Column) (xs : List Element) (queue : List ℕ) (f : Flagged) : Type 0 where
   pub counted : f .count ≡ length xs
   pub summed : f .stored ≡ storedLength xs
   pub few : f .count ≤ mostElements
-  pub small : f .stored ≤ 2 ^ 24 * mostElements
-  pub queued : Queued rows ids queue (f .count)
-  pub light : Each (λ (x : Element). x .length ≤ 2 ^ 24) (queuedIn rows ids (f .count) queue)
-  pub are : queuedIn rows ids (f .count) queue ≡ xs
+  pub small : f .stored ≤ 2 ^ 32 * mostElements
+  pub queued : Weighs rows ids lengths c queue (f .count)
+  pub light : Each (λ (x : Element). x .length ≤ 2 ^ 32) (weighedIn rows ids lengths c (f .count) queue)
+  pub are : weighedIn rows ids lengths c (f .count) queue ≡ xs
 
 -- ---- sending a page that was decided
 

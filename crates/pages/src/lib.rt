@@ -8,5 +8,6 @@ pub mod price;
 pub mod singles;
 pub mod tables;
 pub mod wanted;
+pub mod weighed;
 pub mod whole;
 pub mod write;

@@ -7,16 +7,17 @@ ghost use Rattle.ranges.specs.RangeTable.{rangeWidth, rangesAt};
 ghost use Rattle.store.specs.Tables.{mostElements};
 ghost use Rattle.store.specs.Held.{serialRange};
 ghost use Rattle.pages.specs.Decision.{isSendable};
-ghost use Rattle.order.specs.Queue.{queuedIn};
+ghost use Rattle.pages.specs.Weighed.{weighedIn};
 ghost use Rattle.pages.specs.Tables.{stopped, ended, wholeOf, Priced, laidWith, ToDecide, Decides, takenIn};
 use crate::price::Price;
 use crate::price::price_of;
+use crate::weighed::Column;
+use crate::weighed::weighed_row;
 use order::queue::row_at;
 use ranges::shift;
 use store::element::Element;
 use store::held::serial_range;
 use store::knowledge_write::ranges_length;
-use store::table::element_in_row;
 
 // The page of so many elements, each of which may stand for a group, so long an answer, so many ranges, and whether a wanted one
 // remains; or 9; or 14 with the needed length.
@@ -138,26 +139,28 @@ impl Page {
     }
 }
 
-// The longest page of so many elements that are queued, in their order; the table of ranges then holds the serial numbers of those that
-// are sent too. Ruled out (proofs/WrongAnswers), with nothing wanted and no room: a page that is sent; the room as the needed
-// length.
+// The longest page of so many rows that are queued, in their order, each as long as the column has it; the table of ranges then holds the
+// serial numbers of those that are sent too. Ruled out (proofs/WrongAnswers), with nothing wanted and no room: a page that is sent; the
+// room as the needed length.
 pub(crate) fn decide(
     rows: &[u64],
     ids: &[u64],
+    lengths: &[u64],
+    c: Column,
     wanted: usize,
     queue: &[u8],
     t: &mut [u64],
     count: usize,
     b: Bounds,
 ) -> Decided
-    requires { ⌜ ToDecide (now rows) (now ids) wanted (now queue) (now t) count (b .most) × (b .fixed ≤ 2 ^ 32) ⌝ }
-    ensures { λ r. ⌜ Decides (queuedIn (now (rows .entry)) (now (ids .entry)) wanted (now (queue .entry))) (rangesAt (now (t .entry)) 0 count) b r (now (t .entry)) (now (t .exit)) ⌝ }
+    requires { ⌜ ToDecide (now rows) (now ids) (now lengths) c wanted (now queue) (now t) count (b .most) × (b .fixed ≤ 2 ^ 32) ⌝ }
+    ensures { λ r. ⌜ Decides (weighedIn (now (rows .entry)) (now (ids .entry)) (now (lengths .entry)) c wanted (now (queue .entry))) (rangesAt (now (t .entry)) 0 count) b r (now (t .entry)) (now (t .exit)) ⌝ }
 {
     let mut p = Page::new(count, ranges_length(t, 0, count));
     while p.place < wanted {
         let place = p.place;
         let at = row_at(queue, place);
-        let x = element_in_row(rows, ids, at);
+        let x = weighed_row(rows, ids, lengths, c, at);
         let q = price_of(t, p.ranges, p.spelled, serial_range(x));
         let stored = p.bytes + x.length;
         let whole = whole_of(b.fixed, stored, q.ranges, q.spelled);

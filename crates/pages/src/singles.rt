@@ -11,16 +11,11 @@ ghost use Rattle.order.specs.Queue.{chosen, queueOf};
 ghost use Rattle.pages.specs.Tables.{ToChoose, DecidesPage};
 use crate::page::Bounds;
 use crate::page::Decided;
-use crate::page::decide;
-use crate::whole::flagged_rows;
-use crate::whole::takes_all;
-use crate::whole::tries_all;
-use crate::whole::try_all;
+use crate::weighed::length_column;
+use crate::whole::decide_queued;
 use order::queue::queue_rows;
-use store::table::MOST_ELEMENTS;
 
-// The longest page of those of n elements whose flag is not 0. They are queued in row order, and tried in the store's order first, where
-// all of them may be taken at once.
+// The longest page of those of n elements whose flag is not 0, queued in row order, each as long as its row says.
 pub(crate) fn decide_singles(
     elements: &[u64],
     ids: &[u64],
@@ -35,22 +30,18 @@ pub(crate) fn decide_singles(
     ensures { λ r. ⌜ (now (queue .exit) ≡ laid 0 (queueOf (elementsIn (now (elements .entry)) (now (ids .entry)) n) (now (flags .entry))) (now (queue .entry))) × DecidesPage (ordered (chosen (elementsIn (now (elements .entry)) (now (ids .entry)) n) (now (flags .entry)))) (rangesAt (now (known .entry)) 0 count) bounds r (now (known .exit)) ⌝ }
 {
     let wanted = queue_rows(elements, ids, n, flags, queue);
-    let mut as_stored = [0u8; MOST_ELEMENTS];
-    let all = flagged_rows(elements, ids, n, flags, &mut as_stored);
-    if takes_all(bounds, count, all) {
-        return decide(elements, ids, all.count, &as_stored, known, count, bounds);
-    }
-    if tries_all(bounds, count, all) {
-        return try_all(
-            elements,
-            ids,
-            all.count,
-            &as_stored,
-            wanted,
-            queue,
-            known,
-            bounds,
-        );
-    }
-    decide(elements, ids, wanted, queue, known, count, bounds)
+    let column = length_column();
+    decide_queued(
+        elements,
+        ids,
+        n,
+        elements,
+        column,
+        flags,
+        queue,
+        wanted,
+        known,
+        count,
+        bounds,
+    )
 }

@@ -1,27 +1,27 @@
 -- `groups::lay_members` meets its contract. The invariant is `Laying`.
 -- Assumes nothing.
-use Prim.Native.Nat.{_-_, _*_, _^_, _≤_, _<_}
+use Prim.Native.Nat.{_+_, _-_, _*_, _^_, _≤_, _<_}
 use native.Mathlib.Omega.{arith}
 use lib.ListN.{length, getD}
 use borrow.Author.Needs.{needs}
 use Rattle.store.specs.Tables.{mostElements}
-use Rattle.order.specs.Links.{queuedAt}
+use Rattle.order.specs.Links.{queuedAt, groupFrom}
 use Rattle.order.proofs.Linking.{row-inside, row-stands}
 use Rattle.order.proofs.Laying.{Laying, laying-start, laying-more, laying-end, count-now, done-few, link-is, next-from}
 use Rattle.order.proofs.groups.lay_members.Statement.{statement}
 use Rattle.order.proofs.groups.lay_members.Tie as tie
 
 abbrev Inv-loop : tie.InvT-loop
-Inv-loop rows ids n queue links flags k passed₀ at laid₀ end₀ stored₀ chosen₀ p₀ passed laid end stored chosen p =
-    Laying rows ids n queue flags k passed₀ passed at laid₀ laid end stored chosen p
+Inv-loop rows ids n queue links flags k passed₀ at laid₀ end₀ stored₀ chosen₀ earliest₀ p₀ passed laid end stored chosen earliest p =
+    Laying rows ids n queue flags k passed₀ passed at laid₀ laid end stored chosen earliest p
 
 abbrev μ-loop : tie.MeasureT-loop
-μ-loop rows ids n queue links flags k passed₀ at laid₀ end₀ stored₀ chosen₀ p₀ passed laid end stored chosen p = n - p
+μ-loop rows ids n queue links flags k passed₀ at laid₀ end₀ stored₀ chosen₀ earliest₀ p₀ passed laid end stored chosen earliest p = n - p
 
 -- ---- one turn: where it begins, and what holds there
 
 abbrev begun : tie.At-loop Inv-loop μ-loop → tie.Start Inv-loop μ-loop
-begun l = l .before .before .before .before .before .before .before .before
+begun l = l .before .before .before .before .before .before .before .before .before
 
 module _ (c : tie.In-loop Inv-loop μ-loop) where
   abbrev start : tie.Start Inv-loop μ-loop
@@ -49,57 +49,60 @@ module _ (c : tie.In-loop Inv-loop μ-loop) where
       let m = c .before .loop .inv .small in
       omega arith
 
--- src/groups.rt:58:5
+row-at-requires : tie.Need-row-at-requires Inv-loop μ-loop
+row-at-requires c κs =
+    let s = c .before .before .before .before .before .before .before in
+    let q = s .pre .queued .long in
+    let i = s .pre .inside in
+    omega arith
+
 loop-holds : tie.Need-loop-holds Inv-loop μ-loop
 loop-holds c =
-    let s = c .before .before .before .before .before .before .before in
+    let s = c .before .before .before .before .before .before .before .before in
     let a = s .args in
-    laying-start (a .rows .now) (a .ids .now) (a .n) (a .queue .now) (a .links .now) (a .flags .now) (a .k) (a .passed .now) (a .at) (a .laid .now) (s .pre)
+    rw (c .row-at .ensures)
+    (laying-start (a .rows .now) (a .ids .now) (a .n) (a .queue .now) (a .links .now) (a .flags .now) (a .k) (a .passed .now) (a .at) (a .laid .now) (s .pre))
 
--- src/groups.rt:59:13
-row-at-requires : tie.Need-row-at-requires Inv-loop μ-loop
-row-at-requires c κs = let q = c .before .before .before .before .before .before .before .before .before .pre .queued .long in omega arith
+row-at-requires-2 : tie.Need-row-at-requires-2 Inv-loop μ-loop
+row-at-requires-2 c κs = let q = begun (c .before) .pre .queued .long in omega arith
 
--- src/groups.rt:60:13
 element-in-row-requires : tie.Need-element-in-row-requires Inv-loop μ-loop
 element-in-row-requires c κs =
     let l = c .before .before in
-    rw (c .row-at .ensures) (row-stands (l .before .before .before .before .before .before .before .before .pre .queued) (l .loop .p) (c .before .loop-test .taken))
+    rw (c .row-at2 .ensures) (row-stands (begun l .pre .queued) (l .loop .p) (c .before .loop-test .taken))
 
--- src/groups.rt:61:21
 cast-laid : tie.Need-cast-laid Inv-loop μ-loop
-cast-laid c = let r = turn-row (c .before .before) in let f : begun (c .before .before .before) .args .n ≤ mostElements = begun (c .before .before .before) .pre .queued .few in rw (c .before .row-at .ensures) (omega arith)
+cast-laid c = let r = turn-row (c .before .before) in let f : begun (c .before .before .before) .args .n ≤ mostElements = begun (c .before .before .before) .pre .queued .few in rw (c .before .row-at2 .ensures) (omega arith)
 
--- src/groups.rt:61:9
 slice-write-laid : tie.Need-slice-write-laid Inv-loop μ-loop
 slice-write-laid c = turn-room (c .before .before)
 
--- src/groups.rt:62:9
 add-end : tie.Need-add-end Inv-loop μ-loop
-add-end c = let r = turn-room (c .before .before) in omega arith
+add-end c =
+    let i = c .before .before in
+    let a = start i .args in
+    let e = count-now (a .rows .now) (a .ids .now) (a .n) (a .queue .now) (a .links .now) (a .flags .now) (a .k) (a .passed .now) (a .at) (a .laid .now) (start i .pre) (i .before .loop .inv) (i .loop-test .taken) in
+    let f : a .at + length (groupFrom (a .rows .now) (a .ids .now) (a .n) (a .queue .now) (a .k)) ≤ mostElements = start i .pre .few in
+    omega arith
 
--- src/groups.rt:63:9
 add-stored : tie.Need-add-stored Inv-loop μ-loop
 add-stored c =
     let y = c .before in
     let short = turn-short (y .before .before) in
     let small = turn-small (y .before .before) in
-    let e = rw (y .before .row-at .ensures) at (y .element-in-row .ensures) in
+    let e = rw (y .before .row-at2 .ensures) at (y .element-in-row .ensures) in
     rw e (omega arith)
 
--- src/groups.rt:64:34
 shared-slice-read-or-flag : tie.Need-shared-slice-read-or-flag Inv-loop μ-loop
 shared-slice-read-or-flag c =
     let y = c .before .before .before in
     let r = turn-row (y .before) in
     let f = begun (y .before .before) .pre .flags-long in
-    rw (y .row-at .ensures) (omega arith)
+    rw (y .row-at2 .ensures) (omega arith)
 
--- src/groups.rt:64:9
 or-flag-requires : tie.Need-or-flag-requires Inv-loop μ-loop
 or-flag-requires c κs = search needs
 
--- src/groups.rt:65:9
 slice-write-passed : tie.Need-slice-write-passed Inv-loop μ-loop
 slice-write-passed c =
     let i = c .before .before .before .before .before in
@@ -107,49 +110,49 @@ slice-write-passed c =
     let r = begun (i .before) .pre .passed-long in
     omega arith
 
--- src/groups.rt:66:13
 mul-p : tie.Need-mul-p Inv-loop μ-loop
-mul-p c = search needs
+mul-p c =
+    let i = c .before .before .before .before .before in
+    let h = i .loop-test .taken in
+    let f : begun (i .before) .args .n ≤ mostElements = begun (i .before) .pre .queued .few in
+    omega arith
 
--- src/groups.rt:66:13
 shared-slice-read-p : tie.Need-shared-slice-read-p Inv-loop μ-loop
 shared-slice-read-p c =
     let i = c .before .before .before .before .before .before in
     let r = begun (i .before) .pre .links-long in
     omega arith
 
--- src/groups.rt:58:5
+lesser-requires : tie.Need-lesser-requires Inv-loop μ-loop
+lesser-requires c κs = tt
+
 loop-less : tie.Need-loop-less Inv-loop μ-loop
 loop-less c =
-    let i = c .before .before .before .before .before .before in
+    let i = c .before .before .before .before .before .before .before in
     let s = start i in
     let a = s .args in
     let e = link-is (a .rows .now) (a .ids .now) (a .n) (a .queue .now) (a .links .now) (a .flags .now) (a .k) (a .passed .now) (a .at) (a .laid .now) (s .pre) (i .before .loop .inv) (i .loop-test .taken) in
     let f = next-from (a .rows .now) (a .ids .now) (a .n) (a .queue .now) (a .links .now) (a .flags .now) (a .k) (a .passed .now) (a .at) (a .laid .now) (s .pre) (i .before .loop .inv) (i .loop-test .taken) in
     omega arith
 
--- src/groups.rt:58:5
 loop-again : tie.Need-loop-again Inv-loop μ-loop
 loop-again c =
-    let i = c .before .before .before .before .before .before in
+    let i = c .before .before .before .before .before .before .before in
     let s = start i in
     let a = s .args in
-    let y = c .before .before .before .before in
-    let e = rw (y .before .row-at .ensures) at (y .element-in-row .ensures) in
+    let y = c .before .before .before .before .before in
+    let e = rw (y .before .row-at2 .ensures) at (y .element-in-row .ensures) in
     let link = link-is (a .rows .now) (a .ids .now) (a .n) (a .queue .now) (a .links .now) (a .flags .now) (a .k) (a .passed .now) (a .at) (a .laid .now) (s .pre) (i .before .loop .inv) (i .loop-test .taken) in
-    let flagged = rw (y .before .row-at .ensures) at (c .before .or-flag .ensures) in
-    rw (link, y .before .row-at .ensures, e)
+    let flagged = rw (y .before .row-at2 .ensures) at (c .before .before .or-flag .ensures) in
+    rw (c .lesser .ensures, link, y .before .row-at2 .ensures, e)
     (laying-more (a .rows .now) (a .ids .now) (a .n) (a .queue .now) (a .links .now) (a .flags .now) (a .k) (a .passed .now) (a .at) (a .laid .now) (s .pre) (i .before .loop .inv) (i .loop-test .taken) _ flagged (turn-short i))
 
--- src/groups.rt:39:1
 same-length : tie.Need-same-length Inv-loop μ-loop
 same-length c = c .before .loop .inv .passed-long
 
--- src/groups.rt:39:1
 same-length-2 : tie.Need-same-length-2 Inv-loop μ-loop
 same-length-2 c = c .before .loop .inv .long
 
--- src/groups.rt:39:1
 returns : tie.Need-returns Inv-loop μ-loop
 returns c =
     let l = c .before in
@@ -163,8 +166,9 @@ lay-members-spec =
     (tie.spec
     Inv-loop
     μ-loop
-    loop-holds
     row-at-requires
+    loop-holds
+    row-at-requires-2
     element-in-row-requires
     cast-laid
     slice-write-laid
@@ -175,6 +179,7 @@ lay-members-spec =
     slice-write-passed
     mul-p
     shared-slice-read-p
+    lesser-requires
     loop-less
     loop-again
     same-length

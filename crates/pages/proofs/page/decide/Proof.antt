@@ -10,32 +10,32 @@ use Rattle.talk.specs.declared.range.Range.{Range}
 use Rattle.ranges.specs.RangeTable.{rangeWidth, rangesAt}
 use Rattle.store.specs.Knowledge.{mostSaid}
 use Rattle.store.specs.KnowledgeWritten.{rangesBytes}
-use Rattle.store.specs.Tables.{mostElements, elementInRow}
+use Rattle.store.specs.Tables.{mostElements}
 use Rattle.store.specs.declared.element.Element.{Element}
 use Rattle.store.specs.Held.{serialRange}
 use Rattle.store.proofs.StoreHeld.{normal-with}
-use Rattle.order.specs.Queue.{queuedIn}
+use Rattle.pages.specs.Weighed.{weighed, weighedIn}
 use Rattle.pages.specs.Tables.{Priced}
 use Rattle.pages.specs.declared.page.Page.{Page}
-use Rattle.order.proofs.Queueing.{queued-row}
 use Rattle.pages.proofs.Stops.{sendable-ranges}
 use Rattle.pages.proofs.Chosen.{queuedFrom, queued-one, queued-each, queued-none}
+use Rattle.pages.proofs.Weighing.{weighs-row}
 use Rattle.pages.proofs.UnderWay.{Under, under-start, spelled-most, under-same, under-end, price-most, under-stop, under-take}
 use borrow.Author.Needs.{needs}
 use Rattle.pages.proofs.page.decide.Statement.{statement}
 use Rattle.pages.proofs.page.decide.Tie as tie
 
 abbrev Inv-loop : tie.InvT-loop
-Inv-loop rows ids wanted queue t₀ count b p₀ t p =
-    (p .place ≤ wanted) × Under (queuedIn rows ids wanted queue) (rangesAt t₀ 0 count) t₀ b (queuedFrom rows ids wanted queue (p .place)) t p
+Inv-loop rows ids lengths c wanted queue t₀ count b p₀ t p =
+    (p .place ≤ wanted) × Under (weighedIn rows ids lengths c wanted queue) (rangesAt t₀ 0 count) t₀ b (queuedFrom (weighed rows ids lengths c) wanted queue (p .place)) t p
 
 abbrev μ-loop : tie.MeasureT-loop
-μ-loop rows ids wanted queue t₀ count b p₀ t p = wanted - p .place
+μ-loop rows ids lengths c wanted queue t₀ count b p₀ t p = wanted - p .place
 
 -- ---- the places: where the call begins, the head of the loop, and behind the price of a wanted element
 
 abbrev begun : tie.At-loop Inv-loop μ-loop → tie.Start Inv-loop μ-loop
-begun l = l .before .before .before .before .before .before .before .before
+begun l = l .before .before .before .before .before .before .before .before .before
 
 abbrev looked : tie.After-price-of Inv-loop μ-loop → tie.At-loop Inv-loop μ-loop
 looked k = k .before .before .before .before .before .before .before
@@ -44,28 +44,28 @@ within : (k : tie.After-price-of Inv-loop μ-loop) → looked k .loop .p .place 
 within k = k .before .before .before .before .before .if1 .taken
 
 element-here : (k : tie.After-price-of Inv-loop μ-loop)
-    → k .before .before .before .element-in-row .result ≡ elementInRow (begun (looked k) .args .rows .now) (begun (looked k) .args .ids .now) (getD (begun (looked k) .args .queue .now) (looked k .loop .p .place) 0)
-element-here k = rw (k .before .before .before .before .row-at .ensures) at (k .before .before .before .element-in-row .ensures)
+    → k .before .before .before .weighed-row .result ≡ weighed (begun (looked k) .args .rows .now) (begun (looked k) .args .ids .now) (begun (looked k) .args .lengths .now) (begun (looked k) .args .c) (getD (begun (looked k) .args .queue .now) (looked k .loop .p .place) 0)
+element-here k = rw (k .before .before .before .before .row-at .ensures) at (k .before .before .before .weighed-row .ensures)
 
-light-here : (k : tie.After-price-of Inv-loop μ-loop) → k .before .before .before .element-in-row .result .length ≤ 2 ^ 32
+light-here : (k : tie.After-price-of Inv-loop μ-loop) → k .before .before .before .weighed-row .result .length ≤ 2 ^ 32
 light-here k =
     let s = begun (looked k) in
     let a = s .args in
     rw (element-here k)
-    (queued-each (a .rows .now) (a .ids .now) (a .wanted) (a .queue .now) (looked k .loop .p .place) (λ (x : Element). x .length ≤ 2 ^ 32) (within k) (s .pre .0 .queued .long) (s .pre .0 .short))
+    (queued-each (weighed (a .rows .now) (a .ids .now) (a .lengths .now) (a .c)) (a .wanted) (a .queue .now) (looked k .loop .p .place) (λ (x : Element). x .length ≤ 2 ^ 32) (within k) (s .pre .0 .queued .long) (s .pre .0 .short))
 
 -- the element is the next of those that are wanted
 next-wanted : (k : tie.After-price-of Inv-loop μ-loop)
-    → Under (queuedIn (begun (looked k) .args .rows .now) (begun (looked k) .args .ids .now) (begun (looked k) .args .wanted) (begun (looked k) .args .queue .now))
+    → Under (weighedIn (begun (looked k) .args .rows .now) (begun (looked k) .args .ids .now) (begun (looked k) .args .lengths .now) (begun (looked k) .args .c) (begun (looked k) .args .wanted) (begun (looked k) .args .queue .now))
     (rangesAt (begun (looked k) .args .t .now) 0 (begun (looked k) .args .count)) (begun (looked k) .args .t .now) (begun (looked k) .args .b)
-    (k .before .before .before .element-in-row .result ∷ queuedFrom (begun (looked k) .args .rows .now) (begun (looked k) .args .ids .now) (begun (looked k) .args .wanted) (begun (looked k) .args .queue .now) (looked k .loop .p .place + 1))
+    (k .before .before .before .weighed-row .result ∷ queuedFrom (weighed (begun (looked k) .args .rows .now) (begun (looked k) .args .ids .now) (begun (looked k) .args .lengths .now) (begun (looked k) .args .c)) (begun (looked k) .args .wanted) (begun (looked k) .args .queue .now) (looked k .loop .p .place + 1))
     (looked k .loop .t) (looked k .loop .p)
 next-wanted k =
     let s = begun (looked k) in
     let a = s .args in
-    under-same (looked k .loop .inv .1) (queued-one (a .rows .now) (a .ids .now) (a .wanted) (a .queue .now) (looked k .loop .p .place) (within k) (s .pre .0 .queued .long) (element-here k))
+    under-same (looked k .loop .inv .1) (queued-one (weighed (a .rows .now) (a .ids .now) (a .lengths .now) (a .c)) (a .wanted) (a .queue .now) (looked k .loop .p .place) (within k) (s .pre .0 .queued .long) (element-here k))
 
-priced-here : (k : tie.After-price-of Inv-loop μ-loop) → Priced (looked k .loop .t) (looked k .loop .p .ranges) (serialRange (k .before .before .before .element-in-row .result)) (k .price-of .result)
+priced-here : (k : tie.After-price-of Inv-loop μ-loop) → Priced (looked k .loop .t) (looked k .loop .p .ranges) (serialRange (k .before .before .before .weighed-row .result)) (k .price-of .result)
 priced-here k = rw (k .before .serial-range .ensures) at (k .price-of .ensures)
 
 -- ---- the answers
@@ -78,18 +78,18 @@ new-requires c κs = search needs
 
 loop-holds : tie.Need-loop-holds Inv-loop μ-loop
 loop-holds c =
-    let s = c .before .before .before .before .before .before .before in
+    let s = c .before .before .before .before .before .before .before .before in
     let a = s .args in
     let z : a .count - 0 ≡ a .count = omega arith in
-    rw (c .new .ensures, c .before .ranges-length .ensures .0, z) (omega arith, under-start (queuedIn (a .rows .now) (a .ids .now) (a .wanted) (a .queue .now)) (rangesAt (a .t .now) 0 (a .count)) (a .t .now) (a .b) (a .count) (s .pre .0 .carry .said) (s .pre .0 .carry .ranges-stand .0) refl)
+    rw (c .new .ensures, c .before .ranges-length .ensures .0, z) (omega arith, under-start (weighedIn (a .rows .now) (a .ids .now) (a .lengths .now) (a .c) (a .wanted) (a .queue .now)) (rangesAt (a .t .now) 0 (a .count)) (a .t .now) (a .b) (a .count) (s .pre .0 .carry .said) (s .pre .0 .carry .ranges-stand .0) refl)
 
 row-at-requires : tie.Need-row-at-requires Inv-loop μ-loop
 row-at-requires c κs = let long = begun (c .before .before) .pre .0 .queued .long in omega arith
 
-element-in-row-requires : tie.Need-element-in-row-requires Inv-loop μ-loop
-element-in-row-requires c κs =
+weighed-row-requires : tie.Need-weighed-row-requires Inv-loop μ-loop
+weighed-row-requires c κs =
     let l = c .before .before .before in
-    rw (c .row-at .ensures) (queued-row (begun l .pre .0 .queued) (l .loop .p .place) (c .before .if1 .taken))
+    rw (c .row-at .ensures) (weighs-row (begun l .pre .0 .queued) (l .loop .p .place) (c .before .if1 .taken))
 
 serial-range-requires : tie.Need-serial-range-requires Inv-loop μ-loop
 serial-range-requires c κs = search needs
@@ -115,7 +115,7 @@ add-stored c =
     let p = l .loop .p in
     let u = l .loop .inv .1 in
     let e = k .before .before .before in
-    let x = e .element-in-row .result in
+    let x = e .weighed-row .result in
     let i : p .place < a .wanted = within k in
     let few-elements : a .wanted ≤ mostElements = s .pre .0 .few in
     let light : x .length ≤ 2 ^ 32 = light-here k in
@@ -131,7 +131,7 @@ whole-of-requires c κs =
     let p = l .loop .p in
     let u = l .loop .inv .1 in
     let e = k .before .before .before in
-    let x = e .element-in-row .result in
+    let x = e .weighed-row .result in
     let i : p .place < a .wanted = within k in
     let v = next-wanted k in
     let priced = priced-here k in
@@ -200,7 +200,7 @@ take-requires c κs =
     let p = l .loop .p in
     let u = l .loop .inv .1 in
     let e = k .before .before .before in
-    let x = e .element-in-row .result in
+    let x = e .weighed-row .result in
     let q = k .price-of .result in
     let i : p .place < a .wanted = within k in
     let few-elements : a .wanted ≤ mostElements = s .pre .0 .few in
@@ -235,7 +235,7 @@ loop-again c =
     let p = l .loop .p in
     let u = l .loop .inv .1 in
     let e = k .before .before .before in
-    let x = e .element-in-row .result in
+    let x = e .weighed-row .result in
     let i : p .place < a .wanted = within k in
     let v = next-wanted k in
     let priced = priced-here k in
@@ -269,7 +269,7 @@ returns-2 c =
     let a = s .args in
     let p = l .loop .p in
     let u = l .loop .inv .1 in
-    under-end u (queued-none (a .rows .now) (a .ids .now) (a .wanted) (a .queue .now) (p .place) (c .before .if1 .left)) (c .end .ensures)
+    under-end u (queued-none (weighed (a .rows .now) (a .ids .now) (a .lengths .now) (a .c)) (a .wanted) (a .queue .now) (p .place) (c .before .if1 .left)) (c .end .ensures)
 
 pub decide-spec : {M : Type 1} → statement M
 decide-spec =
@@ -281,7 +281,7 @@ decide-spec =
     new-requires
     loop-holds
     row-at-requires
-    element-in-row-requires
+    weighed-row-requires
     serial-range-requires
     price-of-requires
     add-stored
