@@ -3,6 +3,7 @@
 ghost use mathlib.Core.Path.{_≡_};
 ghost use Rattle.pages.specs.Weighed.{lengthColumn, sumColumn, weighed, WeighsRow};
 use store::element::Element;
+use store::table::LENGTH_COLUMN;
 use store::table::ROW_WIDTH;
 use store::table::element_in_row;
 
@@ -12,16 +13,13 @@ pub struct Column {
     pub at: usize,
 }
 
-// The length is the second number of a row (`store::table`).
-const LENGTH_AT: usize = 1;
-
 // Rows are a table of their own lengths.
 pub(crate) fn length_column() -> Column
     ensures { λ r. ⌜ r ≡ lengthColumn ⌝ }
 {
     Column {
         width: ROW_WIDTH,
-        at: LENGTH_AT,
+        at: LENGTH_COLUMN,
     }
 }
 

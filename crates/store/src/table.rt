@@ -1,6 +1,6 @@
 // The working tables of a store: rows of six numbers (place, length, type, the serial's GUID as two little-endian numbers,
 // the serial's number) and ids of three (the GUID as two numbers, the number). No other file knows their columns; `order` writes
-// the rows of the lent table, which have a rank besides.
+// the rows of the lent table, which have a rank besides, and `pages` weighs rows by the column of lengths.
 ghost use mathlib.Core.Path.{_≡_};
 ghost use mathlib.Core.List.{_++_};
 ghost use Prim.Native.Nat.{_+_, _*_, _≤_, _<_};
@@ -18,7 +18,9 @@ pub const ROW_WIDTH: usize = 6;
 
 pub const ID_WIDTH: usize = 3;
 
-// Where in a row the serial number stands.
+// Where in a row the length stands, and the serial number.
+pub const LENGTH_COLUMN: usize = 1;
+
 pub(crate) const SERIAL_COLUMN: usize = 3;
 
 pub const ROW_NUMBERS: usize = 1536;
@@ -103,8 +105,8 @@ fn search_key(t: &[u64], offset: usize, width: usize, n: usize, k: Key) -> bool
     false
 }
 
-// The row of an element behind n rows. Ruled out (proofs/WrongAnswers): the length for the place; a row without its serial number.
-pub fn put_row(t: &mut [u64], n: usize, x: Element)
+// The row of an element behind n rows.
+pub(crate) fn put_row(t: &mut [u64], n: usize, x: Element)
     requires { ⌜ n * rowWidth + rowWidth ≤ length (now t) ⌝ }
     ensures { λ _. ⌜ now (t .exit) ≡ take (n * rowWidth) (now (t .entry)) ++ (rowOf x ++ drop (n * rowWidth + rowWidth) (now (t .entry))) ⌝ }
 {
@@ -118,8 +120,8 @@ pub fn put_row(t: &mut [u64], n: usize, x: Element)
     t[at + 5] = serial.number;
 }
 
-// An id behind n ids. Ruled out (proofs/WrongAnswers): its halves turned; the number alone.
-pub fn put_id(t: &mut [u64], n: usize, k: Key)
+// An id behind n ids.
+pub(crate) fn put_id(t: &mut [u64], n: usize, k: Key)
     requires { ⌜ n * idWidth + idWidth ≤ length (now t) ⌝ }
     ensures { λ _. ⌜ now (t .exit) ≡ take (n * idWidth) (now (t .entry)) ++ (idOf k ++ drop (n * idWidth + idWidth) (now (t .entry))) ⌝ }
 {
