@@ -36,5 +36,6 @@ pub mod PutAgain
 pub mod SerialsOverPuts
 pub mod OwnGroups
 pub mod Unshared
+pub mod ReadUnshared
 pub mod BenchAfterPut
 pub mod KnowsAgain

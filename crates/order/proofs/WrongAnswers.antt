@@ -15,7 +15,7 @@ use Rattle.store.specs.Element.{sameKey}
 use Rattle.store.specs.Tables.{flat, rowsOf}
 use Rattle.store.specs.declared.element.Element.{Element}
 use Rattle.order.specs.Order.{rankOf, ordered, rankedRows}
-use Rattle.order.specs.Groups.{Group, membersOf, groupsBehind, groups, someOf, single}
+use Rattle.order.specs.Groups.{Group, members, membersOf, groupsBehind, groups, someOf, single, storedLength}
 use Rattle.order.specs.Queue.{placesOf, placesFrom, queueOf, risingFrom, marking}
 use Rattle.order.specs.Links.{chosenGroups}
 
@@ -135,6 +135,12 @@ at-the-chosen : chosenGroups (λ (x : Element). not (eqb (x .place) 3)) (numbere
     ≡ single (numbered 49 7 2) ∷ record { first = numbered 3 7 1; others = numbered 95 7 1 ∷ [] } ∷ [] → ⊥
 unfolding groupsBehind seen sameKey keep someOf
 at-the-chosen h = let z : _≡_ {A = ℕ} 3 49 = ap firstPlace h in omega arith
+
+-- ---- what stands for a group: the length of the first member for the sum
+
+first-for-sum : storedLength (members (record { first = numbered 3 7 1; others = numbered 49 7 1 ∷ [] })) ≡ 46 → ⊥
+unfolding storedLength
+first-for-sum h = let z : _≡_ {A = ℕ} 92 46 = h in omega arith
 
 -- ---- rows that a queue marks: those from the first on; one more than the first of the queue
 

@@ -1,6 +1,6 @@
 -- Elements that share a serial number (document 02, Q-3): "Elements with an equal serial become a group. The filters let a group in as soon
 -- as they let one member in. A group goes out whole, at the place of its first member, members in store order", which Q-14 makes row order:
--- "groups (at the rank of their first member in the new order)". This page owns the groups: everything above speaks of these alone.
+-- "groups (at the rank of their first member in the new order)". This page owns the groups: every promise to a user speaks of these alone.
 -- Assumes nothing.
 use mathlib.Core.Bool.{Bool, true, false}
 use mathlib.Core.List.{List, [], _∷_, _++_, map}

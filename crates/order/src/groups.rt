@@ -125,8 +125,9 @@ fn lay_groups(
 }
 
 // The groups of which one member is chosen by the flags, in the order of n rows: of each the row that stands first in the store, and at that
-// row the sum of its members' lengths; and the members in a queue, whole; how many the first j groups have stands at j. Ruled out
-// (proofs/WrongAnswers): a group without the member that no flag chooses; a group at the place of its first member that a flag chooses.
+// row the sum of its members' lengths; and the members in a queue, whole; how many the first j groups have stands at j. (Which of its rows it
+// is, the contract leaves open: only time hangs on it.) Ruled out (proofs/WrongAnswers): a group without the member that no flag chooses; a
+// group at the place of its first member that a flag chooses; the length of the first member for the sum.
 pub fn group_rows(
     rows: &[u64],
     ids: &[u64],

@@ -24,7 +24,7 @@ pub record Measure : Type 0 where
   pub ranges : ℕ → ℕ  -- how many ranges it carries
   pub whole : ℕ → ℕ  -- how long the answer is
 
--- whether a page of j elements "carries at most" so many ranges, "fits the output", and "is allowed"
+-- whether a page of j groups "carries at most" so many ranges, "fits the output", and "is allowed"
 unfoldable pub isSendable : ℕ → ℕ → ℕ → ℕ → ℕ → ℕ → ℕ → Bool
 isSendable most limit room j stored ranges whole =
     pick (leb ranges most) (pick (leb whole room) (pick (leb j 1) true (leb stored limit)) false) false
@@ -46,7 +46,7 @@ decision most limit room m n =
     (pick (leb (m .whole 1) room) (sent m n (pageCount (sendable most limit room m) n)) (Short (m .whole 1)))
     Crowded)
 
--- how many elements, how long the answer, how many ranges, and 1 where a wanted element remains; or 9; or 14. Both name "the
+-- how many groups, how long the answer, how many ranges, and 1 where a wanted group remains; or 9; or 14. Both name "the
 -- store, place 0"
 abbrev pub tellDecided : Decided → Told
 tellDecided (Sent k whole ranges more) = gives (k ∷ whole ∷ ranges ∷ pick more 1 0 ∷ [])

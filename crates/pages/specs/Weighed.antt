@@ -15,7 +15,7 @@ use Rattle.pages.specs.declared.weighed.Column.{Column}
 abbrev pub lengthPlace : Column → ℕ → ℕ
 lengthPlace c i = i * c .width + c .at
 
--- the column of lengths that rows have themselves
+-- the column of lengths that rows have themselves: "(place, length, ..)"
 abbrev pub lengthColumn : Column
 lengthColumn = record { width = rowWidth; at = 1 }
 
