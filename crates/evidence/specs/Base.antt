@@ -10,7 +10,7 @@ use lib.ListN.{length, take}
 use lib.Dec.{ltb}
 use Rattle.laws.specs.Pick.{pick}
 use Rattle.numbers.specs.Refusals.{faultAt, tooShort, longestInput, overLong}
-use Rattle.objects.specs.Types.{packageType, compoundBit, withRoom, elementType, noRoom}
+use Rattle.objects.specs.Types.{packageType, compoundBit, elementType, noRoom}
 use Rattle.objects.specs.Steps.{placeOf, valueOf, runHere, closed, inside, nothingOpen, startHere, nextIs}
 use Rattle.objects.specs.Steps as steps
 use Rattle.objects.specs.declared.reading.Reading.{Reading}

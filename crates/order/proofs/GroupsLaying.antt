@@ -4,7 +4,7 @@
 use mathlib.Core.Path.{_≡_, refl, sym, ap, subst, _∙_}
 use mathlib.Core.Bool.{Bool, true, false}
 use mathlib.Core.List.{List, [], _∷_, _++_, map, append-assoc, append-nil, map-append}
-use Prim.Native.Nat.{ℕ, zero, suc, _+_, _*_, _≤_, _<_}
+use Prim.Native.Nat.{ℕ, zero, suc, _+_, _≤_, _<_}
 use native.Mathlib.Omega.{arith}
 use native.Mathlib.Numerals.{add-one}
 use lib.ListN.{length, take, getD, set, length-set, length-append}
@@ -22,7 +22,7 @@ use Rattle.store.specs.declared.element.Element.{Element}
 use Rattle.store.specs.declared.element.Key.{Key}
 use Rattle.store.proofs.Chains.{same-turn}
 use Rattle.store.proofs.Rows.{same-itself, same-equal}
-use Rattle.order.specs.Groups.{Group, members, membersOf, sharing, groupsBehind, groups, someOf, storedLength}
+use Rattle.order.specs.Groups.{Group, members, membersOf, sharing, groupsBehind, groups, someOf}
 use Rattle.order.specs.Links.{withLength, lump, bare, summedRow, queuedAt, queuedFrom, groupFrom, FlagsAre, ToLay, MembersLaid, ToGroup, chosenGroups, GroupsLaid}
 use Rattle.order.specs.Queue.{elementsAt, queuedIn}
 use Rattle.order.specs.Rearranged.{Pairs}

@@ -9,7 +9,7 @@ use lib.ListN.{length, getD, length-append}
 use Rattle.laws.specs.Placed.{laid, Lays}
 use Rattle.laws.proofs.Placing.{laid-nothing, lays-first}
 use Rattle.store.specs.declared.element.Element.{Element}
-use Rattle.order.specs.Queue.{placesOf, placesFrom, ranks, partAt, joinedParts, Parted}
+use Rattle.order.specs.Queue.{placesFrom, ranks, partAt, joinedParts, Parted}
 
 abbrev pub allParts : List ℕ → List ℕ → List ℕ
 allParts parts counts = joinedParts ranks 0 parts counts

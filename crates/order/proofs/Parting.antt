@@ -1,7 +1,7 @@
 -- Rows that are put into the parts of their ranks, one more at a turn: what a part holds, with what is still to come, is what it is to
 -- hold.
 -- Assumes nothing.
-use mathlib.Core.Path.{_≡_, refl, sym, ap, _∙_}
+use mathlib.Core.Path.{_≡_, sym, ap, _∙_}
 use mathlib.Core.List.{List, [], _∷_, _++_, append-assoc, append-nil}
 use Prim.Native.Nat.{ℕ, suc, _+_, _-_, _*_, _≤_, _<_}
 use native.Mathlib.Omega.{arith}
@@ -13,7 +13,6 @@ use borrow.Author.Tests.{eq-eqb, ne-eqb}
 use Rattle.laws.specs.Pick.{pick}
 use Rattle.laws.proofs.Cases.{by-eq, by-lt}
 use Rattle.store.specs.Tables.{mostElements, elementInRow, elementsInRows, elementsIn}
-use Rattle.store.specs.declared.element.Element.{Element}
 use Rattle.store.proofs.Elements.{elements-turn, elements-end}
 use Rattle.order.specs.Order.{rankOf}
 use Rattle.order.specs.Queue.{placesOf, ranks, partLength, partAt, PartsStand, Parted}

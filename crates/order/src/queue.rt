@@ -1,4 +1,5 @@
-// The rows that flags choose, by rank: one pass puts the position of each into the part of its rank, and the parts are joined.
+// The rows that flags choose, by rank: one pass puts the position of each into the part of its rank, and the parts are joined. And of any
+// queue of positions: whether they rise, and the rows marked that stand in it.
 ghost use mathlib.Core.Path.{_≡_};
 ghost use Prim.Native.Nat.{ℕ, _+_, _*_, _≤_, _<_};
 ghost use lib.ListN.{length, take, getD, set};

@@ -3,14 +3,13 @@
 -- Assumes nothing.
 use mathlib.Core.Path.{_≡_, refl, sym, ap, subst, _∙_, fun-ext}
 use mathlib.Core.List.{List, [], _∷_, map}
-use Prim.Native.Nat.{ℕ, _+_, _*_, _≤_, _<_}
+use Prim.Native.Nat.{ℕ, _+_, _≤_, _<_}
 use native.Mathlib.Omega.{arith}
-use lib.ListN.{length, take, getD, replicate, length-map}
+use lib.ListN.{length, take, replicate, length-map}
 use Rattle.talk.specs.Each.{Each}
 use Rattle.talk.specs.Ranges.{insert}
 use Rattle.talk.specs.declared.range.Range.{Range}
 use Rattle.talk.proofs.Things.{each-so}
-use Rattle.store.specs.KnowledgeWritten.{rangesBytes}
 use Rattle.store.specs.Held.{serialRange, rangesWith}
 use Rattle.store.specs.Tables.{RowsStand, mostElements}
 use Rattle.store.specs.declared.element.Element.{Element}
@@ -18,11 +17,11 @@ use Rattle.store.proofs.Elements.{rows-up-to}
 use Rattle.order.specs.Groups.{storedLength}
 use Rattle.order.specs.Links.{bare, summedRow}
 use Rattle.order.specs.Queue.{chosen, marking}
-use Rattle.order.specs.Rearranged.{Rearranged, Pairs}
+use Rattle.order.specs.Rearranged.{Rearranged}
 use Rattle.order.proofs.Rearranged.{rearranged-back}
 use Rattle.order.proofs.Marking.{marked-rearranged}
 use Rattle.pages.specs.Decision.{Measure, decision}
-use Rattle.pages.specs.Tables.{wholeOf, tableMeasure, Carries, DecidesPage, ToSum}
+use Rattle.pages.specs.Tables.{tableMeasure, Carries, DecidesPage, ToSum}
 use Rattle.pages.specs.Weighed.{sumColumn, lengthPlace, weighed, weighedIn, weighedRows, WeighsRow, Weighs}
 use Rattle.pages.specs.declared.page.Bounds.{Bounds}
 use Rattle.pages.specs.declared.page.Decided.{Decided}

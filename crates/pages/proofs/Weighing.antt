@@ -1,4 +1,4 @@
--- Rows that are weighed. What holds of each thing of a list holds of each in another order of it, and so of the rows that flags choose;
+-- Rows that are weighed. What holds of each of those that flags choose holds of a row whose flag is set;
 -- one position of a queue; and rows weighed by their own column of lengths are the elements that stand in them.
 -- Assumes nothing.
 use mathlib.Core.Path.{_≡_, refl, ap, _∙_}
@@ -16,21 +16,9 @@ use Rattle.talk.proofs.Things.{each-so}
 use Rattle.store.specs.Tables.{RowsStand, elementInRow, elementsInRows, elementsIn}
 use Rattle.store.specs.declared.element.Element.{Element}
 use Rattle.order.specs.Queue.{chosen, positionsFrom, queuedIn, Queued}
-use Rattle.order.specs.Rearranged.{Inserted, here, there, Rearranged, nothing, one-more}
 use Rattle.order.proofs.Queueing.{each-get}
 use Rattle.pages.specs.Weighed.{lengthPlace, lengthColumn, weighed, weighedIn, weighedRows, WeighsRow, Weighs}
 use Rattle.pages.specs.declared.weighed.Column.{Column}
-
--- ---- another order
-
-module _ {E : Type 0} (P : E → Type 0) where
-  inserted-parts : {x : E} {l m : List E} → Inserted x l m → Each P m → P x × Each P l
-  inserted-parts (here l) h = h
-  inserted-parts (there y i) h = let r = inserted-parts i (h .1) in (r .0, (h .0, r .1))
-
-  pub rearranged-each-back : {xs ys : List E} → Rearranged xs ys → Each P ys → Each P xs
-  rearranged-each-back nothing h = tt
-  rearranged-each-back (one-more r i) h = let p = inserted-parts i h in (p .0, rearranged-each-back r (p .1))
 
 -- ---- a row whose flag is not 0 is among those that are chosen
 

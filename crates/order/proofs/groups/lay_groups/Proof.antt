@@ -6,7 +6,6 @@ use native.Mathlib.Omega.{arith}
 use lib.ListN.{set, length-set}
 use Rattle.store.specs.Tables.{mostElements}
 use Rattle.order.specs.Links.{ToGroup}
-use Rattle.order.proofs.Linking.{row-stands}
 use Rattle.order.proofs.GroupsLaying.{first-end, GroupsLaying, groups-start, groups-passed, groups-room, to-lay, groups-left, groups-laid, groups-end}
 use Rattle.order.proofs.groups.lay_groups.Statement.{statement}
 use Rattle.order.proofs.groups.lay_groups.Tie as tie

@@ -1,6 +1,5 @@
 -- `queue::rank_of` meets its contract.
 -- Assumes nothing.
-use mathlib.Core.Path.{_≡_, sym}
 use native.Mathlib.Omega.{arith}
 use borrow.Author.Tests.{eq-eqb, ne-eqb, lt-ltb, le-ltb}
 use Rattle.order.specs.Order.{rankOf}

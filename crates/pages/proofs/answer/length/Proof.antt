@@ -2,7 +2,7 @@
 -- Assumes nothing.
 use mathlib.Core.Path.{refl, sym, _∙_}
 use lib.ListN.{length}
-use Rattle.pages.specs.Answer.{answerOf, answerTold, rowsAfter, rangesAfter}
+use Rattle.pages.specs.Answer.{answerTold, rowsAfter, rangesAfter}
 use Rattle.pages.proofs.Stored.{tables-short, tables-long, tables-room}
 use borrow.Author.Needs.{needs}
 use Rattle.pages.proofs.answer.length.Statement.{statement}

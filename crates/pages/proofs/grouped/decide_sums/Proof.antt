@@ -1,7 +1,6 @@
 -- `grouped::decide_sums` meets its contract: one after the other where their positions rise, and else by their marks, too.
 -- Assumes nothing.
-use mathlib.Core.Path.{_≡_, subst}
-use mathlib.Core.List.{List}
+use mathlib.Core.Path.{subst}
 use Prim.Native.Nat.{ℕ, _≤_, _<_}
 use native.Mathlib.Omega.{arith}
 use lib.ListN.{take}
@@ -10,7 +9,7 @@ use Rattle.ranges.specs.RangeTable.{rangesAt}
 use Rattle.ranges.proofs.RangeRows.{length-rows}
 use Rattle.talk.proofs.Things.{each-so}
 use Rattle.store.specs.Tables.{mostElements}
-use Rattle.pages.specs.Tables.{ToSum, Decides, DecidesPage}
+use Rattle.pages.specs.Tables.{Decides, DecidesPage}
 use Rattle.pages.specs.Weighed.{sumColumn, weighedIn}
 use Rattle.pages.specs.declared.weighed.Column.{Column}
 use Rattle.pages.proofs.AnyOrder.{one-by-one}

@@ -14,10 +14,11 @@ use Rattle.store.specs.declared.element.Element.{Element}
 use Rattle.order.specs.Groups.{storedLength}
 use Rattle.order.specs.Queue.{chosen}
 use Rattle.pages.specs.Weighed.{weighed, weighedIn, weighedRows}
+use Rattle.order.proofs.Rearranged.{rearranged-each, rearranged-back}
 use Rattle.pages.specs.Tables.{ToDecide, Decides, DecidesPage, takesAll, Gathered}
 use borrow.Author.Needs.{needs}
 use Rattle.pages.proofs.AnyOrder.{one-by-one, all-at-once, all-tried}
-use Rattle.pages.proofs.Weighing.{rearranged-each-back, chosen-row}
+use Rattle.pages.proofs.Weighing.{chosen-row}
 use Rattle.pages.proofs.whole.decide_queued.Statement.{statement}
 use Rattle.pages.proofs.whole.decide_queued.Tie as tie
 
@@ -32,7 +33,7 @@ flagged-light s i h z =
     let row = weighed (a .rows .now) (a .ids .now) (a .lengths .now) (a .c) in
     rw e at
     (chosen-row (λ (x : Element). x .length ≤ 2 ^ 32) row 0 (a .n) (a .flags .now)
-    (rearranged-each-back (λ (x : Element). x .length ≤ 2 ^ 32) (s .pre .0 .same) (s .pre .0 .short)) i h z)
+    (rearranged-each (λ (x : Element). x .length ≤ 2 ^ 32) (rearranged-back (s .pre .0 .same)) (s .pre .0 .short)) i h z)
 
 module _ (f : tie.After-flagged-rows) where
   abbrev begun : tie.Start
