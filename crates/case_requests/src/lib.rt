@@ -1,2 +1,3 @@
 // The modes of the test program for a request.
+#![tactic(auto)]
 pub mod requests;

@@ -1,5 +1,6 @@
 // A filter for tests: each line of the input is one case, and gives one line of output (README.md says which). It shows the
 // calls of the libraries from outside, so that a run can be compared with what another program makes of the same cases.
+#![tactic(auto)]
 mod bench_puts;
 mod benches;
 

@@ -1,6 +1,7 @@
 // The calls as they are exported to C: "takes byte slices and numbers; it returns the refusal number or 0". Each adds nothing to the
 // call that it makes but the report; the answering calls have the working tables besides, whose rows nobody is told, and for a store
 // without elements none of these but for the ranges: to clear them is most of what such a call costs.
+#![tactic(auto)]
 ghost use Rattle.std.specs.Prelude.{◌≡◌, ◌∷◌, [], length};
 ghost use Rattle.laws.specs.Pick.{pick};
 ghost use Rattle.store.specs.Accessor.{tell_found};

@@ -1,5 +1,6 @@
 // Runs what no single item shows: two million objects in one run, which must not grow the stack, and objects nested as
 // deep as is allowed and one deeper, in a store or request (16) and in an answer (17).
+#![tactic(auto)]
 ghost use Rattle.std.specs.Prelude.{◌+◌, ◌*◌, ◌≤◌, length};
 
 use numbers::compact::PADDING_REFUSED;
