@@ -9,7 +9,7 @@ use crate::compact::write_zero;
 use crate::guid::{Guid, guid_at, put_guid, write_tagged};
 use crate::refusal::{LONGEST_INPUT, Refusal, Wrote, at_front, over_long, too_short};
 
-#[derive(Drop)]
+#[derive(Clone, Copy)]
 pub enum ExtendedGuid {
     Null,
     Named(Guid, u32),

@@ -8,7 +8,7 @@ use crate::bytes::{put_le, read_le};
 use crate::refusal::{Wrote, too_short};
 
 // Bytes 0 to 7, and 8 to 15.
-#[derive(Drop)]
+#[derive(Clone, Copy)]
 pub struct Guid {
     pub low: u64,
     pub high: u64,

@@ -4,7 +4,7 @@ ghost use Rattle.numbers.specs.Refusals.{fault, fault_at, over_long, too_short};
 
 // Document 01, 'Why it says no': the number, the input (0: the store, or the first), the place, and the needed length
 // for 14 (else 0).
-#[derive(Drop)]
+#[derive(Clone, Copy)]
 pub struct Refusal {
     pub number: u8,
     pub input: u8,

@@ -8,7 +8,7 @@ use crate::compact::write_zero;
 use crate::guid::{Guid, guid_at, write_tagged};
 use crate::refusal::{LONGEST_INPUT, Refusal, Wrote, at_front, over_long};
 
-#[derive(Drop)]
+#[derive(Clone, Copy)]
 pub enum Serial {
     Null,
     Numbered(Guid, u64),

@@ -12,26 +12,26 @@ use numbers::refusal::{Refusal, at_place};
 use numbers::serial::{ReadSerial, Serial};
 
 // The place, and the number that was read last; or the refusal.
-#[derive(Drop)]
+#[derive(Clone, Copy)]
 pub enum Reading {
     At(usize, u64),
     Refused(Refusal),
 }
 
 // The place behind a field that is more than a number, and the field.
-#[derive(Drop)]
+#[derive(Clone, Copy)]
 pub enum ReadingGuid {
     At(usize, Guid),
     Refused(Refusal),
 }
 
-#[derive(Drop)]
+#[derive(Clone, Copy)]
 pub enum ReadingId {
     At(usize, ExtendedGuid),
     Refused(Refusal),
 }
 
-#[derive(Drop)]
+#[derive(Clone, Copy)]
 pub enum ReadingSerial {
     At(usize, Serial),
     Refused(Refusal),

@@ -36,7 +36,7 @@ pub enum Reckoned {
 
 // A request that was read: its id, how many ranges a page for it may carry, its limit, where its filters stand, how many they are,
 // and how many ranges are known.
-#[derive(Drop)]
+#[derive(Clone, Copy)]
 pub struct Asked {
     pub id: u64,
     pub most: usize,

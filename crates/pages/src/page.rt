@@ -18,7 +18,7 @@ use store::knowledge_write::ranges_length;
 
 // The page of so many elements, each of which may stand for a group, so long an answer, so many ranges, and whether a wanted one
 // remains; or 9; or 14 with the needed length.
-#[derive(Drop)]
+#[derive(Clone, Copy)]
 pub enum Decided {
     Sent(usize, usize, usize, bool),
     Crowded,
@@ -33,7 +33,7 @@ pub struct Chosen {
 }
 
 // What is asked of a page: at most so many ranges, the limit, the answer's length without elements and ranges, and the output's.
-#[derive(Drop)]
+#[derive(Clone, Copy)]
 pub struct Bounds {
     pub most: usize,
     pub limit: u64,

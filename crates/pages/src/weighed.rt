@@ -7,7 +7,7 @@ use store::element::Element;
 use store::table::{LENGTH_COLUMN, ROW_WIDTH, element_in_row};
 
 // Where in a table of lengths that of row i stands: at i * width + at.
-#[derive(Drop)]
+#[derive(Clone, Copy)]
 pub struct Column {
     pub width: usize,
     pub at: usize,

@@ -14,7 +14,7 @@ use crate::weighed::{Column, weighed_row};
 use store::table::MOST_ELEMENTS;
 
 // How many elements, and the sum of their stored lengths.
-#[derive(Drop)]
+#[derive(Clone, Copy)]
 pub struct Flagged {
     pub count: usize,
     pub stored: usize,

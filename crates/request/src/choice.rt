@@ -22,7 +22,7 @@ use store::table::{MOST_ELEMENTS, element_in_row, id_in_row, mark_of, same_key};
 const INDEX_MARKS: u64 = 1024;
 
 // What is matched at one go through the elements.
-#[derive(Drop)]
+#[derive(Clone, Copy)]
 pub enum Matched {
     All,
     OfType(u64),

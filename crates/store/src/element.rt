@@ -18,7 +18,7 @@ pub const ELEMENT: u64 = 0x01;
 pub const PACKAGE: u64 = 0x15;
 
 // An id or a serial number that is not null: the GUID as two little-endian numbers, and the number.
-#[derive(Drop)]
+#[derive(Clone, Copy)]
 pub struct Key {
     pub low: u64,
     pub high: u64,
@@ -26,7 +26,7 @@ pub struct Key {
 }
 
 // An element of a store: where it stands, how long it is from its start to its end, its type, its id and serial number.
-#[derive(Drop)]
+#[derive(Clone, Copy)]
 pub struct Element {
     pub place: usize,
     pub length: usize,
@@ -37,7 +37,7 @@ pub struct Element {
 
 // How strictly the elements of a package are read, which goes by what the package stands in: whether padding is taken, how many levels
 // are left inside an element, and whether serial numbers are judged (10) or only their form is.
-#[derive(Drop)]
+#[derive(Clone, Copy)]
 pub struct Strictness {
     pub padding: bool,
     pub levels: usize,
@@ -45,7 +45,7 @@ pub struct Strictness {
 }
 
 // The place behind an id or a serial number, and it.
-#[derive(Drop)]
+#[derive(Clone, Copy)]
 pub enum ReadingKey {
     At(usize, Key),
     Refused(Refusal),

@@ -29,7 +29,7 @@ pub struct RangeFields {
 }
 
 // The place behind a range or an entry, and what it adds.
-#[derive(Drop)]
+#[derive(Clone, Copy)]
 pub enum Item {
     Adds(usize, Range),
     Nothing(usize),

@@ -35,7 +35,7 @@ pub struct Known {
 }
 
 // The place behind a knowledge, and how many rows it has.
-#[derive(Drop)]
+#[derive(Clone, Copy)]
 pub enum ReadKnowledge {
     Holds(usize, usize),
     Refused(Refusal),

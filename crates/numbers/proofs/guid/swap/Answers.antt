@@ -1,0 +1,9 @@
+-- `guid::swap` meets its contract.
+-- Assumes nothing.
+use mathlib.Core.Path.{sym}
+use Rattle.numbers.proofs.Guids.{swapped_is}
+use borrow.Author.Rules.{rules}
+use Rattle.numbers.proofs.guid.swap.Goals as goal
+
+pub returns : goal.returns
+returns c = sym (swapped_is c.args.x)
