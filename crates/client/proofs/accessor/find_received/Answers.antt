@@ -1,0 +1,48 @@
+-- `accessor::find_received` meets its contract: the row that reading the answer left at the position.
+-- Assumes nothing.
+use mathlib.Core.Path.{◌≡◌, sym, ap, ◌∙◌}
+use Prim.Native.Nat.{ℕ, ◌*◌}
+use native.Mathlib.Omega.{arith}
+use lib.ListN.{length, length-replicate}
+use Rattle.store.specs.Accessor.{tell_found}
+use Rattle.store.specs.Tables.{id_width, most_elements, row_numbers}
+use Rattle.store.proofs.Found.{found_row, found_none, package_most, laid_long, full_rows}
+use Rattle.client.specs.Read.{response_start, package_in, answer_strictness}
+use Rattle.client.proofs.AnswerRest.{answer_refused, answer_is, rows_received_lem, ids_received_lem}
+use borrow.Author.Rules.{rules}
+use Rattle.client.proofs.accessor.find_received.Goals as goal
+use Rattle.client.proofs.accessor.find_received.Goals.{Else-x-position}
+
+pub returns-then-x-position : goal.returns-then-x-position
+returns-then-x-position c = let a = c.args in
+    let q = answer_is a.s.now c.in-Is.x (sym c.read_rows.ensures.0 ∙ c.in-Is.is) in
+    rw (c.at_place.ensures, q.2 a.position, found_none (package_in a.s.now).elements a.position (omega arith))
+
+-- the tables are as long as they were
+long : (c : Else-x-position) → (row_numbers ≡ length c.read_rows.new.rows) × (most_elements * id_width ≡ length c.read_rows.new.ids)
+long c =
+    let a = c.args in
+    let q = answer_is a.s.now c.in-Is.x (sym c.read_rows.ensures.0 ∙ c.in-Is.is) in
+    laid_long (package_in a.s.now) _ _ _ _ (package_most answer_strictness 0x62 a.s.now (response_start a.s.now)) (length-replicate {A = ℕ} row_numbers 0) (length-replicate {A = ℕ} (most_elements * id_width) 0) (c.read_rows.ensures.1 ∙ rows_received_lem a.s.now _ q.1) (c.read_rows.ensures.2 ∙ ids_received_lem a.s.now _ q.1)
+
+pub slice_bounds-element_in_row-end : goal.slice_bounds-element_in_row-end
+slice_bounds-element_in_row-end c = (long (goal.at.slice_bounds-element_in_row-end c).Else-x-position).0
+
+pub slice_bounds-element_in_row-end-in-Is : goal.slice_bounds-element_in_row-end-in-Is
+slice_bounds-element_in_row-end-in-Is c = (long (goal.at.slice_bounds-element_in_row-end-in-Is c).Else-x-position).1
+
+pub element_in_row-e-requires : goal.element_in_row-e-requires
+element_in_row-e-requires c = let a = c.args in
+    let q = answer_is a.s.now c.in-Is.x (sym c.read_rows.ensures.0 ∙ c.in-Is.is) in
+    let m = package_most answer_strictness 0x62 a.s.now (response_start a.s.now) in
+    full_rows _ _ _ (long (goal.at.element_in_row-e-requires c).Else-x-position).0 (long (goal.at.element_in_row-e-requires c).Else-x-position).1 (omega arith)
+
+pub returns-in-Refused : goal.returns-in-Refused
+returns-in-Refused c = let a = c.args in
+    rw (answer_refused a.s.now c.in-Refused.r (sym c.read_rows.ensures.0 ∙ c.in-Refused.is) a.position)
+
+pub returns-else-x-position : goal.returns-else-x-position
+returns-else-x-position c = let a = c.args in
+    let q = answer_is a.s.now c.in-Is.x (sym c.read_rows.ensures.0 ∙ c.in-Is.is) in
+    rw (q.2 a.position, c.element_in_row-e.ensures, c.read_rows.ensures.1, rows_received_lem a.s.now _ q.1)
+    (ap tell_found (sym (found_row (package_in a.s.now).elements _ _ a.position (omega arith))))

@@ -1,0 +1,34 @@
+-- `answer::read_rows` meets its contract.
+-- Assumes nothing.
+use mathlib.Core.Path.{◌≡◌, refl, sym, ◌∙◌}
+use borrow.Author.Tests.{lt-ltb, le-ltb}
+use Rattle.objects.specs.Steps.{valued}
+use Rattle.objects.specs.declared.reading.Reading.TheVariants.{Refused}
+use Rattle.client.specs.Read.{package_in, answer_end, answer_on, answer_in}
+use Rattle.client.specs.Accessor.{rows_received, ids_received}
+use Rattle.client.proofs.AnswerWithin.{good_response_start}
+use Rattle.client.proofs.AnswerRest.{rest_fault, package_refused, package_holds}
+use borrow.Author.Rules.{rules}
+use Rattle.client.proofs.answer.read_rows.Goals as goal
+
+pub returns-then-s-gt-LONGEST_ANSWER : goal.returns-then-s-gt-LONGEST_ANSWER
+unfolding answer_in answer_end answer_on rows_received ids_received
+returns-then-s-gt-LONGEST_ANSWER c = rw (lt-ltb _ _ c.if-s-gt-LONGEST_ANSWER.true, c.at_place.ensures) (refl, refl, refl)
+
+pub read_package-requires : goal.read_package-requires
+read_package-requires c = rw c.response_start-c.ensures (good_response_start _)
+
+pub returns-in-Refused : goal.returns-in-Refused
+unfolding answer_in answer_end answer_on valued rows_received ids_received
+returns-in-Refused c = let s = c.args.s.now in
+    let h = rw (c.answer_strictness.ensures, c.response_start-c.ensures) at c.read_package.ensures in
+    let q : (package_in s).last ≡ Refused _ = package_refused _ _ _ (sym h.0 ∙ c.in-Refused.is) in
+    rw (le-ltb _ _ c.if-s-gt-LONGEST_ANSWER.false) (rw (q, rest_fault s c.in-Refused.r), h.1, h.2)
+
+pub returns-in-Holds : goal.returns-in-Holds
+unfolding answer_in answer_end rows_received ids_received
+returns-in-Holds c = let s = c.args.s.now in
+    let h = rw (c.answer_strictness.ensures, c.response_start-c.ensures) at c.read_package.ensures in
+    let q = package_holds _ _ _ _ (sym h.0 ∙ c.in-Holds.is) in
+    rw (le-ltb _ _ c.if-s-gt-LONGEST_ANSWER.false)
+    (rw (c.read_rest.ensures, c.place-first.ensures, c.package_start.ensures, c.response_start-c.ensures, q.0, q.1), h.1, h.2)

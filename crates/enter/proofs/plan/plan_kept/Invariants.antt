@@ -1,0 +1,20 @@
+-- `plan::plan_kept` meets its contract. The invariant: with the numbers still to come laid at i, the plan is what it is to be.
+-- Assumes nothing.
+use mathlib.Core.Path.{◌≡◌, refl, sym, ap, ◌∙◌}
+use mathlib.Core.List.{List, [], ◌∷◌, ◌++◌}
+use Prim.Native.Nat.{ℕ, ◌+◌, ◌-◌, ◌≤◌, ◌<◌}
+use native.Mathlib.Omega.{arith}
+use lib.ListN.{length, drop, set, length-set}
+use Rattle.laws.specs.Placed.{laid}
+use Rattle.laws.proofs.Placing.{laid_nothing, lays_first}
+use Rattle.store.specs.Tables.{id_in_row, id_keys}
+use Rattle.enter.specs.Plan.{kept_source, kept_sources}
+use Rattle.enter.proofs.Planning.{ids_from, length_keys, length_kept, set_lays, kept_turn, kept_end, kept_start}
+use Rattle.enter.proofs.plan.plan_kept.Given as goal
+
+abbrev pub invariant-loop-i : goal.invariant-loop-i
+invariant-loop-i l = (l.i ≤ l.n) × (length l.plan ≡ length l.initial.plan)
+    × (laid l.i (kept_sources (id_keys l.handed l.m) l.i (ids_from l.ids l.i l.n)) l.plan ≡ kept_sources (id_keys l.handed l.m) 0 (id_keys l.ids l.n) ++ drop l.n l.initial.plan)
+
+abbrev pub decreases-loop-i : goal.decreases-loop-i
+decreases-loop-i l = l.n - l.i

@@ -1,0 +1,22 @@
+-- `plan::plan_new` meets its contract. The invariant: with the numbers still to come laid at the count, the plan is what it is to be.
+-- Assumes nothing.
+use mathlib.Core.Path.{◌≡◌, refl, sym, ap, ◌∙◌}
+use mathlib.Core.List.{List, [], ◌∷◌, ◌++◌}
+use Prim.Native.Nat.{ℕ, ◌+◌, ◌-◌, ◌*◌, ◌≤◌}
+use native.Mathlib.Omega.{arith}
+use lib.ListN.{length, set, length-set}
+use Rattle.laws.specs.Placed.{laid}
+use Rattle.laws.proofs.Placing.{laid_nothing, lays_first}
+use Rattle.store.specs.Tables.{id_width, most_elements, id_in_row, id_keys}
+use Rattle.store.specs.declared.element.Key.{Key}
+use Rattle.enter.specs.Plan.{place_among, new_sources}
+use Rattle.enter.proofs.Planning.{ids_from, ids_start, length_keys, length_new, set_lays, new_held, new_turn, new_end}
+use Rattle.enter.proofs.plan.plan_new.Given as goal
+
+abbrev pub invariant-loop-j : goal.invariant-loop-j
+invariant-loop-j l = (l.j ≤ l.m) × (length l.plan ≡ length l.initial.plan) × (l.count ≤ l.n + l.j)
+    × (l.count + length (new_sources (id_keys l.ids l.n) l.j (ids_from l.handed l.j l.m)) ≡ l.n + length (new_sources (id_keys l.ids l.n) 0 (id_keys l.handed l.m)))
+    × (laid l.count (new_sources (id_keys l.ids l.n) l.j (ids_from l.handed l.j l.m)) l.plan ≡ laid l.n (new_sources (id_keys l.ids l.n) 0 (id_keys l.handed l.m)) l.initial.plan)
+
+abbrev pub decreases-loop-j : goal.decreases-loop-j
+decreases-loop-j l = l.m - l.j

@@ -1,0 +1,33 @@
+-- `header::length_at` meets its contract: the true length is read where the escape stands.
+-- Assumes nothing.
+use mathlib.Core.Path.{sym, ◌∙◌}
+use native.Mathlib.Omega.{arith}
+use borrow.Author.Tests.{eq-eqb, ne_eqb}
+use Rattle.laws.proofs.Parts.{tail_part}
+use Rattle.objects.specs.Header.{length_at}
+use Rattle.objects.proofs.HeaderLaws.{compact_past, compact_fits}
+use borrow.Author.Rules.{rules}
+use Rattle.objects.proofs.header.length_at.Goals as goal
+
+pub returns-then-n-ne-ESCAPE : goal.returns-then-n-ne-ESCAPE
+unfolding length_at
+returns-then-n-ne-ESCAPE c = rw (ne_eqb _ _ c.if-n-ne-ESCAPE.true)
+
+pub returns-then-s-at : goal.returns-then-s-at
+unfolding length_at
+returns-then-s-at c = rw (eq-eqb _ _ c.if-n-ne-ESCAPE.false, compact_past _ _ _ c.if-s-at.true, c.at_place.ensures)
+
+pub overflow_add-result : goal.overflow_add-result
+overflow_add-result c = let a = c.args in
+    let e = sym c.item.ensures ∙ c.in-Value.is in
+    omega (arith, compact_fits _ a.s.now a.at _ _ _ (rw tail_part at e))
+
+pub returns-in-Value : goal.returns-in-Value
+unfolding length_at
+returns-in-Value c = let e = rw tail_part at (sym c.item.ensures ∙ c.in-Value.is) in
+    rw (eq-eqb _ _ c.if-n-ne-ESCAPE.false, e)
+
+pub returns-in-Refused : goal.returns-in-Refused
+unfolding length_at
+returns-in-Refused c = let e = rw tail_part at (sym c.item.ensures ∙ c.in-Refused.is) in
+    rw (eq-eqb _ _ c.if-n-ne-ESCAPE.false, e, c.at_place-in-Refused.ensures)

@@ -1,0 +1,35 @@
+-- `reading::Reading::number_is` meets its contract.
+-- Assumes nothing.
+use mathlib.Core.Path.{sym, ◌∙◌}
+use native.Mathlib.Omega.{arith}
+use Rattle.objects.proofs.HeaderLaws.{compact_past, compact_fits}
+use borrow.Author.Tests.{lt-ltb, le-ltb, eq-eqb, ne_eqb}
+use Rattle.laws.proofs.Parts.{tail_part}
+use Rattle.objects.specs.Steps.{number_is}
+use borrow.Author.Rules.{rules}
+use Rattle.objects.proofs.reading.Reading.number_is.Goals as goal
+
+pub returns-then-s-at : goal.returns-then-s-at
+unfolding number_is
+returns-then-s-at c = rw (c.in-At.is, compact_past _ _ _ c.if-s-at.true, c.at_place.ensures)
+
+pub overflow_add-result : goal.overflow_add-result
+overflow_add-result c = let a = c.args in
+    let e = rw tail_part at (sym c.item.ensures ∙ c.in-Value.is) in
+    omega (arith, compact_fits _ a.s.now c.in-At.at c.in-Value.v c.in-Value.n _ e)
+
+pub returns-then-v-x : goal.returns-then-v-x
+unfolding number_is
+returns-then-v-x c = search (lt-ltb, le-ltb, eq-eqb, ne_eqb, rw tail_part at (sym c.item.ensures ∙ c.in-Value.is), c.in-At.is)
+
+pub returns-in-Refused : goal.returns-in-Refused
+unfolding number_is
+returns-in-Refused c = search (lt-ltb, le-ltb, eq-eqb, ne_eqb, c.in-Refused.is)
+
+pub returns-else-v-x : goal.returns-else-v-x
+unfolding number_is
+returns-else-v-x c = search (lt-ltb, le-ltb, eq-eqb, ne_eqb, c.at_place-in-Value.ensures, rw tail_part at (sym c.item.ensures ∙ c.in-Value.is), c.in-At.is)
+
+pub returns-in-Refused-item : goal.returns-in-Refused-item
+unfolding number_is
+returns-in-Refused-item c = search (lt-ltb, le-ltb, eq-eqb, ne_eqb, c.at_place-in-Refused-item.ensures, rw tail_part at (sym c.item.ensures ∙ c.in-Refused-item.is), c.in-At.is)

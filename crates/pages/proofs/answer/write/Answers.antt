@@ -1,0 +1,21 @@
+-- `answer::write` meets its contract: the lengths of the tables say which case of `answer_of` holds.
+-- Assumes nothing.
+use mathlib.Core.Path.{refl, sym, ◌∙◌}
+use lib.ListN.{length}
+use Rattle.pages.specs.Answer.{answer_told, rows_after, ranges_after, output_after}
+use Rattle.pages.proofs.Stored.{tables_short, tables_long, tables_room}
+use borrow.Author.Rules.{rules}
+use Rattle.pages.proofs.answer.write.Goals as goal
+
+pub returns-then-too_few : goal.returns-then-too_few
+unfolding answer_told rows_after ranges_after output_after
+returns-then-too_few c = let few = sym c.too_few.ensures ∙ c.if-too_few.taken in
+    let a = TODO_above_start in
+    rw (tables_short a.store.now a.request.now (length a.rows.now) (length a.ranges.now) (length a.out.now) few, c.at_place.ensures) (refl, refl, refl, refl)
+
+pub send_answer-requires : goal.send_answer-requires
+send_answer-requires c = tables_room _ _ (sym c.too_few.ensures ∙ c.if-too_few.left)
+
+pub returns : goal.returns
+returns c = let a = TODO_above_start in
+    rw (tables_long a.store.now a.request.now (length a.rows.now) (length a.ranges.now) (length a.out.now) (sym c.too_few.ensures ∙ c.if-too_few.left)) c.send_answer.ensures

@@ -1,0 +1,94 @@
+-- `deciding::decide_asked` meets its contract: what was decided says which case of `on_decided` holds, and the tables hold the page's
+-- answer.
+-- Assumes nothing.
+use mathlib.Core.Path.{◌≡◌, ap, ◌∙◌}
+use mathlib.Core.List.{List, map}
+use Prim.Native.Nat.{ℕ}
+use native.Mathlib.Omega.{arith}
+use lib.ListN.{length}
+use Rattle.order.specs.Links.{lump}
+use Rattle.store.specs.Store.{store_walk}
+use Rattle.store.specs.Held.{StoreHeld, storage_index}
+use Rattle.store.proofs.StoreHeld.{short_row, least_row, id_row_lem}
+use Rattle.pages.specs.Tables.{Carries, SendsRows}
+use Rattle.pages.specs.Answer.{Ask, known_in, page_decided}
+use Rattle.pages.specs.Held.{ask_in}
+use Rattle.pages.proofs.Paged.{page_decided_lem, page_crowded, page_short, page_reckoned, page_ready}
+use borrow.Author.Rules.{rules}
+use Rattle.pages.proofs.deciding.decide_asked.Goals as goal
+use Rattle.pages.proofs.deciding.decide_asked.Goals.{After-decide_page-chosen}
+
+abbrev queue_then : tie.After-decide-page → List ℕ
+queue_then c = c.decide-page.new.1.1.1.1.1.1.1.0
+
+abbrev known_then : tie.After-decide-page → List ℕ
+known_then c = c.decide-page.new.1.1.1.1.1.1.0
+
+-- whatever store stands in the tables
+module _ (c : tie.After-decide-page) (s : List ℕ) (h : StoreHeld s (begun c).args.elements.now (begun c).args.ids.now (begun c).args.n) where
+  abbrev asked : Ask
+  asked = ask_in s (begun c).args.request.now (begun c).args.a
+
+  index_is : c.before.before.before.storage-index.result ≡ storage_index (store_walk s).elements
+  index_is = c.before.before.before.storage-index.ensures ∙ ap storage_index h.held
+
+  -- the decision is that of document 01, the table of ranges holds what the page says, and the queue its rows
+  decided_is : (c.decide-page.result.decided ≡ page_decided asked (begun c).args.room)
+      × Carries (map lump asked.wanted) (known_in (begun c).args.request.now) c.decide-page.result.decided (known_then c)
+      × SendsRows (begun c).args.elements.now (begun c).args.ids.now (queue_then c) asked.wanted c.decide-page.result.decided c.decide-page.result.rows
+  decided_is =
+      let a = (begun c).args in
+      page_decided_lem s a.request.now a.a a.elements.now a.ids.now a.known.now a.n h (begun c).requires.1 a.room _ _ _ _ _ c.decide-page.ensures index_is
+
+long_then : (c : After-decide_page-chosen) → length (known_then c) ≡ length c.args.known.now
+long_then c = c.decide_page-chosen.auto.1.1.1.1.1.1.0
+
+queue_long : (c : After-decide_page-chosen) → length (queue_then c) ≡ length c.args.queue.now
+queue_long c = c.decide_page-chosen.auto.1.1.1.1.1.1.1.0
+
+-- ---- the answers
+pub storage_index-index-requires : goal.storage_index-index-requires
+storage_index-index-requires c = let held = c.requires.0.1 in (held.stand, id_row_lem held)
+
+pub decide_page-chosen-requires : goal.decide_page-chosen-requires
+decide_page-chosen-requires c = let held = c.requires.0.1 in
+    let given = c.requires.1 in
+    record {
+      stand = held.stand;
+      few = held.most;
+      short = short_row held;
+      least = least_row held;
+      roomy = c.requires.2;
+      carry = record {
+        said = given.most;
+        most_carried_lem = given.carried;
+        room = omega (arith, given.carried, given.room);
+        ranges_stand = (omega (arith, given.most, given.room), rw given.held given.normal);
+      };
+    }
+
+pub returns-in-Crowded : goal.returns-in-Crowded
+returns-in-Crowded c = λ s h.
+    let a = c.args in
+    let x = decided_is (goal.at.returns-in-Crowded c).After-decide_page-chosen s h in
+    let y = page_crowded s a.request.now a.a a.elements.now a.ids.now a.known.now a.n h c.requires.1 a.room _ c.in-Crowded.is x.0 in
+    rw c.at_place.ensures (y.0, long_then (goal.at.returns-in-Crowded c).After-decide_page-chosen, queue_long (goal.at.returns-in-Crowded c).After-decide_page-chosen, y.1)
+
+pub returns-in-Short : goal.returns-in-Short
+returns-in-Short c = λ s h.
+    let a = c.args in
+    let x = decided_is (goal.at.returns-in-Short c).After-decide_page-chosen s h in
+    let y = page_short s a.request.now a.a a.elements.now a.ids.now a.known.now a.n h c.requires.1 a.room _ _ c.in-Short.is x.0 in
+    rw c.too_short.ensures (y.0, long_then (goal.at.returns-in-Short c).After-decide_page-chosen, queue_long (goal.at.returns-in-Short c).After-decide_page-chosen, y.1)
+
+pub returns-in-Sent : goal.returns-in-Sent
+returns-in-Sent c = λ s h.
+    let a = c.args in
+    let g = c.requires.1 in
+    let x = decided_is (goal.at.returns-in-Sent c).After-decide_page-chosen s h in
+    let long = long_then (goal.at.returns-in-Sent c).After-decide_page-chosen in (
+      page_reckoned s a.request.now a.a a.elements.now a.ids.now a.known.now a.n h g a.room _ c.in-Sent.field-0 c.in-Sent.whole c.in-Sent.count c.in-Sent.partial e x.0 _ _ _ x.1 x.2 long _ (index_is (goal.at.returns-in-Sent c).After-decide_page-chosen s h),
+      long,
+      queue_long (goal.at.returns-in-Sent c).After-decide_page-chosen,
+      page_ready s a.request.now a.a a.elements.now a.ids.now a.known.now a.n h g a.room _ c.in-Sent.field-0 c.in-Sent.whole c.in-Sent.count c.in-Sent.partial e x.0 _ _ _ x.1 x.2 long _ (index_is (goal.at.returns-in-Sent c).After-decide_page-chosen s h),
+    )

@@ -1,0 +1,38 @@
+-- `deciding::decide_request` meets its contract.
+-- Assumes nothing.
+use mathlib.Core.Path.{◌≡◌, refl, sym, ◌∙◌}
+use native.Mathlib.Omega.{arith}
+use lib.ListN.{length}
+use Rattle.store.specs.Knowledge.{said_numbers}
+use Rattle.pages.specs.Decision.{most_carried}
+use Rattle.pages.specs.Answer.{on_request}
+use Rattle.pages.specs.Held.{reckoned_for}
+use Rattle.pages.proofs.Stored.{request_same, request_long, request_read}
+use borrow.Author.Rules.{rules}
+use Rattle.pages.proofs.deciding.decide_request.Goals as goal
+use Rattle.pages.proofs.deciding.decide_request.Goals.{After-read_request}
+
+lent_known : (c : After-read_request) → length c.args.known.now ≡ said_numbers
+lent_known c = c.requires.1
+
+-- the table of ranges is as long as it was
+read_long : (c : After-read_request) → said_numbers ≡ length c.read_request.new.table
+read_long c = request_long _ _ _ _ (lent_known c) c.read_request.ensures
+
+pub decide_asked-requires : goal.decide_asked-requires
+decide_asked-requires c = let long = lent_known (goal.at.decide_asked-requires c).After-read_request in
+    let flagged = c.requires.2 in
+    (c.requires.0, request_read c.args.request.now _ _ _ most_carried _ _ _ _ (omega arith) (omega arith) (rw c.in-Asked.is at c.read_request.ensures), omega arith)
+
+pub returns-in-Refused : goal.returns-in-Refused
+unfolding on_request reckoned_for
+returns-in-Refused c = λ s h.
+    rw (request_same c.args.request.now _ _ _ c.read_request.ensures ∙ c.in-Refused.is)
+    (refl, c.read_request.ensures.1, refl, sym (read_long (goal.at.returns-in-Refused c).After-read_request) ∙ sym (lent_known (goal.at.returns-in-Refused c).After-read_request), refl, refl)
+
+pub returns-in-Asked : goal.returns-in-Asked
+unfolding on_request reckoned_for
+returns-in-Asked c = λ s h.
+    let x = c.decide_asked.ensures s h in
+    rw (request_same c.args.request.now _ _ _ c.read_request.ensures ∙ c.in-Asked.is)
+    (x.0, c.decide_asked.auto.1.1.1.1.1.0 ∙ sym (read_long (goal.at.returns-in-Asked c).After-read_request) ∙ sym (lent_known (goal.at.returns-in-Asked c).After-read_request), x.2, c.decide_asked.auto.1.1.1.1.1.0 ∙ sym (read_long (goal.at.returns-in-Asked c).After-read_request) ∙ sym (lent_known (goal.at.returns-in-Asked c).After-read_request), c.decide_asked.auto.1.1.1.1.1.1.0, x.3)

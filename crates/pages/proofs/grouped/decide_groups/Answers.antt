@@ -1,0 +1,139 @@
+-- `grouped::decide_groups` meets its contract: what is decided of the rows that stand for groups is decided of the groups, and the members of the
+-- first ones stand first in the queue.
+-- Assumes nothing.
+use mathlib.Core.Path.{◌≡◌, refl, ap, ◌∙◌}
+use mathlib.Core.Bool.{Bool}
+use mathlib.Core.List.{List, map}
+use Prim.Native.Nat.{ℕ, ◌^◌, ◌≤◌}
+use native.Mathlib.Omega.{arith}
+use lib.ListN.{length, take, length-map}
+use Rattle.ranges.specs.RangeTable.{ranges_at}
+use Rattle.talk.specs.declared.range.Range.{Range}
+use Rattle.store.specs.Tables.{most_elements, elements_in}
+use Rattle.store.specs.declared.element.Element.{Element}
+use Rattle.order.specs.Order.{ordered}
+use Rattle.order.specs.Groups.{Group, members_of}
+use Rattle.order.specs.Links.{bare, lump, FlagsAre, chosen_groups, GroupsLaid}
+use Rattle.order.proofs.FirstGroups.{first_groups_are, first_groups_queued, chosen_each, chosen_short}
+use Rattle.order.proofs.GroupMembers.{length_least}
+use Rattle.pages.specs.Tables.{taken_in, DecidesPage, SendsRows}
+use Rattle.pages.specs.Weighed.{sum_column, weighed_in}
+use Rattle.pages.specs.declared.page.Decided.{Decided}
+use Rattle.pages.specs.declared.page.Decided.TheVariants.{Sent, Crowded, Short}
+use Rattle.pages.proofs.Lumps.{least_lumps}
+use Rattle.pages.proofs.SingleGroups.{taken_most}
+use Rattle.pages.proofs.Summed.{same_decided, same_lengths, summed}
+use borrow.Author.Rules.{rules}
+use Rattle.pages.proofs.grouped.decide_groups.Goals as goal
+use Rattle.pages.proofs.grouped.decide_groups.Goals.{After-decide_sums-decided, After-group_rows-wanted}
+
+-- the members of those that are sent are the first rows
+sends_rows : {rows ids : List ℕ} {m : ℕ} {sums earliest laid ends : List ℕ} {gs : List Group} {w : ℕ} → GroupsLaid rows ids m sums earliest laid ends gs w → (d : Decided) (n : ℕ)
+    → n ≡ length (members_of (take (taken_in d) gs)) → SendsRows rows ids laid gs d n
+sends_rows l (Sent k whole ranges more) n e = rw e (refl, first_groups_queued l k, first_groups_are l k)
+sends_rows l Crowded n e = tt
+sends_rows l (Short m) n e = tt
+
+-- ---- the groups as they were laid, for whatever test the flags are of
+module _ (g : After-group_rows-wanted) where
+  abbrev start : tie.Start
+  start = (TODO_place g Start)
+
+  abbrev wanted : (Element → Bool) → List Group
+  wanted test = chosen_groups test (ordered (elements_in start.args.elements.now start.args.ids.now start.args.n))
+
+  abbrev sums_then : List ℕ
+  sums_then = c.group_rows-wanted.last.1.1.1.1.0
+
+  abbrev earliest_then : List ℕ
+  earliest_then = c.group_rows-wanted.last.1.1.1.1.1.0
+
+  abbrev laid_then : List ℕ
+  laid_then = c.group_rows-wanted.last.1.1.1.1.1.1.0
+
+  abbrev ends_then : List ℕ
+  ends_then = c.group_rows-wanted.last.1.1.1.1.1.1.1.0
+
+  abbrev Flagged : (Element → Bool) → Type 0
+  Flagged test = FlagsAre test start.args.elements.now start.args.ids.now start.args.n start.args.flags.now
+
+  laid_groups : (test : Element → Bool) → Flagged test → GroupsLaid start.args.elements.now start.args.ids.now start.args.n sums_then earliest_then laid_then ends_then (wanted test) c.group_rows-wanted.result
+  laid_groups = c.group_rows-wanted.ensures
+
+  some_laid : GroupsLaid start.args.elements.now start.args.ids.now start.args.n sums_then earliest_then laid_then ends_then (wanted start.pre.3.0) c.group_rows-wanted.result
+  some_laid = laid_groups start.pre.3.0 start.pre.3.1
+
+  groups_few : c.group_rows-wanted.result ≤ most_elements
+  groups_few =
+      let a = some_laid.counted in
+      let b = length_least (wanted start.pre.3.0) in
+      let c : length (members_of (wanted start.pre.3.0)) ≤ most_elements = some_laid.few in
+      omega arith
+
+  abbrev standing : List Element
+  standing = weighed_in start.args.elements.now start.args.ids.now sums_then sum_column c.group_rows-wanted.result earliest_then
+
+  -- the rows that stand for them have their serial numbers and the lengths of all their members
+  stand_for : (test : Element → Bool) → Flagged test → map bare standing ≡ map bare (map lump (wanted test))
+  stand_for test f = ap (map bare) (summed start.args.elements.now start.args.ids.now sums_then (take c.group_rows-wanted.result earliest_then)) ∙ (laid_groups test f).lumps
+
+-- ---- what was decided
+module _ (d : After-decide_sums-decided) where
+  abbrev gathered : tie.After-group-rows
+  gathered = (TODO_place d After-group_rows-wanted)
+
+  abbrev begun : tie.Start
+  begun = start gathered
+
+  abbrev known_then : List ℕ
+  known_then = c.decide_sums-decided.last.1.1.1.1.1.1.0
+
+  abbrev ranges : List Range
+  ranges = ranges_at begun.args.known.now 0 begun.args.count
+
+  decided : (test : Element → Bool) → Flagged gathered test → DecidesPage (map lump (wanted gathered test)) ranges begun.args.bounds c.decide_sums-decided.result known_then
+  decided test f = same_decided (standing gathered) (map lump (wanted gathered test)) (stand_for gathered test f) ranges begun.args.bounds c.decide_sums-decided.result known_then c.decide_sums-decided.ensures
+
+  taken_few : (test : Element → Bool) → Flagged gathered test → taken_in c.decide_sums-decided.result ≤ gathered.group-rows.result
+  taken_few test f =
+      let a = taken_most begun.args.bounds ranges _ c.decide_sums-decided.result known_then (decided test f) in
+      let b = length-map (wanted gathered test) lump in
+      let c = (laid_groups gathered test f).counted in
+      omega arith
+
+pub group_rows-wanted-requires : goal.group_rows-wanted-requires
+group_rows-wanted-requires c = let few : c.args.n ≤ most_elements = c.requires.0.few in
+    (c.requires.0.stand, few, c.requires.0.short, c.requires.1, few, few, c.requires.0.roomy, omega arith, c.requires.3)
+
+pub decide_sums-decided-requires : goal.decide_sums-decided-requires
+decide_sums-decided-requires c = let s = start (goal.at.decide_sums-decided-requires c).After-group_rows-wanted in
+    let a = s.args in
+    let test = s.pre.3.0 in
+    let l = some_laid (goal.at.decide_sums-decided-requires c).After-group_rows-wanted in
+    let e = stand_for (goal.at.decide_sums-decided-requires c).After-group_rows-wanted test s.pre.3.1 in
+    let few : a.n ≤ most_elements = s.pre.0.few in (
+      record {
+        stand = s.pre.0.stand;
+        few = few;
+        sums_long = let long = c.group_rows-wanted.kept in omega arith;
+        long = l.long;
+        wanted_few = groups_few (goal.at.decide_sums-decided-requires c).After-group_rows-wanted;
+        inside = l.inside;
+        apart = l.apart;
+        short = same_lengths (standing (goal.at.decide_sums-decided-requires c).After-group_rows-wanted) (map lump (wanted (goal.at.decide_sums-decided-requires c).After-group_rows-wanted test)) e (λ (n : ℕ). n ≤ 2 ^ 32) (chosen_short test a.elements.now a.ids.now a.n s.pre.0.short l.few);
+        least = same_lengths (standing (goal.at.decide_sums-decided-requires c).After-group_rows-wanted) (map lump (wanted (goal.at.decide_sums-decided-requires c).After-group_rows-wanted test)) e (λ (n : ℕ). 46 ≤ n) (least_lumps 46 (wanted (goal.at.decide_sums-decided-requires c).After-group_rows-wanted test) (chosen_each (λ (x : Element). 46 ≤ x.length) test a.elements.now a.ids.now a.n s.pre.0.least));
+        carry = s.pre.0.carry;
+      },
+      s.pre.2,
+    )
+
+pub offset_bounds-ends-sent : goal.offset_bounds-ends-sent
+offset_bounds-ends-sent c = let s = begun (goal.at.offset_bounds-ends-sent c).After-decide_sums-decided in let t = taken_few (goal.at.offset_bounds-ends-sent c).After-decide_sums-decided s.pre.3.0 s.pre.3.1 in let f : (gathered (goal.at.offset_bounds-ends-sent c).After-decide_sums-decided).group-rows.result ≤ most_elements = groups_few (gathered (goal.at.offset_bounds-ends-sent c).After-decide_sums-decided) in rw c.taken_in-sent.ensures (omega arith)
+
+pub bounds-ends-sent : goal.bounds-ends-sent
+bounds-ends-sent c = let s = begun (goal.at.bounds-ends-sent c).After-decide_sums-decided in let t = taken_few (goal.at.bounds-ends-sent c).After-decide_sums-decided s.pre.3.0 s.pre.3.1 in let f : (gathered (goal.at.bounds-ends-sent c).After-decide_sums-decided).group-rows.result ≤ most_elements = groups_few (gathered (goal.at.bounds-ends-sent c).After-decide_sums-decided) in rw c.taken_in-sent.ensures (omega arith)
+
+pub returns : goal.returns
+returns c = λ test f.
+    let l = laid_groups (gathered (goal.at.returns c).After-decide_sums-decided) test f in
+    (decided (goal.at.returns c).After-decide_sums-decided test f, sends_rows l c.decide_sums-decided.result _ (rw c.taken_in-sent.ensures (l.ends_are (taken_in c.decide_sums-decided.result) (taken_few (goal.at.returns c).After-decide_sums-decided test f))))

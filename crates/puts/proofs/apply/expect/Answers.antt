@@ -1,0 +1,26 @@
+-- `apply::expect` meets its contract.
+-- Assumes nothing.
+use mathlib.Core.Path.{◌≡◌, sym, ap, ◌∙◌}
+use lib.ListN.{length}
+use Rattle.store.specs.Held.{storage_index}
+use Rattle.store.specs.Store.{store_walk}
+use Rattle.store.proofs.StoreHeld.{id_row_lem}
+use Rattle.puts.specs.Applied.{same_id}
+use Rattle.puts.proofs.Outcomes.{refused_gives, expecting_other, expecting_same}
+use borrow.Author.Rules.{rules}
+use Rattle.puts.proofs.apply.expect.Goals as goal
+
+pub storage_index-requires : goal.storage_index-requires
+storage_index-requires c = let h = c.requires.0 in (h.stand, id_row_lem h)
+
+pub returns-then-same_id : goal.returns-then-same_id
+returns-then-same_id c = let a = c.args in
+    let all = (store_walk a.store.now).elements in
+    let e : c.same_id.result ≡ same_id a.expected (storage_index all) = c.same_id.ensures ∙ ap (same_id a.expected) (c.storage_index.ensures ∙ ap storage_index c.requires.0.held) in
+    rw (expecting_same a.store.now all a.request.now a.id a.g (length a.newstore.now) (length a.out.now) a.expected (sym e ∙ c.if-same_id.true)) c.number.ensures
+
+pub returns : goal.returns
+returns c = let a = c.args in
+    let all = (store_walk a.store.now).elements in
+    let e : c.same_id.result ≡ same_id a.expected (storage_index all) = c.same_id.ensures ∙ ap (same_id a.expected) (c.storage_index.ensures ∙ ap storage_index c.requires.0.held) in
+    rw (expecting_other a.store.now all a.request.now a.id a.g (length a.newstore.now) (length a.out.now) a.expected (sym e ∙ c.if-same_id.false), c.at_place.ensures) (refused_gives _ a.newstore.now a.out.now)

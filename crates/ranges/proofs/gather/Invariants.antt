@@ -1,0 +1,16 @@
+-- `ranges::gather` meets its contract.
+-- Assumes nothing.
+use Rattle.talk.specs.Ranges.{is_before, joined, absorb}
+use Rattle.ranges.specs.RangeTable.{range_at, ranges_at}
+use mathlib.Core.Bool.{true, false}
+use Rattle.ranges.proofs.RangeRows.{gather_turn, gather_stop, gather_end}
+use native.Mathlib.Omega.{arith}
+use Prim.Native.Nat.{◌-◌, ◌≤◌, ◌<◌}
+use mathlib.Core.Path.{◌≡◌, refl, sym, ap, ◌∙◌}
+use Rattle.ranges.proofs.gather.Given as goal
+
+abbrev pub invariant-loop-j : goal.invariant-loop-j
+invariant-loop-j l = (l.i ≤ l.j) × (l.j ≤ l.count) × (absorb l.initial.y (ranges_at l.t l.i (l.count - l.i)) ≡ absorb l.y (ranges_at l.t l.j (l.count - l.j)))
+
+abbrev pub decreases-loop-j : goal.decreases-loop-j
+decreases-loop-j l = l.count - l.j

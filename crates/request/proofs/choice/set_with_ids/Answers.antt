@@ -1,0 +1,37 @@
+-- `choice::set_with_ids` meets its contract. The invariant: what is told is what the ids still to come set, and they are read from
+-- here.
+-- Assumes nothing.
+use mathlib.Core.Path.{◌≡◌, refl, ◌∙◌}
+use Prim.Native.Nat.{◌-◌}
+use native.Mathlib.Omega.{arith}
+use borrow.Author.Rules.{rules}
+use lib.ListN.{length}
+use Rattle.request.specs.Meaning.{keys_in}
+use Rattle.store.specs.Tables.{elements_in}
+use Rattle.request.specs.Choice.{set_flags, with_ids}
+use Rattle.request.proofs.Putting.{SettingIds, ids_start, ids_more, ids_over, ids_end}
+use Rattle.request.proofs.choice.set_with_ids.Goals as goal
+
+pub loop-i-init : goal.loop-i-init
+loop-i-init c = (refl, ids_start _ _ _ _ _ _ c.one_number-at.ensures c.value-count.ensures)
+
+pub shape_of-flags-then-i-eq-MOST_IDS : goal.shape_of-flags-then-i-eq-MOST_IDS
+shape_of-flags-then-i-eq-MOST_IDS c = c.loop-i.invariant.0
+
+pub returns-then-i-eq-MOST_IDS : goal.returns-then-i-eq-MOST_IDS
+returns-then-i-eq-MOST_IDS c = let u = ids_over c.loop-i.invariant.1 c.loop-i-test.true c.if-i-eq-MOST_IDS.true in
+    (rw (c.need.ensures, c.place.ensures, c.on-next.ensures, c.extended_guid-id.ensures) u.0, u.1)
+
+pub set_id-requires : goal.set_id-requires
+set_id-requires c = let e = c.loop-i.invariant.0 in
+    (c.requires.0, omega arith, c.requires.2)
+
+pub loop-i-preserved : goal.loop-i-preserved
+loop-i-preserved c = let u = ids_more c.loop-i.invariant.1 c.loop-i-test.true c.if-i-eq-MOST_IDS.false in
+    (c.set_id.auto.1.1.1.1.1.1.0 ∙ c.loop-i.invariant.0, rw (c.on-next.ensures, c.set_id.ensures, c.extended_guid-id.ensures) u)
+
+pub shape_of-flags : goal.shape_of-flags
+shape_of-flags c = c.loop-i.invariant.0
+
+pub returns : goal.returns
+returns c = ids_end c.loop-i.invariant.1 c.loop-i-test.false

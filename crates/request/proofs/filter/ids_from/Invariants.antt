@@ -1,0 +1,15 @@
+-- `filter::ids_from` meets its contract.
+-- Assumes nothing.
+use mathlib.Core.Path.{◌≡◌, sym, ◌∙◌}
+use Prim.Native.Nat.{◌-◌, ◌≤◌}
+use native.Mathlib.Omega.{arith}
+use borrow.Author.Rules.{rules}
+use Rattle.request.specs.Filter.{ids_from}
+use Rattle.request.proofs.Turns.{ids_more, ids_over, ids_end}
+use Rattle.request.proofs.filter.ids_from.Given as goal
+
+abbrev pub invariant-loop-i : goal.invariant-loop-i
+invariant-loop-i l = (l.i ≤ l.n) × (l.i ≤ 64) × (ids_from 64 l.d l.n l.initial.at ≡ ids_from (64 - l.i) l.d (l.n - l.i) l.at)
+
+abbrev pub decreases-loop-i : goal.decreases-loop-i
+decreases-loop-i l = l.n - l.i

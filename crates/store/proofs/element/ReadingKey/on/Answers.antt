@@ -1,0 +1,14 @@
+-- `element::ReadingKey::on` meets its contract.
+-- Assumes nothing.
+use borrow.Author.Tests.{lt-ltb, le-ltb, eq-eqb, ne_eqb}
+use Rattle.store.specs.Element.{on_key}
+use borrow.Author.Rules.{rules}
+use Rattle.store.proofs.element.ReadingKey.on.Goals as goal
+
+pub returns-in-At : goal.returns-in-At
+unfolding on_key
+returns-in-At c = search (lt-ltb, le-ltb, eq-eqb, ne_eqb, c.in-At.is)
+
+pub returns-in-Refused : goal.returns-in-Refused
+unfolding on_key
+returns-in-Refused c = search (lt-ltb, le-ltb, eq-eqb, ne_eqb, c.in-Refused.is)

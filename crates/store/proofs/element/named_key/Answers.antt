@@ -1,0 +1,18 @@
+-- `element::named_key` meets its contract: by what stands there.
+-- Assumes nothing.
+use borrow.Author.Tests.{lt-ltb, le-ltb, eq-eqb, ne_eqb}
+use Rattle.store.specs.Element.{named_key}
+use borrow.Author.Rules.{rules}
+use Rattle.store.proofs.element.named_key.Goals as goal
+
+pub returns-in-Refused : goal.returns-in-Refused
+unfolding named_key
+returns-in-Refused c = search (lt-ltb, le-ltb, eq-eqb, ne_eqb, c.in-Refused.is)
+
+pub returns-in-Null : goal.returns-in-Null
+unfolding named_key
+returns-in-Null c = rw (c.in-At.is, c.in-Null.is, c.at_place.ensures)
+
+pub returns-in-Named : goal.returns-in-Named
+unfolding named_key
+returns-in-Named c = rw (c.in-At.is, c.in-Named.is, c.key_of.ensures)

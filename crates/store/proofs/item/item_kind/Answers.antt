@@ -1,0 +1,15 @@
+-- `item::item_kind` meets its contract.
+-- Assumes nothing.
+use borrow.Author.Tests.{lt-ltb, le-ltb, eq-eqb, ne_eqb}
+use Rattle.store.specs.Knowledge.{item_kind}
+use mathlib.Core.Path.{sym, ◌∙◌}
+use borrow.Author.Rules.{rules}
+use Rattle.store.proofs.item.item_kind.Goals as goal
+
+pub returns-then-next_is : goal.returns-then-next_is
+unfolding item_kind
+returns-then-next_is c = search (lt-ltb, le-ltb, eq-eqb, ne_eqb, sym c.next_is.ensures ∙ c.if-next_is.true)
+
+pub returns : goal.returns
+unfolding item_kind
+returns c = search (lt-ltb, le-ltb, eq-eqb, ne_eqb, sym c.next_is.ensures ∙ c.if-next_is.false)

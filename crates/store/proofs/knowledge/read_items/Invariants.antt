@@ -1,0 +1,16 @@
+-- `knowledge::read_items` meets its contract.
+-- Assumes nothing.
+use mathlib.Core.Path.{◌≡◌, refl, sym, ◌∙◌}
+use native.Mathlib.Omega.{arith}
+use lib.ListN.{length}
+use borrow.Author.Rules.{rules}
+use Rattle.ranges.specs.RangeTable.{ranges_at}
+use Rattle.store.specs.Knowledge.{items_from}
+use Rattle.store.proofs.Uniting.{Uniting, uniting_end, uniting_over, uniting_long, uniting_more}
+use Rattle.store.proofs.knowledge.read_items.Given as goal
+
+abbrev pub invariant-loop-last : goal.invariant-loop-last
+invariant-loop-last l = (length l.table ≡ length l.initial.table) × Uniting l.padding l.s (items_from l.padding l.allowed l.s (ranges_at l.initial.table 0 l.rows) l.initial.table l.initial.at) l.table l.at l.n l.left
+
+abbrev pub decreases-loop-last : goal.decreases-loop-last
+decreases-loop-last l = l.left

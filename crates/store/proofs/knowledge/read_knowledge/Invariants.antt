@@ -1,0 +1,17 @@
+-- `knowledge::read_knowledge` meets its contract.
+-- Assumes nothing.
+use mathlib.Core.Path.{◌≡◌, refl, sym, ◌∙◌}
+use mathlib.Core.List.{[]}
+use native.Mathlib.Omega.{arith}
+use lib.ListN.{length}
+use borrow.Author.Rules.{rules}
+use Rattle.store.specs.Knowledge.{knowing, to_go, knowledge_from, knowledge_at}
+use Rattle.store.proofs.KnowledgeForward.{specialized_falls}
+use Rattle.store.proofs.Learning.{Learning, learning_start, learning_more, learning_end}
+use Rattle.store.proofs.knowledge.read_knowledge.Given as goal
+
+abbrev pub invariant-loop-table : goal.invariant-loop-table
+invariant-loop-table l = (length l.table ≡ length l.initial.table) × Learning l.padding l.depth l.s (knowledge_from l.padding l.depth l.s (knowing [] l.initial.table l.allowed l.initial.at)) l.table l.at l.n l.left
+
+abbrev pub decreases-loop-table : goal.decreases-loop-table
+decreases-loop-table l = to_go l.s l.at

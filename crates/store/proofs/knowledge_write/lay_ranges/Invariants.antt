@@ -1,0 +1,23 @@
+-- `knowledge_write::lay_ranges` meets its contract. The invariant: with the rows still to come laid at p, out is what it is to be.
+-- Assumes nothing.
+use mathlib.Core.Path.{◌≡◌, refl, sym, ap, ◌∙◌}
+use mathlib.Core.List.{List}
+use Prim.Native.Nat.{ℕ, ◌+◌, ◌-◌, ◌≤◌, ◌<◌}
+use native.Mathlib.Omega.{arith}
+use lib.ListN.{length}
+use Rattle.talk.specs.declared.range.Range.{Range}
+use Rattle.ranges.specs.RangeTable.{range_at, ranges_at}
+use Rattle.store.specs.KnowledgeWritten.{range_bytes, ranges_bytes}
+use Rattle.laws.specs.Placed.{laid, Lays}
+use Rattle.laws.proofs.Placing.{laid_nothing, lays_first}
+use Rattle.store.proofs.KnowledgeLengths.{rows_front, bytes_turn, bytes_end, length_turn}
+use borrow.Author.Rules.{rules}
+use Rattle.store.proofs.knowledge_write.lay_ranges.Given as goal
+
+abbrev pub invariant-loop-i : goal.invariant-loop-i
+invariant-loop-i l = (l.i ≤ l.rows) × (length l.out ≡ length l.initial.out)
+    × (l.p + length (ranges_bytes (ranges_at l.table l.i (l.rows - l.i))) ≡ l.at + length (ranges_bytes (ranges_at l.table 0 l.rows)))
+    × (laid l.p (ranges_bytes (ranges_at l.table l.i (l.rows - l.i))) l.out ≡ laid l.at (ranges_bytes (ranges_at l.table 0 l.rows)) l.initial.out)
+
+abbrev pub decreases-loop-i : goal.decreases-loop-i
+decreases-loop-i l = l.rows - l.i

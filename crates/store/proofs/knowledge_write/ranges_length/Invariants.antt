@@ -1,0 +1,18 @@
+-- `knowledge_write::ranges_length` meets its contract. The invariant: with the bytes of the rows still to come, n is the whole.
+-- Assumes nothing.
+use mathlib.Core.Path.{◌≡◌, ap, ◌∙◌}
+use Prim.Native.Nat.{◌+◌, ◌-◌, ◌*◌, ◌≤◌, ◌<◌}
+use native.Mathlib.Omega.{arith}
+use lib.ListN.{length}
+use Rattle.talk.specs.declared.range.Range.{Range}
+use Rattle.ranges.specs.RangeTable.{range_at, ranges_at}
+use Rattle.store.specs.KnowledgeWritten.{range_bytes, ranges_bytes}
+use Rattle.store.proofs.KnowledgeLengths.{length_turn, length_end}
+use borrow.Author.Rules.{rules}
+use Rattle.store.proofs.knowledge_write.ranges_length.Given as goal
+
+abbrev pub invariant-loop-i : goal.invariant-loop-i
+invariant-loop-i l = (l.i ≤ l.rows) × (l.n + length (ranges_bytes (ranges_at l.table l.i (l.rows - l.i))) ≡ length (ranges_bytes (ranges_at l.table l.first (l.rows - l.first)))) × (l.n ≤ l.i * 36)
+
+abbrev pub decreases-loop-i : goal.decreases-loop-i
+decreases-loop-i l = l.rows - l.i

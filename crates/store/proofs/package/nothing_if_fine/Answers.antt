@@ -1,0 +1,13 @@
+-- `package::nothing_if_fine` meets its contract.
+-- Assumes nothing.
+use Rattle.store.specs.Store.{nothing_of}
+use borrow.Author.Rules.{rules}
+use Rattle.store.proofs.package.nothing_if_fine.Goals as goal
+
+pub returns-in-At : goal.returns-in-At
+unfolding nothing_of
+returns-in-At c = rw c.in-At.is
+
+pub returns-in-Refused : goal.returns-in-Refused
+unfolding nothing_of
+returns-in-Refused c = rw c.in-Refused.is
