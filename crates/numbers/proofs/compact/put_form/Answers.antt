@@ -19,14 +19,10 @@ pub slice_bounds-put_le-count : goal.slice_bounds-put_le-count
 slice_bounds-put_le-count c = simp length-set (omega (arith, size_long _ c.if-k-eq7.true))
 
 pub slice_bounds-put_le-start : goal.slice_bounds-put_le-start
-slice_bounds-put_le-start c = sub-put-le c
+slice_bounds-put_le-start c = slice_bounds-put_le-count c
 
 pub put_le-requires : goal.put_le-requires
 put_le-requires c = tail_length 1 8 (set c.args.out.now 0 128) (simp length-set (omega (arith, size_long _ c.if-k-eq7.true)))
-
-pub shape_of-out-then-k-eq7 : goal.shape_of-out-then-k-eq7
-shape_of-out-then-k-eq7 c = let d = set c.args.out.now 0 128 in
-    same_len_mid 1 (length d - 1) d c.put_le.new.0 c.put_le.auto.0 ∙ simp length-set
 
 pub returns-then-k-eq7 : goal.returns-then-k-eq7
 returns-then-k-eq7 c = let a = c.args in

@@ -13,11 +13,8 @@ use Rattle.numbers.proofs.Forms.{size_le, size_over, value_parts, value_fits}
 use Rattle.numbers.proofs.compact.value_of.Goals as goal
 use Rattle.numbers.proofs.compact.value_of.Goals.{After-read_le-ninth, Start}
 
-abbrev called : tie.After-read-le2 → tie.Start
-called c = c.before.before.before.before
-
 -- k + 1 bytes are there
-there : (c : After-read_le-ninth) → (c.args.k + 1 ≤ c.args.n) × (c.args.k + 1 ≤ length c.args.s.now)
+there : (c : Start) → (c.args.k + 1 ≤ c.args.n) × (c.args.k + 1 ≤ length c.args.s.now)
 there c =
     let h : c.args.k + 1 ≤ c.args.n = omega (arith, size_over c.args.k, c.requires.1) in
     (h, omega (arith, h, c.requires.2))
@@ -38,23 +35,22 @@ pub read_le-ninth-requires : goal.read_le-ninth-requires
 read_le-ninth-requires c = simp (tail_part, length-drop) (omega (arith, size_le c.args.k c.requires.0, c.requires.1), omega (arith, c.requires.2, there (goal.at.read_le-ninth-requires c).Start))
 
 -- every element of the slice is a byte
-in_bytes : (c : Start) → AllBytes (called c).args.s.now
-in_bytes c i = (TODO_above_start i).fits
+in_bytes : (c : After-read_le-ninth) → AllBytes c.args.s.now
+in_bytes c i = (c.type_inv.s i).fits
 
 -- the sum is the value
-value : (c : Start)
-    → TODO_above_start / 2 ^ ((called c).args.k + 1) + (c.read-le2.result * 2 ^ 56) % 2 ^ 64
-    ≡ compact_value (called c).args.k (called c).args.s.now
+value : (c : After-read_le-ninth)
+    → c.read_le.result / 2 ^ (c.args.k + 1) + (c.read_le-ninth.result * 2 ^ 56) % 2 ^ 64
+    ≡ compact_value c.args.k c.args.s.now
 value c =
-    let a = (called c).args in
-    let e : c.read-le2.result ≡ le (take (a.n - (a.k + 1)) (drop (a.k + 1) a.s.now)) =
-    c.read-le2.ensures ∙ ap (λ (l : List ℕ). le (take (a.n - (a.k + 1)) l)) (tail_part (a.k + 1) a.s.now) in
-    ap₂ (λ (x y : ℕ). x / 2 ^ (a.k + 1) + (y * 2 ^ 56) % 2 ^ 64) TODO_above_start e
-    ∙ value_parts a.k a.n a.s.now (in_bytes c) (called c).requires.0 (called c).requires.1
+    let a = c.args in
+    let e : c.read_le-ninth.result ≡ le (take (a.n - (a.k + 1)) (drop (a.k + 1) a.s.now)) =
+    c.read_le-ninth.ensures ∙ ap (λ (l : List ℕ). le (take (a.n - (a.k + 1)) l)) (tail_part (a.k + 1) a.s.now) in
+    ap₂ (λ (x y : ℕ). x / 2 ^ (a.k + 1) + (y * 2 ^ 56) % 2 ^ 64) c.read_le.ensures e
+    ∙ value_parts a.k a.n a.s.now (in_bytes c) c.requires.0 c.requires.1
 
 pub overflow_add-result : goal.overflow_add-result
-overflow_add-result c = let s = called c in
-    omega (arith, value c, value_fits s.args.k s.args.s.now (in_bytes c) (omega (arith, s.pre.0)))
+overflow_add-result c = omega (arith, value c, value_fits c.args.k c.args.s.now (in_bytes c) (omega (arith, c.requires.0)))
 
 pub returns : goal.returns
 returns c = value c

@@ -31,5 +31,5 @@ returns-in-7 c = rw (ne_eqb _ _ c.if-s-eq0.false, ne_eqb _ _ c.if-b-eq0.false, c
 
 pub returns-in_default : goal.returns-in_default
 unfolding read_extended_guid form_of_id
-returns-in_default c = let r = c.in_default.rest in
+returns-in_default c = let r = c.in_default.in_default-own.rest in
     rw (ne_eqb _ _ c.if-s-eq0.false, ne_eqb _ _ c.if-b-eq0.false, ne_eqb _ _ r.0.0.0.1, ne_eqb _ _ r.0.0.1, ne_eqb _ _ r.0.1, ne_eqb _ _ r.1, c.at_front-in_default.ensures)

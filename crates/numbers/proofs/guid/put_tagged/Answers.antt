@@ -23,16 +23,16 @@ pub put_guid-requires : goal.put_guid-requires
 put_guid-requires c = tail_length 1 16 (set c.args.out.now 0 128) (simp length-set (omega arith))
 
 -- what out holds once the GUID is in
-abbrev then-held : tie.After-put-guid → List ℕ
+abbrev then-held : (c : After-put_guid) → List ℕ
 then-held c =
-    let d = set c.before.before.before.args.out.now 0 128 in
-    put_mid 1 (length d - 1) d c.put-guid.new.0
+    let d = set c.args.out.now 0 128 in
+    put_mid 1 (length d - 1) d c.put_guid.new.out
 
 -- it is as long as it was
 as_long : (c : After-put_guid) → length (then-held c) ≡ length c.args.out.now
 as_long c =
     let d = set c.args.out.now 0 128 in
-    same_len_mid 1 (length d - 1) d c.put_guid.new.0 c.put_guid.auto.0 ∙ simp length-set
+    same_len_mid 1 (length d - 1) d c.put_guid.new.out c.put_guid.auto.out ∙ simp length-set
 
 pub slice_bounds-put_le-count : goal.slice_bounds-put_le-count
 slice_bounds-put_le-count c = omega (arith, as_long (goal.at.slice_bounds-put_le-count c).After-put_guid)
@@ -42,9 +42,6 @@ slice_bounds-put_le-start c = omega (arith, as_long (goal.at.slice_bounds-put_le
 
 pub put_le-requires : goal.put_le-requires
 put_le-requires c = tail_length 17 c.args.n (then-held (goal.at.put_le-requires c).After-put_guid) (omega (arith, as_long (goal.at.put_le-requires c).After-put_guid))
-
-pub shape_of-out : goal.shape_of-out
-shape_of-out c = same_len_mid 17 (length (then-held (goal.at.shape_of-out c).After-put_guid) - 17) (then-held (goal.at.shape_of-out c).After-put_guid) c.put_le.new.0 c.put_le.auto.0 ∙ as_long (goal.at.shape_of-out c).After-put_guid
 
 pub returns : goal.returns
 returns c = let a = c.args in

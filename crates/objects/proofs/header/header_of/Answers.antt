@@ -23,5 +23,5 @@ returns-in-2 c = rw (ne_eqb _ _ c.if-t-eq0.false, c.in-2.is) c.start_of-in-2.ens
 
 pub returns-in_default : goal.returns-in_default
 unfolding header_of
-returns-in_default c = let r = c.in_default-own.rest in
+returns-in_default c = let r = c.in_default.in_default-own.rest in
     rw (ne_eqb _ _ c.if-t-eq0.false, ne_eqb _ _ r.0.0.1, ne_eqb _ _ r.0.1, ne_eqb _ _ r.1) c.end_of-in_default.ensures

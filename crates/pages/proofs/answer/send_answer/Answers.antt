@@ -11,25 +11,25 @@ use Rattle.pages.specs.Held.{WorkingTables, Ready}
 use Rattle.pages.proofs.Stored.{new_tables, page_follows, refusal_follows, ready_tells, ready_gives}
 use borrow.Author.Rules.{rules}
 use Rattle.pages.proofs.answer.send_answer.Goals as goal
-use Rattle.pages.proofs.answer.send_answer.Goals.{After-decide_answer}
+use Rattle.pages.proofs.answer.send_answer.Goals.{After-decide_answer, In-Page-2}
 
-abbrev elements-then : tie.After-decide-answer → List ℕ
-elements-then c = c.decide-answer.new.1.1.1.0
+abbrev elements-then : (c : After-decide_answer) → List ℕ
+elements-then c = c.decide_answer.new.elements
 
-abbrev ids-then : tie.After-decide-answer → List ℕ
-ids-then c = c.decide-answer.new.1.1.1.1.0
+abbrev ids-then : (c : After-decide_answer) → List ℕ
+ids-then c = c.decide_answer.new.ids
 
-abbrev known_then : tie.After-decide-answer → List ℕ
-known_then c = c.decide-answer.new.1.1.1.1.1.0
+abbrev known_then : (c : After-decide_answer) → List ℕ
+known_then c = c.decide_answer.new.known
 
-abbrev queue_then : tie.After-decide-answer → List ℕ
-queue_then c = c.decide-answer.new.1.1.1.1.1.1.0
+abbrev queue_then : (c : After-decide_answer) → List ℕ
+queue_then c = c.decide_answer.new.queue
 
 lengths : (c : After-decide_answer) → WorkingTables (elements-then c) (ids-then c) (known_then c) (queue_then c)
 lengths c = c.decide_answer.ensures.5
 
-ready : (c : After-decide_answer) → Ready (outcome (begun (TODO_place c After-known-1)).args.store.now (begun (TODO_place c After-known-1)).args.request.now (length (begun (TODO_place c After-known-1)).args.out.now)) (begun (TODO_place c After-known-1)).args.store.now (length (begun (TODO_place c After-known-1)).args.out.now) c.TODO.page.given.0.0 c.TODO.page.given.0.1.0 c.TODO.page.given.0.1.1.0 (elements-then (TODO_place c After-known-1)) (ids-then (TODO_place c After-known-1)) (known_then (TODO_place c After-known-1)) (queue_then (TODO_place c After-known-1))
-ready c = page_follows _ _ _ _ _ _ _ _ c.decide_answer.ensures.6 _ _ _ c.TODO.page.given.1
+ready : (c : In-Page-2) → Ready (outcome (begun (TODO_place c After-decide_answer)).args.store.now (begun (TODO_place c After-decide_answer)).args.request.now (length (begun (TODO_place c After-decide_answer)).args.out.now)) (begun (TODO_place c After-decide_answer)).args.store.now (length (begun (TODO_place c After-decide_answer)).args.out.now) c.in-Page.page c.in-Page.whole c.in-Page.n (elements-then (TODO_place c After-decide_answer)) (ids-then (TODO_place c After-decide_answer)) (known_then (TODO_place c After-decide_answer)) (queue_then (TODO_place c After-decide_answer))
+ready c = page_follows _ _ _ _ _ _ _ _ c.decide_answer.ensures.6 _ _ _ c.in-Page.is
 
 -- ---- the answers
 pub decide_answer-requires : goal.decide_answer-requires

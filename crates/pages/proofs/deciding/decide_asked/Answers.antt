@@ -18,11 +18,11 @@ use borrow.Author.Rules.{rules}
 use Rattle.pages.proofs.deciding.decide_asked.Goals as goal
 use Rattle.pages.proofs.deciding.decide_asked.Goals.{After-decide_page-chosen}
 
-abbrev queue_then : tie.After-decide-page → List ℕ
-queue_then c = c.decide-page.new.1.1.1.1.1.1.1.0
+abbrev queue_then : (c : After-decide_page-chosen) → List ℕ
+queue_then c = c.decide_page-chosen.new.queue
 
-abbrev known_then : tie.After-decide-page → List ℕ
-known_then c = c.decide-page.new.1.1.1.1.1.1.0
+abbrev known_then : (c : After-decide_page-chosen) → List ℕ
+known_then c = c.decide_page-chosen.new.known
 
 -- whatever store stands in the tables
 module _ (c : tie.After-decide-page) (s : List ℕ) (h : StoreHeld s (begun c).args.elements.now (begun c).args.ids.now (begun c).args.n) where
@@ -41,10 +41,10 @@ module _ (c : tie.After-decide-page) (s : List ℕ) (h : StoreHeld s (begun c).a
       page_decided_lem s a.request.now a.a a.elements.now a.ids.now a.known.now a.n h (begun c).requires.1 a.room _ _ _ _ _ c.decide-page.ensures index_is
 
 long_then : (c : After-decide_page-chosen) → length (known_then c) ≡ length c.args.known.now
-long_then c = c.decide_page-chosen.auto.1.1.1.1.1.1.0
+long_then c = c.decide_page-chosen.auto.known
 
 queue_long : (c : After-decide_page-chosen) → length (queue_then c) ≡ length c.args.queue.now
-queue_long c = c.decide_page-chosen.auto.1.1.1.1.1.1.1.0
+queue_long c = c.decide_page-chosen.auto.queue
 
 -- ---- the answers
 pub storage_index-index-requires : goal.storage_index-index-requires

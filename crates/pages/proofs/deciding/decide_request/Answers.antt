@@ -35,4 +35,4 @@ unfolding on_request reckoned_for
 returns-in-Asked c = λ s h.
     let x = c.decide_asked.ensures s h in
     rw (request_same c.args.request.now _ _ _ c.read_request.ensures ∙ c.in-Asked.is)
-    (x.0, c.decide_asked.auto.1.1.1.1.1.0 ∙ sym (read_long (goal.at.returns-in-Asked c).After-read_request) ∙ sym (lent_known (goal.at.returns-in-Asked c).After-read_request), x.2, c.decide_asked.auto.1.1.1.1.1.0 ∙ sym (read_long (goal.at.returns-in-Asked c).After-read_request) ∙ sym (lent_known (goal.at.returns-in-Asked c).After-read_request), c.decide_asked.auto.1.1.1.1.1.1.0, x.3)
+    (x.0, c.decide_asked.auto.known ∙ sym (read_long (goal.at.returns-in-Asked c).After-read_request) ∙ sym (lent_known (goal.at.returns-in-Asked c).After-read_request), x.2, c.decide_asked.auto.known ∙ sym (read_long (goal.at.returns-in-Asked c).After-read_request) ∙ sym (lent_known (goal.at.returns-in-Asked c).After-read_request), c.decide_asked.auto.queue, x.3)

@@ -28,7 +28,7 @@ set_id-requires c = let e = c.loop-i.invariant.0 in
 
 pub loop-i-preserved : goal.loop-i-preserved
 loop-i-preserved c = let u = ids_more c.loop-i.invariant.1 c.loop-i-test.true c.if-i-eq-MOST_IDS.false in
-    (c.set_id.auto.1.1.1.1.1.1.0 ∙ c.loop-i.invariant.0, rw (c.on-next.ensures, c.set_id.ensures, c.extended_guid-id.ensures) u)
+    (c.set_id.auto.flags ∙ c.loop-i.invariant.0, rw (c.on-next.ensures, c.set_id.ensures, c.extended_guid-id.ensures) u)
 
 pub shape_of-flags : goal.shape_of-flags
 shape_of-flags c = c.loop-i.invariant.0
