@@ -24,7 +24,7 @@ ALIAS = re.compile(r"\bas (" + WORD + r")[;\s]")
 # Names that stand in a path of the toolchain's, and answers that are named after its goals.
 MADE = re.compile(r"(?m)^(?:abbrev )?(" + WORD + r")[ \t]+:[ \t]+(?:tie|need|given|goal)\.")
 # What the toolchain makes a name of a function, a loop or a branch of.
-STEPS = re.compile(r"^(?:returns|loop|if|in|then|else|slice|shared|overflow|add|sub|mul|cast)(?:-|$)")
+STEPS = re.compile(r"^(?:returns|loop)(?:-|$)")
 
 
 def snake(name):

@@ -167,17 +167,17 @@ module _ (kind id : ℕ) (k : kind < 2 ^ 64) (h : id < 2 ^ 64) where
       (reads_then (reads_number_is answer_padding id kind 8 k) (reads_status kind)).here sub_data (0 + length (compact_bytes id)) [] (b ∙ sym (append-nil _))
       ∙ ap (λ (n : ℕ). At n 0) (let a = length-append (compact_bytes id) (compact_bytes kind ++ (0 ∷ [])) in omega arith)
 
-  sub-response-whole : sub_response_fields kind sub_data ≡ At (length sub_data) id
+  sub_response_whole : sub_response_fields kind sub_data ≡ At (length sub_data) id
   unfolding sub_response_fields value_of valued
-  sub-response-whole = rw (id_read_lem, type_read)
+  sub_response_whole = rw (id_read_lem, type_read)
 
-  sub-short : length sub_data < 2 ^ 64
-  sub-short = let d = length_sub_data kind id in let m = compact_most id in let n = compact_most kind in omega arith
+  sub_short : length sub_data < 2 ^ 64
+  sub_short = let d = length_sub_data kind id in let m = compact_most id in let n = compact_most kind in omega arith
 
   pub reads_sub_response : (u : ℕ) → Reads (sub_response kind) u (sub_response_bytes kind id) id
   unfolding sub_response sub_response_bytes
   reads_sub_response u =
-      reads_then (reads_start answer_padding u 0x62 0x41 true (length sub_data) (omega arith) sub-short) (reads_run (sub_response_fields kind) sub_data id sub-response-whole)
+      reads_then (reads_start answer_padding u 0x62 0x41 true (length sub_data) (omega arith) sub_short) (reads_run (sub_response_fields kind) sub_data id sub_response_whole)
 
 -- the storage index and the partial byte
 one_byte : (partial : Bool) → bytes 1 (partial_byte partial) ≡ partial_byte partial ∷ []
@@ -294,11 +294,11 @@ module _ (s : List ℕ) (id : ℕ) (index : ExtendedGuid) (page : List Element) 
   end_stands : drop last w ≡ end_bytes 0x15 ++ (sub_part ++ (index_part ++ (knowledge_part ++ ends_bytes)))
   end_stands = behind w 20 elements_part _ elements_stand
 
-  sub-stands : drop past w ≡ sub_part ++ (index_part ++ (knowledge_part ++ ends_bytes))
-  sub-stands = behind w last (end_bytes 0x15) _ end_stands
+  sub_stands : drop past w ≡ sub_part ++ (index_part ++ (knowledge_part ++ ends_bytes))
+  sub_stands = behind w last (end_bytes 0x15) _ end_stands
 
   index_stands : drop marked w ≡ index_part ++ (knowledge_part ++ ends_bytes)
-  index_stands = behind w past sub_part _ sub-stands
+  index_stands = behind w past sub_part _ sub_stands
 
   place_is : marked + length index_part ≡ place
   place_is = let m = length_middle id index partial in let b = length_back in omega arith
@@ -328,7 +328,7 @@ module _ (s : List ℕ) (id : ℕ) (index : ExtendedGuid) (page : List Element) 
 
   -- behind it
   sub_is : sub_response query_changes_request w (At past 0) ≡ At marked id
-  sub_is = (reads_sub_response query_changes_request id (omega arith) id_fits 0).here w past _ sub-stands
+  sub_is = (reads_sub_response query_changes_request id (omega arith) id_fits 0).here w past _ sub_stands
 
   mark_is : mark_at w (At past 0) ≡ At place (partial_byte partial)
   mark_is = rw sub_is (changes_read index partial index_fits w marked id _ index_stands ∙ rw place_is)

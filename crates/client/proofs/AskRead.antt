@@ -68,10 +68,10 @@ agent_read u =
     (reads_then (reads_start_of_length request_padding 0 0x40 0x5D true 0 (omega arith) (omega arith)) (reads_inside request_padding 0 14 0x5D (end_bytes 0x5D) nothing_inside))
 
 -- the fields of a sub-request of any type
-sub-fields : (kind id : ℕ) → kind < 2 ^ 64 → id < 2 ^ 64
+sub_fields : (kind id : ℕ) → kind < 2 ^ 64 → id < 2 ^ 64
     → sub_request_fields kind (compact_bytes id ++ (compact_bytes kind ++ compact_bytes 0)) ≡ At (length (compact_bytes id ++ (compact_bytes kind ++ compact_bytes 0))) id
 unfolding sub_request_fields value_of
-sub-fields kind id k h =
+sub_fields kind id k h =
     let a = compact_bytes id in
     let b = compact_bytes kind ++ compact_bytes 0 in
     let x : number request_padding (a ++ b) (At 0 0) ≡ At (0 + length a) id = (reads_number request_padding 0 id h).here (a ++ b) 0 b refl in
@@ -83,7 +83,7 @@ unfolding sub_request sub_request_bytes sub_request_data
 sub_read kind u id k h =
     reads_then
     (reads_start request_padding u 0x40 0x42 true (length (sub_request_data kind id)) (omega arith) (omega (arith, length_sub_data kind id, compact_most id, compact_most kind)))
-    (reads_run (sub_request_fields kind) (sub_request_data kind id) id (sub-fields kind id k h))
+    (reads_run (sub_request_fields kind) (sub_request_data kind id) id (sub_fields kind id k h))
 
 -- the front of a message of any type
 pub front_identified : (kind id : ℕ) → kind < 2 ^ 64 → id < 2 ^ 64 → (s rest : List ℕ) → s ≡ identified_bytes kind id ++ rest

@@ -58,14 +58,14 @@ module _ (id : ℕ) (l : List Range) (w : List ℕ) (is : w ≡ put_answer_bytes
   end_stands : drop 20 w ≡ end_bytes 0x15 ++ (sub_part ++ (knowledge_part ++ ends_bytes))
   end_stands = rw w_apart (drop_at answer_front (end_bytes 0x15 ++ (sub_part ++ (knowledge_part ++ ends_bytes))) 20 length_front.3)
 
-  sub-stands : drop past w ≡ sub_part ++ (knowledge_part ++ ends_bytes)
-  sub-stands = behind w 20 (end_bytes 0x15) _ end_stands
+  sub_stands : drop past w ≡ sub_part ++ (knowledge_part ++ ends_bytes)
+  sub_stands = behind w 20 (end_bytes 0x15) _ end_stands
 
   place_is : past + length sub_part ≡ place
   place_is = let b = length_back in omega arith
 
   knowledge_stands : drop place w ≡ knowledge_part ++ ends_bytes
-  knowledge_stands = rw (← place_is) (behind w past sub_part _ sub-stands)
+  knowledge_stands = rw (← place_is) (behind w past sub_part _ sub_stands)
 
   ends_stand : drop (place + length knowledge_part) w ≡ ends_bytes
   ends_stand = behind w place knowledge_part ends_bytes knowledge_stands
@@ -85,7 +85,7 @@ module _ (id : ℕ) (l : List Range) (w : List ℕ) (is : w ≡ put_answer_bytes
 
   -- behind it
   sub_is : put_known w (At past 0) ≡ At place id
-  sub_is = rw (← place_is) ((reads_sub_response put_changes_request id (omega arith) fits 0).here w past _ sub-stands)
+  sub_is = rw (← place_is) ((reads_sub_response put_changes_request id (omega arith) fits 0).here w past _ sub_stands)
 
   ranges_back : ((knowledge_in w (At place id)).ranges ≡ l) × ((knowledge_in w (At place id)).last ≡ At (place + length knowledge_part) 0)
   unfolding knowledge_in

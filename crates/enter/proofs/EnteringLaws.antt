@@ -129,12 +129,12 @@ new_in there (z ∷ come) y m h =
     (λ n. by_bool (named there z) (λ e. rw e (new_in there come y n h)) (λ e. rw e (later (new_in there come y n h))))
     (first-or-later m)
 
-in-new : (there come : List Kept) (y : Kept) → In y (new_to there come) → In y come
+in_new : (there come : List Kept) (y : Kept) → In y (new_to there come) → In y come
 unfolding new_to
-in-new there [] y m = m
-in-new there (z ∷ come) y m =
-    by_bool (named there z) (λ e. later (in-new there come y (rw e at m)))
-    (λ e. ⊎_elim here (λ n. later (in-new there come y n)) (first-or-later (rw e at m)))
+in_new there [] y m = m
+in_new there (z ∷ come) y m =
+    by_bool (named there z) (λ e. later (in_new there come y (rw e at m)))
+    (λ e. ⊎_elim here (λ n. later (in_new there come y n)) (first-or-later (rw e at m)))
 
 pub all_come : (there come : List Kept) → once same_key (map kept_id come) ≡ true → (y : Kept) → In y come → In y (enter there come)
 unfolding enter
@@ -154,7 +154,7 @@ nothing_else there come y m =
     by_bool (named come r.0)
     (λ e. inr (rw r.2 at (named_replaced come r.0 e)))
     (λ e. let p : r.0 ≡ y = sym (unnamed_same come r.0 e) ∙ r.2 in inl (rw p at r.1, rw p at e)))
-    (λ n. inr (in-new there come y n))
+    (λ n. inr (in_new there come y n))
     (in_either (map (replaced_by come) there) m)
 
 -- ---- what has entered enters once more: nothing changes

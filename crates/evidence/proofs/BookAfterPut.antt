@@ -1,6 +1,6 @@
 -- The book behind a put (document 02, Q-1). A book that was in step with the store is in step with the store behind a put, for a knowledge
 -- that has no serial number that the hub has yet to give: what stayed stands in it as it did, and what entered is not known yet
--- (`in-step-behind-put`). No filter is in the way: a filter looks at an element's type and id, which stay, and what stayed in a group of the
+-- (`in_step_behind_put`). No filter is in the way: a filter looks at an element's type and id, which stay, and what stayed in a group of the
 -- new store was in one group before. So a bench that puts its own changes, and then asks, keeping every answer until an unmarked one comes,
 -- has all of the new store in its book (`all_behind_put`), and can put again (`none_ahead_again`). A reader needs these statements only.
 -- Assumes nothing.
@@ -117,8 +117,8 @@ module _ (s q : List ℕ) (g : Guid) (b : AllBytes s) (c : AllBytes q) (f : Guid
       )
 
   -- a book that was in step with the store is in step with the new one
-  pub in-step-behind-put : (fs : List Filter) (know : Key → Bool) (book : List ℕ) → InStep s fs know book → NoneAhead s g know → InStep w fs know book
-  in-step-behind-put fs know book step none y l k =
+  pub in_step_behind_put : (fs : List Filter) (know : Key → Bool) (book : List ℕ) → InStep s fs know book → NoneAhead s g know → InStep w fs know book
+  in_step_behind_put fs know book step none y l k =
       by_bool (is_new s g y.serial)
       (λ new.
       let z = none y.serial (behind.serial_fits s q g storeRoom room a w b c f h y (let_in_stored l)) new in
@@ -131,21 +131,21 @@ module _ (s q : List ℕ) (g : Guid) (b : AllBytes s) (c : AllBytes q) (f : Guid
   -- with a talk on the new store that follows, in which an unmarked answer comes, it holds all of the new store that the filters let in
   pub all_behind_put : AllBytes w → (fs : List Filter) {z z' : Standing} {ws : List (List ℕ)} → InStep s fs z.know z.book → NoneAhead s g z.know
       → KeptTalk w fs z ws z' → (v : List ℕ) → In v ws → Unmarked v → HoldsAll w fs z'.book
-  all_behind_put d fs {z} step none t v i u = all_in_book w d fs t (in-step-behind-put fs z.know z.book step none) v i u
+  all_behind_put d fs {z} step none t v i u = all_in_book w d fs t (in_step_behind_put fs z.know z.book step none) v i u
 
   -- none that the hub has yet to give behind the put, either
   pub none_ahead_behind_put : (know : Key → Bool) → NoneAhead s g know → NoneAhead w g know
   none_ahead_behind_put know none k fits new = none k fits (new_before s q g a w two k new)
 
 -- so it is where hub_put returns 0: of the new store at the front of its buffer
-pub in-step-behind-hub-put : (s q : List ℕ) (low high : ℕ) (new new' out out' report report' : List ℕ) → AllBytes s → AllBytes q → low < 2 ^ 64 → high < 2 ^ 64
+pub in_step_behind_hub_put : (s q : List ℕ) (low high : ℕ) (new new' out out' report report' : List ℕ) → AllBytes s → AllBytes q → low < 2 ^ 64 → high < 2 ^ 64
     → HubPuts s q low high 0 new new' out out' report report' → (fs : List Filter) (know : Key → Bool) (book : List ℕ) → InStep s fs know book
     → NoneAhead s (guid_of low high) know → (w : List ℕ) × (new' ≡ w ++ drop (length w) new) × InStep w fs know book
-in-step-behind-hub-put s q low high new new' out out' report report' b c d e h fs know book step none =
+in_step_behind_hub_put s q low high new new' out out' report report' b c d e h fs know book step none =
     let p = (demand_two_hub_put s q low high new new' out out' report report' b c d e h).given in (
       p.store,
       p.store_stands,
-      in-step-behind-put s q (guid_of low high) b c (d, e) (length new) (length out) p.answer p.store p.enters fs know book step none,
+      in_step_behind_put s q (guid_of low high) b c (d, e) (length new) (length out) p.answer p.store p.enters fs know book step none,
     )
 
 -- ---- from put to put

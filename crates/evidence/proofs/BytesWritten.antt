@@ -140,9 +140,9 @@ agent_bytes : AllBytes user_agent_bytes
 unfolding user_agent_bytes
 agent_bytes = headed_bytes 0x40 true 0 _ (headed_bytes 0x5D true 0 (end_bytes 0x5D) (end_bytes_lem 0x5D))
 
-sub-request-bytes : (kind id : ℕ) → AllBytes (sub_request_bytes kind id)
+sub_request_bytes_lem : (kind id : ℕ) → AllBytes (sub_request_bytes kind id)
 unfolding sub_request_bytes sub_request_data
-sub-request-bytes kind id =
+sub_request_bytes_lem kind id =
     headed_bytes 0x42 true _ _
     (append_bytes (compact_bytes id) (compact_bytes kind ++ compact_bytes 0) (compact_bytes_lem id)
     (append_bytes (compact_bytes kind) (compact_bytes 0) (compact_bytes_lem kind) (compact_bytes_lem 0)))
@@ -151,7 +151,7 @@ identified_bytes_lem : (kind id : ℕ) → AllBytes (identified_bytes kind id)
 unfolding identified_bytes
 identified_bytes_lem kind id =
     append_bytes (version_bytes request_signature) _ (version_bytes_lem request_signature)
-    (append_bytes user_agent_bytes (sub_request_bytes kind id) agent_bytes (sub-request-bytes kind id))
+    (append_bytes user_agent_bytes (sub_request_bytes kind id) agent_bytes (sub_request_bytes_lem kind id))
 
 query_bytes_lem : AllBytes query_bytes
 unfolding query_bytes

@@ -1,5 +1,5 @@
 -- The book is in step with the store at every moment of a talk in which each answer is kept before its knowledge is gone on with
--- (`in-step-kept`, `at_every_moment`), and when an answer that is not marked has come, it holds all that the filters let in (`all_in_book`).
+-- (`in_step_kept`, `at_every_moment`), and when an answer that is not marked has come, it holds all that the filters let in (`all_in_book`).
 -- A bench may begin with no knowledge and whatever book it has (`begins_anew`). A reader needs these statements, and that of `unmarked_read`,
 -- which says the same of the answers as demand 3 reads them.
 -- Assumes nothing.
@@ -90,12 +90,12 @@ unchanged_in_step s fs {know' = know'} {book = book} p q h =
     subst (λ (c : List ℕ). InStep s fs know' c) q (subst (λ (k : Key → Bool). InStep s fs k book) p h)
 
 -- a talk keeps the book in step
-pub in-step-kept : (s : List ℕ) → AllBytes s → (fs : List Filter) {z z' : Standing} {ws : List (List ℕ)} → KeptTalk s fs z ws z'
+pub in_step_kept : (s : List ℕ) → AllBytes s → (fs : List Filter) {z z' : Standing} {ws : List (List ℕ)} → KeptTalk s fs z ws z'
     → InStep s fs z.know z.book
     → InStep s fs z'.know z'.book
-in-step-kept s b fs over h = h
-in-step-kept s b fs (idle u t) h = in-step-kept s b fs t (unchanged_in_step s fs u.0 u.1 h)
-in-step-kept s b fs (then {k = z} {m = m} {a = w} r t) h = in-step-kept s b fs t (ask_in_step s b fs z m w r h)
+in_step_kept s b fs over h = h
+in_step_kept s b fs (idle u t) h = in_step_kept s b fs t (unchanged_in_step s fs u.0 u.1 h)
+in_step_kept s b fs (then {k = z} {m = m} {a = w} r t) h = in_step_kept s b fs t (ask_in_step s b fs z m w r h)
 
 -- at every moment
 pub at_every_moment : (s : List ℕ) → AllBytes s → (fs : List Filter) {z z' : Standing} {ws : List (List ℕ)} (t : KeptTalk s fs z ws z')
@@ -125,7 +125,7 @@ kept_split s fs front back t = split_at s fs t front back refl
 pub between : (s : List ℕ) → AllBytes s → (fs : List Filter) (front back : List (List ℕ)) {z z' : Standing} → KeptTalk s fs z (front ++ back) z'
     → InStep s fs z.know z.book
     → (m : Standing) × KeptTalk s fs z front m × KeptTalk s fs m back z' × InStep s fs m.know m.book
-between s b fs front back t h = let (m, x, y) = kept_split s fs front back t in (m, x, y, in-step-kept s b fs x h)
+between s b fs front back t h = let (m, x, y) = kept_split s fs front back t in (m, x, y, in_step_kept s b fs x h)
 
 -- ---- it is a talk: what demand 3 says of its answers holds of them
 
@@ -196,7 +196,7 @@ pub all_in_book : (s : List ℕ) → AllBytes s → (fs : List Filter) {z z' : S
     → InStep s fs z.know z.book
     → (w : List ℕ) → In w ws → Unmarked w → HoldsAll s fs z'.book
 all_in_book s b fs {z' = z'} t h w i u x l =
-    in-step-kept s b fs t h x l (all_known s fs z'.know (nothing_wanted s b fs (talk_of s fs t) w i u) x l)
+    in_step_kept s b fs t h x l (all_known s fs z'.know (nothing_wanted s b fs (talk_of s fs t) w i u) x l)
 
 -- where it is the last
 pub last_unmarked : (s : List ℕ) → AllBytes s → (fs : List Filter) (before : List (List ℕ)) (w : List ℕ) {z z' : Standing}

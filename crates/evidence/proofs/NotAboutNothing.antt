@@ -32,7 +32,7 @@ use Rattle.evidence.proofs.BookExists.{length_choices, empty_fits, book_chooses,
 use Rattle.evidence.proofs.DemandThree.{DemandThree, demand_three}
 use Rattle.evidence.proofs.Example.{exporting}
 use Rattle.evidence.proofs.Holding.{nothing_known_lem}
-use Rattle.evidence.proofs.InStep.{in-step-kept, unmarked_read}
+use Rattle.evidence.proofs.InStep.{in_step_kept, unmarked_read}
 use Rattle.evidence.proofs.Turns.{bench_talk}
 
 -- what a bench begins with: a store s, filters f and a knowledge k, all bytes, that are read
@@ -126,7 +126,7 @@ bench_keeps s f k b begins book choices ample keeping lend many enough =
       turns = turns;
       made = made;
       all_along = book_right s f begins.store_bytes begins.filter_bytes begins.knowledge_bytes_lem talk (book.in_step, book.reads);
-      in_step = in-step-kept s begins.store_bytes (filters_in f) kept book.in_step;
+      in_step = in_step_kept s begins.store_bytes (filters_in f) kept book.in_step;
       all =
           unmarked_read s begins.store_bytes (filters_in f) kept book.in_step e.demand.answers a.before a.after a.first e.demand.read
           a.split a.unmarked;

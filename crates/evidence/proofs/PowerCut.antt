@@ -1,7 +1,7 @@
 -- A power cut between saving the book and saving the knowledge. Where both were saved together the book is in step (`saved_together`). A book
 -- that is ahead of the saved knowledge by answers that were kept is in step with it too (`book_ahead_lem`): the bench goes on from there, asks
 -- for exactly what those answers carried once more (`asked_once_more`), and once an unmarked answer comes the book holds all (`ends_whole`).
--- So it is from cut to cut, however many there are (`in-step-resumed`). To forget does no harm (`forgets`). The other way round, a knowledge that is ahead of its book loses records: `Lost`. A reader needs the
+-- So it is from cut to cut, however many there are (`in_step_resumed`). To forget does no harm (`forgets`). The other way round, a knowledge that is ahead of its book loses records: `Lost`. A reader needs the
 -- statements that are pub.
 -- Assumes nothing.
 use mathlib.Core.Path.{◌≡◌, refl, sym, ap, subst, ◌∙◌}
@@ -27,7 +27,7 @@ use Rattle.evidence.specs.Book.{InStep, HoldsAll, Standing, KeptTalk, book_ahead
 use Rattle.enter.proofs.Keys.{seen_member}
 use Rattle.evidence.specs.Talk.{KeyFits, elements_of, groups_of, leaves_in, wanted_of, Talk, AllReadAs}
 use Rattle.evidence.proofs.Holding.{stored_fits, let_in_stored, of_store}
-use Rattle.evidence.proofs.InStep.{ask_takes, ask_page, ask_knows, in-step-kept, talk_of, knows_still, all_in_book}
+use Rattle.evidence.proofs.InStep.{ask_takes, ask_page, ask_knows, in_step_kept, talk_of, knows_still, all_in_book}
 use Rattle.evidence.proofs.Kept.{kept_was}
 use Rattle.evidence.proofs.Steps as steps
 
@@ -54,13 +54,13 @@ forgets_told s b r fs know less book h among = forgets_stored s fs know less boo
 pub saved_together : (s : List ℕ) → AllBytes s → (fs : List Filter) {z saved : Standing} {ws : List (List ℕ)} → KeptTalk s fs z ws saved
     → InStep s fs z.know z.book
     → InStep s fs saved.know saved.book
-saved_together s b fs t h = in-step-kept s b fs t h
+saved_together s b fs t h = in_step_kept s b fs t h
 
 -- the knowledge of one moment, and the book of a later one
 pub book_ahead_lem : (s : List ℕ) → AllBytes s → (fs : List Filter) {z saved later : Standing} {ws more : List (List ℕ)} → KeptTalk s fs z ws saved
     → KeptTalk s fs saved more later → InStep s fs z.know z.book → InStep s fs saved.know later.book
 book_ahead_lem s b fs {saved = saved} {later = later} t u h =
-    forgets_stored s fs later.know saved.know later.book (in-step-kept s b fs u (in-step-kept s b fs t h))
+    forgets_stored s fs later.know saved.know later.book (in_step_kept s b fs u (in_step_kept s b fs t h))
     (λ x m k. knows_still s b fs (talk_of s fs u) x m k)
 
 -- ---- going on
@@ -95,10 +95,10 @@ ends_whole s b fs t u h v w i unmarked = all_in_book s b fs v (book_ahead_lem s 
 
 -- ---- and so from cut to cut
 
-pub in-step-resumed : (s : List ℕ) → AllBytes s → (fs : List Filter) {z y : Standing} → Resumed s fs z y → InStep s fs z.know z.book → InStep s fs y.know y.book
-in-step-resumed s b fs begun h = h
-in-step-resumed s b fs (talked r t) h = in-step-kept s b fs t (in-step-resumed s b fs r h)
-in-step-resumed s b fs (stopped r t) h = book_ahead_lem s b fs over t (in-step-resumed s b fs r h)
+pub in_step_resumed : (s : List ℕ) → AllBytes s → (fs : List Filter) {z y : Standing} → Resumed s fs z y → InStep s fs z.know z.book → InStep s fs y.know y.book
+in_step_resumed s b fs begun h = h
+in_step_resumed s b fs (talked r t) h = in_step_kept s b fs t (in_step_resumed s b fs r h)
+in_step_resumed s b fs (stopped r t) h = book_ahead_lem s b fs over t (in_step_resumed s b fs r h)
 
 -- ---- what the answers of a talk brought
 

@@ -74,12 +74,12 @@ module _ (x : Received) (report : List ℕ) (h : 24 ≤ length report) (place : 
   abbrev pub BeginsWith : List ℕ → Type 0
   BeginsWith r = (report_number 0 r ≡ 0) × (report_number 1 r ≡ x.knowledge) × (report_number 2 r ≡ x.length)
 
-  in-short : BeginsWith short
-  in-short = three_numbers_lem 0 x.knowledge x.length report h (omega arith) place size
+  in_short : BeginsWith short
+  in_short = three_numbers_lem 0 x.knowledge x.length report h (omega arith) place size
 
-  in-long : 88 ≤ length report → BeginsWith (placed (received_report x) short)
+  in_long : 88 ≤ length report → BeginsWith (placed (received_report x) short)
   unfolding received_numbers
-  in-long l =
+  in_long l =
       let n = length_received x in
       let m = length_placed (three_numbers 0 x.knowledge x.length) report in (
         report_number_lem (0 ∷ received_numbers x) short 0 (omega arith) (omega arith) (omega arith),
@@ -95,4 +95,4 @@ module _ (x : Received) (report : List ℕ) (h : 24 ≤ length report) (place : 
       let n = length_received x in
       let b = length_numbers (0 ∷ received_numbers x) in
       let m = length_placed (three_numbers 0 x.knowledge x.length) report in
-      rw (placed_short (received_report x) short (omega arith)) in-short) in-long
+      rw (placed_short (received_report x) short (omega arith)) in_short) in_long

@@ -256,9 +256,9 @@ stands_between : (g : Group) (gs : List Group) → In g gs → (before : List Gr
 stands_between g (h ∷ gs) (head e) = ([], gs, ap (λ (y : Group). y ∷ gs) (sym e))
 stands_between g (h ∷ gs) (tail m) = let z = stands_between g gs m in (h ∷ z.0, z.1, ap (λ (l : List Group). h ∷ l) z.2)
 
-in-first : {g : Group} (page rest : List Group) → In g page → In g (page ++ rest)
-in-first (h ∷ page) rest (head e) = head e
-in-first (h ∷ page) rest (tail m) = tail (in-first page rest m)
+in_first : {g : Group} (page rest : List Group) → In g page → In g (page ++ rest)
+in_first (h ∷ page) rest (head e) = head e
+in_first (h ∷ page) rest (tail m) = tail (in_first page rest m)
 
 -- ---- one answer w, in which a bench reads x
 
@@ -338,18 +338,18 @@ module _ (s q : List ℕ) (b : AllBytes s) (d : AllBytes q) (room : ℕ) (w : Li
         let fits = of_each (λ (y : Group). KeyFits (group_serial y)) (groups_of s) (serials_fit s b held.store_reads) h wanted_then.0 in
         sym (rw unknown_then at (held.adds (group_serial h) fits)) ∙ told
 
-    in-page : In h held.page
+    in_page : In h held.page
     unfolding wanted
-    in-page =
+    in_page =
         let z = member_seen group_serial (group_serial h) held.page sent_then in
-        let also : In z.0 Wanted = subst (In z.0) held.run (in-first held.page held.rest z.1) in
+        let also : In z.0 Wanted = subst (In z.0) held.run (in_first held.page held.rest z.1) in
         let same : z.0 ≡ h = once_one group_serial (groups_of s) (serials_differ s) (kept_was _ (groups_of s) z.0 also).0 wanted_then.0 z.2 in
         subst (λ (y : Group). In y held.page) same z.1
 
     pub first_member_alone : ((before after : List Element) → (package_in w).elements ≡ set_down 20 (before ++ (members h ++ after)) → ⊥) → ⊥
     unfolding members_of
     first_member_alone z =
-        let p = stands_between h held.page in-page in
+        let p = stands_between h held.page in_page in
         let whole : members_of held.page ≡ members_of p.0 ++ (members h ++ members_of p.1) = ap members_of p.2 ∙ members_append p.0 (h ∷ p.1) in
         z (members_of p.0) (members_of p.1) (held.read.elements_are ∙ ap (set_down 20) whole)
 
@@ -372,10 +372,10 @@ second_empty s wanted first second others x y e f n m (a ∷ c ∷ rest) r whole
     let z = ap (λ (l : List Group). length (members_of l)) (whole (a ∷ []) rest c refl (mark ∙ m)).0 in
     omega arith
 
-pub then-empty : (s : List ℕ) → AllBytes s → (fs : List Filter) (know know' : Key → Bool) (first second : List ℕ) (others : List (List ℕ))
+pub then_empty : (s : List ℕ) → AllBytes s → (fs : List Filter) (know know' : Key → Bool) (first second : List ℕ) (others : List (List ℕ))
     → Talk s fs know (first ∷ second ∷ others) know' → (x y : Received) → answer_in first ≡ read.Is x → answer_in second ≡ read.Is y
     → x.count < length (members_of (wanted_of s fs know)) → y.count ≡ 0 → y.partial ≡ false → ⊥
-then-empty s b fs know know' first second others t x y e f p n m =
+then_empty s b fs know know' first second others t x y e f p n m =
     let d : DemandThree s fs know (first ∷ second ∷ others) = demand_three s b fs know know' _ t in
     let z = second_empty s (wanted_of s fs know) first second others x y e f n m d.answers d.read d.whole in
     omega arith

@@ -111,8 +111,8 @@ module _ {first next : List ℕ → Reading → Reading} (f : Carries first) (g 
   between : (s : List ℕ) (p u q v : ℕ) → next s (first s (At p u)) ≡ At q v → Between first next s p u q v
   between s p u q v e = between_on s p u q v (first s (At p u)) refl e
 
-  then-took : (s : List ℕ) (p u q v : ℕ) → next s (first s (At p u)) ≡ At q v → Took (λ t c. next t (first t c)) s p u q v
-  then-took s p u q v e =
+  then_took : (s : List ℕ) (p u q v : ℕ) → next s (first s (At p u)) ≡ At q v → Took (λ t c. next t (first t c)) s p u q v
+  then_took s p u q v e =
       let b = between s p u q v e in
       record { size = b.size + b.rest; past = b.whole; there = λ t p' a. go b t p' a }
     where
@@ -126,7 +126,7 @@ module _ {first next : List ℕ → Reading → Reading} (f : Carries first) (g 
           ∙ ap (λ (n : ℕ). At n v) (omega arith)
 
   pub carries_then : Carries (λ s c. next s (first s c))
-  carries_then = record { fault = λ s r. ap (next s) (f.fault s r) ∙ g.fault s r; took = then-took }
+  carries_then = record { fault = λ s r. ap (next s) (f.fault s r) ∙ g.fault s r; took = then_took }
 
   -- what is seen where the first reads
   pub gives_first : {A : Type 0} {got : List ℕ → Reading → A} → Gives first got → Gives (λ s c. next s (first s c)) got

@@ -67,7 +67,7 @@ element kind place number =
     }
 
 -- the storage indexes come first; with each goes the one behind it that shares its serial number
-pub in-row-order : groups (ordered (element 5 3 1 ∷ element 1 49 2 ∷ element 5 95 2 ∷ element 1 141 1 ∷ []))
+pub in_row_order_lem : groups (ordered (element 5 3 1 ∷ element 1 49 2 ∷ element 5 95 2 ∷ element 1 141 1 ∷ []))
     ≡ record { first = element 1 49 2; others = element 5 95 2 ∷ [] } ∷ record { first = element 1 141 1; others = element 5 3 1 ∷ [] } ∷ []
 unfolding ordered rank_of keep groups_behind seen same_key
-in-row-order = refl
+in_row_order_lem = refl

@@ -23,9 +23,9 @@ added_telling added.Full (added.Rows m) e = let v = values_of _ _ e in impossibl
 added_telling added.Full added.Full e = refl
 
 -- what adding a range answers, and the table at its exit
-pub add-range-one : (t : List ℕ) (l : List Range) (r q : Added) (x y : List ℕ) → (r ≡ added_to t l) × (x ≡ laid_in t l) → (q ≡ added_to t l) × (y ≡ laid_in t l)
+pub add_range_one : (t : List ℕ) (l : List Range) (r q : Added) (x y : List ℕ) → (r ≡ added_to t l) × (x ≡ laid_in t l) → (q ≡ added_to t l) × (y ≡ laid_in t l)
     → (r ≡ q) × (x ≡ y)
-add-range-one t l r q x y a b = (a.0 ∙ sym b.0, a.1 ∙ sym b.1)
+add_range_one t l r q x y a b = (a.0 ∙ sym b.0, a.1 ∙ sym b.1)
 
 -- how many rows lie before a range
 pub rows_before_one : (t : List ℕ) (count : ℕ) (x : Range) (i j : ℕ) → FirstNotBefore t count x i → FirstNotBefore t count x j → i ≡ j

@@ -199,8 +199,8 @@ module _ (t : List ℕ) (count i j : ℕ) (y : Range) (w : List Range) (e : w �
   new_length : length w ≡ i + 1 + (count - j)
   new_length = omega (arith, ap length e, length-append (ranges_at t 0 i) (y ∷ ranges_at t j (count - j)), length_rows t 0 i, length_rows t j (count - j))
 
-  pub add-full : length t / 4 < i + 1 + (count - j) → (Full ≡ added_to t w) × (t ≡ laid_in t w)
-  add-full h =
+  pub add_full : length t / 4 < i + 1 + (count - j) → (Full ≡ added_to t w) × (t ≡ laid_in t w)
+  add_full h =
       let k : length t < length w * 4 = omega (arith, new_length) in
       (simp (lt-leb _ _ k), simp (lt-leb _ _ k))
 

@@ -1,6 +1,6 @@
 -- The elements that stand in the working tables: those whose rows and ids were put there, and their count.
 -- Assumes nothing.
-use mathlib.Core.Path.{◌≡◌, refl, sym, ap}
+use mathlib.Core.Path.{◌≡◌, refl, sym, ap, ap₂, ◌∙◌}
 use mathlib.Core.List.{List, [], ◌∷◌, ◌++◌, append_assoc}
 use Prim.Native.Nat.{ℕ, zero, suc, ◌+◌, ◌-◌, ◌*◌, ◌≤◌, ◌<◌}
 use native.Mathlib.Omega.{arith}
@@ -63,7 +63,11 @@ elements_behind_lem (x ∷ es) pre before t u i h g =
     let q' : before ++ (id_of x.id ++ (ids_of es ++ u)) ≡ (before ++ id_of x.id) ++ (ids_of es ++ u) = sym (append_assoc before (id_of x.id) (ids_of es ++ u)) in
     let m : length (pre ++ row_of x) ≡ suc i * row_width = let a = length-append pre (row_of x) in omega arith in
     let n : length (before ++ id_of x.id) ≡ suc i * id_width = let a = length-append before (id_of x.id) in omega arith in
-    rw (p, q, element_stands x pre before (rows_of es ++ t) (ids_of es ++ u) i h g, p', q', elements_behind_lem es (pre ++ row_of x) (before ++ id_of x.id) t u (suc i) m n)
+    let r : elements_in_rows (pre ++ (row_of x ++ (rows_of es ++ t))) (before ++ (id_of x.id ++ (ids_of es ++ u))) (suc i) (length es) ≡ es =
+    ap₂ (λ (l k : List ℕ). elements_in_rows l k (suc i) (length es)) p' q' ∙ elements_behind_lem es (pre ++ row_of x) (before ++ id_of x.id) t u (suc i) m n in
+    ap₂ (λ (y : Element) (ys : List Element). y ∷ ys)
+    (ap₂ (λ (l k : List ℕ). element_in_row l k i) p q ∙ element_stands x pre before (rows_of es ++ t) (ids_of es ++ u) i h g)
+    (ap₂ (λ (l k : List ℕ). elements_in_rows l k (suc i) (length es)) p q ∙ r)
 
 pub elements_held : (es : List Element) (t u : List ℕ) → elements_in (rows_of es ++ t) (ids_of es ++ u) (length es) ≡ es
 elements_held es t u = elements_behind_lem es [] [] t u 0 refl refl

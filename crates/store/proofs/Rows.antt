@@ -1,7 +1,7 @@
 -- The numbers of elements in a table, one behind the other: how many there are, one element more, and the keys among them.
 -- Each law is over the width of a row.
 -- Assumes nothing.
-use mathlib.Core.Path.{◌≡◌, refl, sym, ap, ◌∙◌}
+use mathlib.Core.Path.{◌≡◌, refl, sym, ap, ap₂, ◌∙◌}
 use mathlib.Core.Bool.{true, false}
 use mathlib.Core.List.{List, [], ◌∷◌, ◌++◌, map, append_assoc, append-nil}
 use Prim.Native.Nat.{ℕ, zero, suc, ◌+◌, ◌-◌, ◌*◌, ◌%◌, ◌≤◌, ◌<◌}
@@ -55,7 +55,10 @@ module _ (row : Element → List ℕ) (width : ℕ) (wide : (x : Element) → le
         let k : key_at (pre ++ (row x ++ (flat row done ++ t))) (length pre + offset) ≡ key x = stands x pre (flat row done ++ t) in
         let r : keys_at ((pre ++ row x) ++ (flat row done ++ t)) (length (pre ++ row x) + offset) width (length done) ≡ map key done =
         keys_behind (pre ++ row x) done t in
-        rw (e, k, n, f, r)
+        ap₂ (λ (y : Key) (ys : List Key). y ∷ ys)
+        (ap (λ (l : List ℕ). key_at l (length pre + offset)) e ∙ k)
+        (ap (λ (l : List ℕ). keys_at l (length pre + offset + width) width (length done)) (e ∙ f)
+        ∙ (ap (λ (m : ℕ). keys_at ((pre ++ row x) ++ (flat row done ++ t)) m width (length done)) n ∙ r))
 
     pub keys_flat : (done : List Element) (t : List ℕ) → keys_at (flat row done ++ t) offset width (length done) ≡ map key done
     keys_flat done t = rw (let z : 0 + offset ≡ offset = omega arith in z) at (keys_behind [] done t)

@@ -194,9 +194,9 @@ unfolding package_bytes package_front written_elements written_element field_byt
 two_short = let z : length (package_bytes (one ∷ sharing ∷ [])) ≡ 96 = refl in omega arith
 
 -- read_store: refused, with 11 or with any other number
-shared-refused : (r : Refusal) (rows ids : List ℕ) → WalkedTo (store_walk (package_bytes (one ∷ sharing ∷ []))) (stored.Refused r) rows rows ids ids → ⊥
+shared_refused : (r : Refusal) (rows ids : List ℕ) → WalkedTo (store_walk (package_bytes (one ∷ sharing ∷ []))) (stored.Refused r) rows rows ids ids → ⊥
 unfolding stored_of once seen same_key
-shared-refused r rows ids h =
+shared_refused r rows ids h =
     let e = rw (package_written (one ∷ sharing ∷ []) (omega arith) two_fit refl two_short).1 at h.0 in impossible (cc)
 
 -- ---- lay_part, of one byte: the byte behind it put to 0; the place of its front answered

@@ -43,10 +43,10 @@ join_in {r} {x} {a} {b} {n} m i = low (tri n r.from)
     low (eq h) = high (omega arith) (tri n r.to)
     low (gt h) = high (omega arith) (tri n r.to)
 
-in-join : {r x : Range} {a b n : ℕ} → Meet r x → In r a b n ⊎ In x a b n → In (joined r x) a b n
+in_join : {r x : Range} {a b n : ℕ} → Meet r x → In r a b n ⊎ In x a b n → In (joined r x) a b n
 unfolding joined
-in-join m (inl i) = record { same_upper = i.same_upper; same_lower = i.same_lower; above = omega arith; below = omega arith }
-in-join m (inr i) = record { same_upper = omega arith; same_lower = omega arith; above = omega arith; below = omega arith }
+in_join m (inl i) = record { same_upper = i.same_upper; same_lower = i.same_lower; above = omega arith; below = omega arith }
+in_join m (inr i) = record { same_upper = omega arith; same_lower = omega arith; above = omega arith; below = omega arith }
 
 -- ---- insertion
 
@@ -67,7 +67,7 @@ absorb_has r (x ∷ xs) o nb h =
     (λ b e. rw (absorb_stop r x xs e) h)
     (λ m e. rw (absorb_join r x xs e)
     (absorb_has (joined r x) xs o.2 (none_before_join xs (meet nb.0 m) o.1 o.2)
-    (⊎_elim (λ i. inl (in-join (meet nb.0 m) (inl i))) (λ k. ⊎_map (λ i. in-join (meet nb.0 m) (inr i)) (λ j. j) k) h)))
+    (⊎_elim (λ i. inl (in_join (meet nb.0 m) (inl i))) (λ k. ⊎_map (λ i. in_join (meet nb.0 m) (inr i)) (λ j. j) k) h)))
 
 -- what the new list holds, the range or the old list held
 pub has_insert : {a b n : ℕ} (r : Range) (l : List Range) → Normal l → Has (insert r l) a b n → In r a b n ⊎ Has l a b n
@@ -91,59 +91,59 @@ insert_has r (x ∷ xs) o h =
 -- ---- the test says what is held
 
 data InView (x : Range) (a b n : ℕ) : Type 0 where
-  in-yes : In x a b n → within x a b n ≡ true → InView x a b n
-  in-no : (In x a b n → ⊥) → within x a b n ≡ false → InView x a b n
+  in_yes : In x a b n → within x a b n ≡ true → InView x a b n
+  in_no : (In x a b n → ⊥) → within x a b n ≡ false → InView x a b n
 
 module _ (x : Range) (a b n : ℕ) where
   other_upper : (x.upper ≡ a → ⊥) → InView x a b n
   unfolding within
-  other_upper h = in-no (λ i. h i.same_upper) (simp (ne_eqb x.upper a h))
+  other_upper h = in_no (λ i. h i.same_upper) (simp (ne_eqb x.upper a h))
 
   other_lower : x.upper ≡ a → (x.lower ≡ b → ⊥) → InView x a b n
   unfolding within
-  other_lower e h = in-no (λ i. h i.same_lower) (simp (eq-eqb x.upper a e, ne_eqb x.lower b h))
+  other_lower e h = in_no (λ i. h i.same_lower) (simp (eq-eqb x.upper a e, ne_eqb x.lower b h))
 
   below_from : x.upper ≡ a → x.lower ≡ b → n < x.from → InView x a b n
   unfolding within
-  below_from e f h = in-no (λ i. omega arith) (simp (eq-eqb x.upper a e, eq-eqb x.lower b f, lt-leb x.from n h))
+  below_from e f h = in_no (λ i. omega arith) (simp (eq-eqb x.upper a e, eq-eqb x.lower b f, lt-leb x.from n h))
 
   above_to : x.upper ≡ a → x.lower ≡ b → x.from ≤ n → x.to < n → InView x a b n
   unfolding within
-  above_to e f h k = in-no (λ i. omega arith) (simp (eq-eqb x.upper a e, eq-eqb x.lower b f, le-leb x.from n h, lt-leb n x.to k))
+  above_to e f h k = in_no (λ i. omega arith) (simp (eq-eqb x.upper a e, eq-eqb x.lower b f, le-leb x.from n h, lt-leb n x.to k))
 
   inside : x.upper ≡ a → x.lower ≡ b → x.from ≤ n → n ≤ x.to → InView x a b n
   unfolding within
   inside e f h k =
-      in-yes (record { same_upper = e; same_lower = f; above = h; below = k })
+      in_yes (record { same_upper = e; same_lower = f; above = h; below = k })
       (simp (eq-eqb x.upper a e, eq-eqb x.lower b f, le-leb x.from n h, le-leb n x.to k))
 
-  in-to : x.upper ≡ a → x.lower ≡ b → x.from ≤ n → Tri n x.to → InView x a b n
-  in-to e f h (lt k) = inside e f h (omega arith)
-  in-to e f h (eq k) = inside e f h (omega arith)
-  in-to e f h (gt k) = above_to e f h k
+  in_to : x.upper ≡ a → x.lower ≡ b → x.from ≤ n → Tri n x.to → InView x a b n
+  in_to e f h (lt k) = inside e f h (omega arith)
+  in_to e f h (eq k) = inside e f h (omega arith)
+  in_to e f h (gt k) = above_to e f h k
 
-  in-from : x.upper ≡ a → x.lower ≡ b → Tri n x.from → InView x a b n
-  in-from e f (lt k) = below_from e f k
-  in-from e f (eq k) = in-to e f (omega arith) (tri n x.to)
-  in-from e f (gt k) = in-to e f (omega arith) (tri n x.to)
+  in_from : x.upper ≡ a → x.lower ≡ b → Tri n x.from → InView x a b n
+  in_from e f (lt k) = below_from e f k
+  in_from e f (eq k) = in_to e f (omega arith) (tri n x.to)
+  in_from e f (gt k) = in_to e f (omega arith) (tri n x.to)
 
-  in-lower : x.upper ≡ a → Tri x.lower b → InView x a b n
-  in-lower e (lt k) = other_lower e (λ f. omega arith)
-  in-lower e (eq f) = in-from e f (tri n x.from)
-  in-lower e (gt k) = other_lower e (λ f. omega arith)
+  in_lower : x.upper ≡ a → Tri x.lower b → InView x a b n
+  in_lower e (lt k) = other_lower e (λ f. omega arith)
+  in_lower e (eq f) = in_from e f (tri n x.from)
+  in_lower e (gt k) = other_lower e (λ f. omega arith)
 
-  in-upper : Tri x.upper a → InView x a b n
-  in-upper (lt k) = other_upper (λ f. omega arith)
-  in-upper (eq e) = in-lower e (tri x.lower b)
-  in-upper (gt k) = other_upper (λ f. omega arith)
+  in_upper : Tri x.upper a → InView x a b n
+  in_upper (lt k) = other_upper (λ f. omega arith)
+  in_upper (eq e) = in_lower e (tri x.lower b)
+  in_upper (gt k) = other_upper (λ f. omega arith)
 
-in-elim : {x : Range} {a b n : ℕ} {C : Type 0} → (In x a b n → within x a b n ≡ true → C) → ((In x a b n → ⊥) → within x a b n ≡ false → C) → InView x a b n → C
-in-elim f g (in-yes i e) = f i e
-in-elim f g (in-no i e) = g i e
+in_elim : {x : Range} {a b n : ℕ} {C : Type 0} → (In x a b n → within x a b n ≡ true → C) → ((In x a b n → ⊥) → within x a b n ≡ false → C) → InView x a b n → C
+in_elim f g (in_yes i e) = f i e
+in_elim f g (in_no i e) = g i e
 
 -- by cases: the pair lies in x, or not
 pub by_within : (x : Range) (a b n : ℕ) {C : Type 0} → (In x a b n → within x a b n ≡ true → C) → ((In x a b n → ⊥) → within x a b n ≡ false → C) → C
-by_within x a b n f g = in-elim f g (in-upper x a b n (tri x.upper a))
+by_within x a b n f g = in_elim f g (in_upper x a b n (tri x.upper a))
 
 pub has_test : (l : List Range) (a b n : ℕ) → holds l a b n ≡ true → Has l a b n
 unfolding holds Has

@@ -27,10 +27,10 @@ beyond [] o h = absurd h
 beyond (y ∷ ys) o h = ⊎_elim (λ i. beyond_in o.0 i) (λ k. beyond ys o.1 k) h
 
 -- no number of x lies beyond x
-in-beyond : {x : Range} {a b n : ℕ} → In x a b n → Beyond x a b n → ⊥
-in-beyond i (by0 h) = omega arith
-in-beyond i (by1 e h) = omega arith
-in-beyond i (by2 e f h) = omega arith
+in_beyond : {x : Range} {a b n : ℕ} → In x a b n → Beyond x a b n → ⊥
+in_beyond i (by0 h) = omega arith
+in_beyond i (by1 e h) = omega arith
+in_beyond i (by2 e f h) = omega arith
 
 data Le (x y : Range) : Type 0 where
   le0 : x.upper < y.upper → Le x y
@@ -93,7 +93,7 @@ split xs o h = ⊎_map (λ i. i) (λ k. beyond xs o k) h
 -- of two lists in form that start alike, the tails hold the same
 tails : (x : Range) (xs ys : List Range) → BeforeAll x xs → Holds (x ∷ xs) (x ∷ ys) → Holds xs ys
 unfolding Has Holds
-tails x xs ys o f a b n h = ⊎_elim (λ i. absurd (in-beyond i (beyond xs o h))) (λ k. k) (f a b n (inr h))
+tails x xs ys o f a b n h = ⊎_elim (λ i. absurd (in_beyond i (beyond xs o h))) (λ k. k) (f a b n (inr h))
 
 heads : (x y : Range) (xs ys : List Range) → Normal (x ∷ xs) → Normal (y ∷ ys) → Holds (x ∷ xs) (y ∷ ys) → Holds (y ∷ ys) (x ∷ xs) → x ≡ y
 unfolding Has Holds Normal

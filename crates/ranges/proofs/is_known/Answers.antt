@@ -9,7 +9,7 @@ use Rattle.ranges.proofs.is_known.Goals as goal
 
 pub returns-then-i-count : goal.returns-then-i-count
 unfolding range_of knows
-returns-then-i-count c = sym (no_row_holds c.args.t.now c.args.count c.requires.1 _ _ c.args.n c.rows_before-i.result (rw c.range_of-x.ensures at c.rows_before-i.ensures) c.if-i-count.taken)
+returns-then-i-count c = sym (no_row_holds c.args.t.now c.args.count c.requires.1 _ _ c.args.n c.rows_before-i.result (rw c.range_of-x.ensures at c.rows_before-i.ensures) c.if-i-count.true)
 
 pub returns : goal.returns
 unfolding range_of knows

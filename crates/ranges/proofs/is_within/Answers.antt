@@ -6,7 +6,7 @@ use Rattle.ranges.proofs.is_within.Goals as goal
 
 pub returns-then-x-upper : goal.returns-then-x-upper
 unfolding within
-returns-then-x-upper c = simp (ne_eqb _ _ c.if-x-upper.taken)
+returns-then-x-upper c = simp (ne_eqb _ _ c.if-x-upper.true)
 
 pub returns-then-x-lower : goal.returns-then-x-lower
 unfolding within

@@ -19,24 +19,24 @@ pub loop-n-init : goal.loop-n-init
 loop-n-init c = (omega arith, omega arith, omega arith, refl, refl, refl)
 
 pub loop-n-preserved : goal.loop-n-preserved
-loop-n-preserved c = let a = TODO_above_start in
-    let t = c.TODO.loop.t in
+loop-n-preserved c = let a = c.args in
+    let t = c.loop-n.t in
     let t₀ = a.t.now in
-    let k = c.TODO.loop.k in
-    let n = c.TODO.loop.n in
-    let y = c.TODO.loop.y in
+    let k = c.loop-n.k in
+    let n = c.loop-n.n in
+    let y = c.loop-n.y in
     let fits : k * 4 + 4 ≤ length t = omega arith in
     let rest : List Range = ranges_at t₀ (n + 1) (a.count - (n + 1)) in
     let z : c.range_at-z.result ≡ range_at t₀ n =
-    c.range_at-z.ensures ∙ row_kept t t₀ k n (omega arith) c.TODO.loop.invariant.4 in (
+    c.range_at-z.ensures ∙ row_kept t t₀ k n (omega arith) c.loop-n.invariant.4 in (
       omega arith,
       omega arith,
       omega arith,
       omega arith,
-      put_rest t t₀ c.put_range-in-loop-n.new.t k y fits c.TODO.loop.invariant.4 c.put_range-in-loop-n.ensures,
+      put_rest t t₀ c.put_range-in-loop-n.new.t k y fits c.loop-n.invariant.4 c.put_range-in-loop-n.ensures,
       rw z
-          (put_turn t t₀ c.put_range-in-loop-n.new.t k y fits c.TODO.loop.invariant.4 c.put_range-in-loop-n.ensures (range_at t₀ n ∷ rest) _
-          (ap (λ (r : List Range). take (k * 4) t ++ numbers_of (y ∷ r)) (sym (rows_step t₀ n a.count (omega arith))) ∙ c.TODO.loop.invariant.5)),
+          (put_turn t t₀ c.put_range-in-loop-n.new.t k y fits c.loop-n.invariant.4 c.put_range-in-loop-n.ensures (range_at t₀ n ∷ rest) _
+          (ap (λ (r : List Range). take (k * 4) t ++ numbers_of (y ∷ r)) (sym (rows_step t₀ n a.count (omega arith))) ∙ c.loop-n.invariant.5)),
     )
 
 pub returns : goal.returns

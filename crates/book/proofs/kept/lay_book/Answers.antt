@@ -68,6 +68,6 @@ returns c = let a = c.args in
     let f1 = u.ensures.0 in
     let f2 = v.ensures.0 in
     let f3 = x.ensures.0 in
-    let n : Lays 0 package_front a.out.now v.result v.new.0 = lays_then 0 b (0 ∷ []) a.out.now u.result u.new.0 v.result v.new.0 (omega arith) u.ensures v.ensures in
-    lays_then 0 package_front (w ++ end_bytes 0x15) a.out.now v.result v.new.0 y.result y.new.0 (omega arith) n
-    (lays_then v.result w (end_bytes 0x15) v.new.0 x.result x.new.0 y.result y.new.0 (omega arith) x.ensures y.ensures)
+    let n : Lays 0 package_front a.out.now v.result v.new.out = lays_then 0 b (0 ∷ []) a.out.now u.result u.new.out v.result v.new.out (omega arith) u.ensures v.ensures in
+    lays_then 0 package_front (w ++ end_bytes 0x15) a.out.now v.result v.new.out y.result y.new.out (omega arith) n
+    (lays_then v.result w (end_bytes 0x15) v.new.out x.result x.new.out y.result y.new.out (omega arith) x.ensures y.ensures)

@@ -13,9 +13,9 @@ returns-then-kind-gt16383 c = let a = c.args in
 pub returns-then-kind-lt64 : goal.returns-then-kind-lt64
 returns-then-kind-lt64 c = let x = c.write_number in
     let a = c.args in
-    typed_within a.kind (end_bytes a.kind) a.out.now x.result x.new.0 c.if-kind-gt16383.false (rw (end_short a.kind c.if-kind-lt64.true) x.ensures)
+    typed_within a.kind (end_bytes a.kind) a.out.now x.result x.new.out c.if-kind-gt16383.false (rw (end_short a.kind c.if-kind-lt64.true) x.ensures)
 
 pub returns : goal.returns
 returns c = let x = c.write_number-2 in
     let a = c.args in
-    typed_within a.kind (end_bytes a.kind) a.out.now x.result x.new.0 c.if-kind-gt16383.false (rw (end_long a.kind c.if-kind-lt64.false) x.ensures)
+    typed_within a.kind (end_bytes a.kind) a.out.now x.result x.new.out c.if-kind-gt16383.false (rw (end_long a.kind c.if-kind-lt64.false) x.ensures)

@@ -21,11 +21,11 @@ pub returns-then-is_short : goal.returns-then-is_short
 returns-then-is_short c = let x = c.write_number in
     let a = c.args in
     let e = start_short a.kind a.compound a.length (sym c.is_short.ensures ∙ c.if-is_short.true) in
-    typed_within a.kind (start_bytes a.kind a.compound a.length) a.out.now x.result x.new.0 c.if-kind-gt16383.false
+    typed_within a.kind (start_bytes a.kind a.compound a.length) a.out.now x.result x.new.out c.if-kind-gt16383.false
     (rw (e, ← c.start_number-x.ensures) x.ensures)
 
 pub returns : goal.returns
 returns c = let x = c.write_long_start in
     let a = c.args in
     let e = start_long a.kind a.compound a.length (sym c.is_short.ensures ∙ c.if-is_short.false) in
-    typed_within a.kind (start_bytes a.kind a.compound a.length) a.out.now x.result x.new.0 c.if-kind-gt16383.false (rw e x.ensures)
+    typed_within a.kind (start_bytes a.kind a.compound a.length) a.out.now x.result x.new.out c.if-kind-gt16383.false (rw e x.ensures)

@@ -19,10 +19,10 @@ module _ (e : Else-passed-k-ne0) where
   l = (TODO_place e At-loop-k)
 
   first_inside : l.loop.k < l.before.before.before.before.before.before.before.before.before.before.before.args.n
-  first_inside = c.loop-k-test.taken
+  first_inside = c.loop-k-test.true
 
   room_left : l.loop.w < l.before.before.before.before.before.before.before.before.before.before.before.args.n
-  room_left = let a = l.before.before.before.before.before.before.before.before.before.before.before.args in groups_room a.rows.now a.ids.now a.n a.queue.now a.links.now a.flags.now a.passed.now a.sums.now a.earliest.now a.laid.now (set a.ends.now 0 0) (lent l) l.loop.inv first_inside c.if-passed-k-ne0.left
+  room_left = let a = l.before.before.before.before.before.before.before.before.before.before.before.args in groups_room a.rows.now a.ids.now a.n a.queue.now a.links.now a.flags.now a.passed.now a.sums.now a.earliest.now a.laid.now (set a.ends.now 0 0) (lent l) l.loop.inv first_inside c.if-passed-k-ne0.false
 
 pub bounds-ends-0 : goal.bounds-ends-0
 bounds-ends-0 c = let r = c.requires.ends_room in omega arith

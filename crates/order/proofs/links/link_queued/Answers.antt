@@ -26,10 +26,10 @@ module _ (m : After-mark_of-mark) where
   y = queued_at s.args.rows.now s.args.ids.now s.args.queue.now k
 
   one_more : l.loop.k ≡ suc k
-  one_more = let h = c.loop-k-test.taken in omega arith
+  one_more = let h = c.loop-k-test.true in omega arith
 
   inside : k < s.args.n
-  inside = let h = c.loop-k-test.taken in let g = l.loop.inv.0 in omega arith
+  inside = let h = c.loop-k-test.true in let g = l.loop.inv.0 in omega arith
 
   looked_at : c.element_in_row-x.result ≡ y
   looked_at = rw c.row_at.ensures at c.element_in_row-x.ensures

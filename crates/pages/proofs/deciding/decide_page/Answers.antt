@@ -62,7 +62,7 @@ decide_singles-decided-requires c = (to_choose (goal.at.decide_singles-decided-r
 -- src/deciding.rt:116:9
 pub returns-then-serials_once : goal.returns-then-serials_once
 returns-then-serials_once c = let a = (begun (goal.at.returns-then-serials_once c).After-bounds_of-bounds).args in
-    let differ : once same_key (serial_keys a.elements.now a.n) ≡ true = sym c.serials_once.ensures ∙ c.if-serials_once.taken in
+    let differ : once same_key (serial_keys a.elements.now a.n) ≡ true = sym c.serials_once.ensures ∙ c.if-serials_once.true in
     let x = singles_decided a.request.now a.a (ranges (goal.at.returns-then-serials_once c).After-bounds_of-bounds) a.elements.now a.ids.now a.n (begun (goal.at.returns-then-serials_once c).After-bounds_of-bounds).pre.stand differ _ _ c.mark_wanted.ensures _ _ c.decide_singles-decided.ensures.0
     c.bounds_of-bounds.result c.decide_singles-decided.result _ c.decide_singles-decided.ensures.1 in
     let gs = groups_wanted a.request.now a.a (ranges (goal.at.returns-then-serials_once c).After-bounds_of-bounds) (all (goal.at.returns-then-serials_once c).After-bounds_of-bounds) in

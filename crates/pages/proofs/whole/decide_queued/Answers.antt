@@ -91,7 +91,7 @@ returns-then-takes_all c = let g = gathered_here (goal.at.returns-then-takes_all
     let a = (begun (goal.at.returns-then-takes_all c).After-flagged_rows-all).args in
     let l = known_here (goal.at.returns-then-takes_all c).After-flagged_rows-all in
     let known' = c.decide.last.1.1.1.1.1.1.0 in
-    let test = sym c.takes_all.ensures ∙ c.if-takes_all.taken in
+    let test = sym c.takes_all.ensures ∙ c.if-takes_all.true in
     let taken : takes_all a.b (length l) (length (chosen_then (goal.at.returns-then-takes_all c).After-flagged_rows-all)) (stored_length (chosen_then (goal.at.returns-then-takes_all c).After-flagged_rows-all)) ≡ true = rw (known_long (goal.at.returns-then-takes_all c).After-flagged_rows-all, ← g.counted, ← g.summed) test in
     let decided = subst (λ (w : List Element). Decides w l a.b c.decide.result a.known.now known') g.are c.decide.ensures in
     all_at_once a.b l (begun (goal.at.returns-then-takes_all c).After-flagged_rows-all).pre.0.carry.ranges_stand.1 (chosen_then (goal.at.returns-then-takes_all c).After-flagged_rows-all) (queued_then (goal.at.returns-then-takes_all c).After-flagged_rows-all) (begun (goal.at.returns-then-takes_all c).After-flagged_rows-all).pre.0.same taken c.decide.result a.known.now known' (known_rows (goal.at.returns-then-takes_all c).After-flagged_rows-all) decided
@@ -103,7 +103,7 @@ tries_all-requires c = let small = (gathered_here (goal.at.tries_all-requires c)
 
 pub try_all-requires : goal.try_all-requires
 try_all-requires c = let a = (begun (goal.at.try_all-requires c).After-flagged_rows-all).args in
-    let test = all_tried _ _ _ _ (sym c.tries_all.ensures ∙ c.if-tries_all.taken) in (
+    let test = all_tried _ _ _ _ (sym c.tries_all.ensures ∙ c.if-tries_all.true) in (
       record {
         first = subst (λ (m : ℕ). ToDecide a.rows.now a.ids.now a.lengths.now a.c c.flagged_rows-all.result.count (gathered_then (goal.at.try_all-requires c).After-flagged_rows-all) a.known.now m a.b.most) test.0 (in-store-order (goal.at.try_all-requires c).After-flagged_rows-all);
         then = subst (λ (m : ℕ). ToDecide a.rows.now a.ids.now a.lengths.now a.c a.wanted a.queue.now a.known.now m a.b.most) test.0 (as_queued (goal.at.try_all-requires c).After-flagged_rows-all);
@@ -117,7 +117,7 @@ try_all-requires c = let a = (begun (goal.at.try_all-requires c).After-flagged_r
 
 pub returns-then-tries_all : goal.returns-then-tries_all
 returns-then-tries_all c = let a = (begun (goal.at.returns-then-tries_all c).After-flagged_rows-all).args in
-    let test = all_tried _ _ _ _ (sym c.tries_all.ensures ∙ c.if-tries_all.taken) in
+    let test = all_tried _ _ _ _ (sym c.tries_all.ensures ∙ c.if-tries_all.true) in
     subst (λ (l : List Range). DecidesPage (queued_then (goal.at.returns-then-tries_all c).After-flagged_rows-all) l a.b c.try_all.result c.try_all.last.1.1.1.1.1.1.1.1.0) (sym (nothing_known_lem (goal.at.returns-then-tries_all c).After-flagged_rows-all test.0)) c.try_all.ensures
 
 pub decide-requires-2 : goal.decide-requires-2

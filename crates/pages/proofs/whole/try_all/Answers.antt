@@ -23,7 +23,7 @@ returns-then-is_whole c = let a = c.args in
     let n = tried_length (goal.at.returns-then-is_whole c).After-decide-first in
     let some = p.some in
     let few = p.few in
-    tried a.b [] tt (weighed_in a.rows.now a.ids.now a.lengths.now a.c a.count a.tried.now) (weighed_in a.rows.now a.ids.now a.lengths.now a.c a.wanted a.queue.now) p.same p.least (omega arith) (omega arith) c.decide-first.result a.t.now c.decide-first.last.1.1.1.1.1.1.0 refl c.decide-first.ensures (sym c.is_whole.ensures ∙ c.if-is_whole.taken)
+    tried a.b [] tt (weighed_in a.rows.now a.ids.now a.lengths.now a.c a.count a.tried.now) (weighed_in a.rows.now a.ids.now a.lengths.now a.c a.wanted a.queue.now) p.same p.least (omega arith) (omega arith) c.decide-first.result a.t.now c.decide-first.last.1.1.1.1.1.1.0 refl c.decide-first.ensures (sym c.is_whole.ensures ∙ c.if-is_whole.true)
 
 pub decide-requires : goal.decide-requires
 unfolding ranges_at Normal

@@ -55,9 +55,9 @@ returns c = let a = c.args in
     let i = extended_guid_bytes (Named (key_guid a.x.id) a.x.id.number) in
     let n = serial_bytes (Numbered (key_guid a.serial) a.serial.number) in
     let t = compact_bytes a.x.kind in
-    let l : Lays a.at i a.out.now x.result x.new.0 = rw c.named.ensures at x.ensures in
+    let l : Lays a.at i a.out.now x.result x.new.out = rw c.named.ensures at x.ensures in
     let b = length-append n t in
     let m = length_serial (key_guid a.serial) a.serial.number in
     let k = l.0 in
-    lays_then a.at i (n ++ t) a.out.now x.result x.new.0 v.result v.new.0 (omega arith) l
-    (lays_then x.result n t x.new.0 y.result y.new.0 v.result v.new.0 (omega arith) y.ensures v.ensures)
+    lays_then a.at i (n ++ t) a.out.now x.result x.new.out v.result v.new.out (omega arith) l
+    (lays_then x.result n t x.new.out y.result y.new.out v.result v.new.out (omega arith) y.ensures v.ensures)

@@ -53,10 +53,10 @@ returns c = let a = c.args in
     let e = start_bytes 0x01 true (data_length a.x) in
     let n = entering_data a.serial a.x in
     let t : c.part.result.now ≡ i = (rw c.inside_from-from.ensures at c.part.ensures) ∙ sym c.requires.0.inner in
-    let l : Lays a.at e a.out.now u.result u.new.0 = rw c.data_length-n.ensures.0 at u.ensures in
-    let o : Lays v.result i v.new.0 w.result w.new.0 = rw t at w.ensures in
+    let l : Lays a.at e a.out.now u.result u.new.out = rw c.data_length-n.ensures.0 at u.ensures in
+    let o : Lays v.result i v.new.out w.result w.new.out = rw t at w.ensures in
     let b = length-append n i in
     let k = l.0 in
     rw (entering_parts a.request.now a.serial a.x)
-    (lays_then a.at e (n ++ i) a.out.now u.result u.new.0 w.result w.new.0 (omega arith) l
-    (lays_then u.result n i u.new.0 v.result v.new.0 w.result w.new.0 (omega arith) v.ensures o))
+    (lays_then a.at e (n ++ i) a.out.now u.result u.new.out w.result w.new.out (omega arith) l
+    (lays_then u.result n i u.new.out v.result v.new.out w.result w.new.out (omega arith) v.ensures o))

@@ -42,7 +42,7 @@ loop-k-preserved c = let a = c.args in
     let i = l.invariant in
     let h = c.requires.2 in
     let z = y.ensures.0 in
-    (omega arith, omega arith, omega arith, lays_first l.p w x r l.out y.result y.new.0 _ t (omega arith) i.3 y.ensures)
+    (omega arith, omega arith, omega arith, lays_first l.p w x r l.out y.result y.new.out _ t (omega arith) i.3 y.ensures)
 
 pub shape_of-out : goal.shape_of-out
 shape_of-out c = c.loop-k.invariant.1

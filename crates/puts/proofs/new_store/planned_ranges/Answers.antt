@@ -34,7 +34,7 @@ loop-k-preserved c = let a = c.args in
     let y = c.add_serial-held in
     let i = l.invariant in
     let v : c.source_serial.result ≡ source_serial a.rows.now a.ids.now a.g a.highest (get_or a.plan.now l.k 0) = c.source_serial.ensures in
-    let e : ranges_at y.new.0 0 y.result ≡ insert (key_range (source_serial a.rows.now a.ids.now a.g a.highest (get_or a.plan.now l.k 0))) (ranges_at l.table 0 l.held) =
+    let e : ranges_at y.new.table 0 y.result ≡ insert (key_range (source_serial a.rows.now a.ids.now a.g a.highest (get_or a.plan.now l.k 0))) (ranges_at l.table 0 l.held) =
     y.ensures.1 ∙ ap (λ (k : Key). insert (key_range k) (ranges_at l.table 0 l.held)) v in
     let t = ranges_turn a.plan.now l.k a.count c.loop-k-test.true c.requires.1 a.rows.now a.ids.now a.g a.highest (ranges_at l.table 0 l.held) in
     let m = y.ensures.0 in

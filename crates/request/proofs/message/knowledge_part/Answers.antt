@@ -9,10 +9,10 @@ use Rattle.request.proofs.message.knowledge_part.Goals as goal
 
 pub returns-then-next_is : goal.returns-then-next_is
 unfolding knowledge_part
-returns-then-next_is c = let e = sym c.next_is.ensures ∙ c.if-next_is.taken in
+returns-then-next_is c = let e = sym c.next_is.ensures ∙ c.if-next_is.true in
     rw e c.read_knowledge.ensures
 
 pub returns : goal.returns
 unfolding knowledge_part ranges_at Normal
-returns c = let e = sym c.next_is.ensures ∙ c.if-next_is.left in
+returns c = let e = sym c.next_is.ensures ∙ c.if-next_is.false in
     rw e (c.answer.ensures, refl, refl, tt)

@@ -15,44 +15,44 @@ use Rattle.store.proofs.knowledge_write.lay_knowledge.Goals as goal
 
 pub lay_start-behind_start-requires : goal.lay_start-behind_start-requires
 lay_start-behind_start-requires c = let a = c.args in
-    omega (arith, length_none a.table.now a.rows c.if-rows-eq0.taken, length_front)
+    omega (arith, length_none a.table.now a.rows c.if-rows-eq0.true, length_front)
 
 pub lay_end-requires : goal.lay_end-requires
 lay_end-requires c = let a = c.args in
-    omega (arith, length_none a.table.now a.rows c.if-rows-eq0.taken, length_front, length_back)
+    omega (arith, length_none a.table.now a.rows c.if-rows-eq0.true, length_front, length_back)
 
 pub returns-then-rows-eq0 : goal.returns-then-rows-eq0
 returns-then-rows-eq0 c = let a = c.args in
     let e = start_bytes 0x10 true 0 in
     let f = end_bytes 0x10 in
-    let n = length_none a.table.now a.rows c.if-rows-eq0.taken in
+    let n = length_none a.table.now a.rows c.if-rows-eq0.true in
     let h : a.at + 3 ≤ length a.out.now = omega arith in
     let k = length_front in
     let l = length_back in
-    rw (knowledge_none a.table.now a.rows c.if-rows-eq0.taken)
+    rw (knowledge_none a.table.now a.rows c.if-rows-eq0.true)
     (lays_then a.at e f a.out.now c.lay_start-behind_start.result c.lay_start-behind_start.last.0 c.lay_end.result c.lay_end.last.0 (omega arith) c.lay_start-behind_start.ensures c.lay_end.ensures)
 
 pub lay_front-behind_front-requires : goal.lay_front-behind_front-requires
 lay_front-behind_front-requires c = let a = c.args in
-    omega (arith, length_some a.table.now a.rows c.if-rows-eq0.left, length_front)
+    omega (arith, length_some a.table.now a.rows c.if-rows-eq0.false, length_front)
 
 pub lay_ranges-behind_ranges-requires : goal.lay_ranges-behind_ranges-requires
 lay_ranges-behind_ranges-requires c = let a = c.args in
-    omega (arith, length_some a.table.now a.rows c.if-rows-eq0.left, length_front)
+    omega (arith, length_some a.table.now a.rows c.if-rows-eq0.false, length_front)
 
 pub lay_back-requires : goal.lay_back-requires
 lay_back-requires c = let a = c.args in
-    omega (arith, length_some a.table.now a.rows c.if-rows-eq0.left, length_front, length_back)
+    omega (arith, length_some a.table.now a.rows c.if-rows-eq0.false, length_front, length_back)
 
 pub returns : goal.returns
 returns c = let a = c.args in
     let r = ranges_bytes (ranges_at a.table.now 0 a.rows) in
-    let n = length_some a.table.now a.rows c.if-rows-eq0.left in
+    let n = length_some a.table.now a.rows c.if-rows-eq0.false in
     let h : a.at + (28 + length r) ≤ length a.out.now = omega arith in
     let k = length_front in
     let l = length_back in
     let m = length-append r cell_back in
-    rw (knowledge_some a.table.now a.rows c.if-rows-eq0.left)
+    rw (knowledge_some a.table.now a.rows c.if-rows-eq0.false)
     (lays_then a.at cell_front (r ++ cell_back) a.out.now c.lay_front-behind_front.result c.lay_front-behind_front.last.0 c.lay_back.result c.lay_back.last.0 (omega arith) c.lay_front-behind_front.ensures
     (lays_then c.lay_front-behind_front.result r cell_back c.lay_front-behind_front.last.0 c.lay_ranges-behind_ranges.result c.lay_ranges-behind_ranges.last.0 c.lay_back.result c.lay_back.last.0 (omega arith)
     c.lay_ranges-behind_ranges.ensures c.lay_back.ensures))

@@ -13,11 +13,11 @@ use Rattle.store.proofs.knowledge_write.write_knowledge.Goals as goal
 pub returns-then-out-needed : goal.returns-then-out-needed
 returns-then-out-needed c = let a = c.args in
     let w = knowledge_bytes (ranges_at a.table.now 0 a.rows) in
-    rw c.too_short.ensures (wrote_short w a.out.now c.knowledge_length-needed.result (sym c.knowledge_length-needed.ensures.0) c.if-out-needed.taken)
+    rw c.too_short.ensures (wrote_short w a.out.now c.knowledge_length-needed.result (sym c.knowledge_length-needed.ensures.0) c.if-out-needed.true)
 
 pub returns : goal.returns
 returns c = let a = c.args in
     let w = knowledge_bytes (ranges_at a.table.now 0 a.rows) in
     let e = sym c.knowledge_length-needed.ensures.0 in
-    wrote_done w a.out.now c.put_knowledge.last.0 c.knowledge_length-needed.result e c.if-out-needed.left
+    wrote_done w a.out.now c.put_knowledge.new.out c.knowledge_length-needed.result e c.if-out-needed.false
     (c.put_knowledge.ensures ∙ ap (λ (m : ℕ). w ++ drop m a.out.now) e)

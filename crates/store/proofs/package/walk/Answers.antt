@@ -25,13 +25,6 @@ returns-then-n-eq-MOST_ELEMENTS c = let e = sym c.next_is.ensures ∙ c.loop-str
 room : (c : Else-n-eq-MOST_ELEMENTS) → c.loop-strict.n < most_elements
 room c = omega arith
 
--- each key has its mark
-abbrev Lends : Type 0
-Lends = tie.After-read-element-arg4 invariant-loop decreases-loop
-
-id_marks : (c : Lends) → key_marks ≤ length c.before.before.before.before.before.before.before.loop.marks
-id_marks c = omega arith
-
 pub read_element-requires : goal.read_element-requires
 read_element-requires c = held_lent _ c.loop-strict.invariant.1 (omega arith) (omega arith)
 
@@ -60,7 +53,8 @@ pub loop-strict-preserved : goal.loop-strict-preserved
 loop-strict-preserved c = let r = room (goal.at.loop-strict-preserved c).Else-n-eq-MOST_ELEMENTS in
     let e = sym c.next_is.ensures ∙ c.loop-strict-test.true in
     let q = sym c.read_element.ensures ∙ c.in-Is.is in
-    let m = held_more _ c.loop-strict.invariant.1 e c.if-n-eq-MOST_ELEMENTS.false (id_marks (goal.at.loop-strict-preserved c).After-read_element-arg-in-loop-strict-3-1) c.in-Is.x q in (
+    let lent : key_marks ≤ length c.loop-strict.marks = omega arith in
+    let m = held_more _ c.loop-strict.invariant.1 e c.if-n-eq-MOST_ELEMENTS.false lent c.in-Is.x q in (
       omega arith,
       rw (c.put_row.ensures, c.put_id.ensures, c.put_mark.ensures) m,
     )
