@@ -30,7 +30,7 @@ returns-then-rows-eq0 c = let a = c.args in
     let k = length_front in
     let l = length_back in
     rw (knowledge_none a.table.now a.rows c.if-rows-eq0.true)
-    (lays_then a.at e f a.out.now c.lay_start-behind_start.result c.lay_start-behind_start.last.0 c.lay_end.result c.lay_end.last.0 (omega arith) c.lay_start-behind_start.ensures c.lay_end.ensures)
+    (lays_then a.at e f a.out.now c.lay_start-behind_start.result c.lay_start-behind_start.new.out c.lay_end.result c.lay_end.new.out (omega arith) c.lay_start-behind_start.ensures c.lay_end.ensures)
 
 pub lay_front-behind_front-requires : goal.lay_front-behind_front-requires
 lay_front-behind_front-requires c = let a = c.args in
@@ -53,6 +53,6 @@ returns c = let a = c.args in
     let l = length_back in
     let m = length-append r cell_back in
     rw (knowledge_some a.table.now a.rows c.if-rows-eq0.false)
-    (lays_then a.at cell_front (r ++ cell_back) a.out.now c.lay_front-behind_front.result c.lay_front-behind_front.last.0 c.lay_back.result c.lay_back.last.0 (omega arith) c.lay_front-behind_front.ensures
-    (lays_then c.lay_front-behind_front.result r cell_back c.lay_front-behind_front.last.0 c.lay_ranges-behind_ranges.result c.lay_ranges-behind_ranges.last.0 c.lay_back.result c.lay_back.last.0 (omega arith)
+    (lays_then a.at cell_front (r ++ cell_back) a.out.now c.lay_front-behind_front.result c.lay_front-behind_front.new.out c.lay_back.result c.lay_back.new.out (omega arith) c.lay_front-behind_front.ensures
+    (lays_then c.lay_front-behind_front.result r cell_back c.lay_front-behind_front.new.out c.lay_ranges-behind_ranges.result c.lay_ranges-behind_ranges.new.out c.lay_back.result c.lay_back.new.out (omega arith)
     c.lay_ranges-behind_ranges.ensures c.lay_back.ensures))
