@@ -13,6 +13,7 @@ use Rattle.request.specs.declared.choice.Matched.TheVariants.{WithId}
 use Rattle.store.proofs.Elements.{rows_up_to}
 use Rattle.request.proofs.Following.{Following, following_start, following_matched, following_passed, following_less, following_end}
 use Rattle.request.proofs.choice.set_key.Goals as goal
+use Rattle.request.proofs.choice.set_key.Goals.{then-is_matched, else-is_matched}
 
 pub returns-then-links-n : goal.returns-then-links-n
 returns-then-links-n c = c.set_matched.ensures
@@ -50,10 +51,10 @@ loop-left-smaller c = following_less (c.requires.2.linked c.if-links-n.false) _ 
 pub loop-left-preserved : goal.loop-left-preserved
 loop-left-preserved c = let w = c.requires.2.linked c.if-links-n.false in
     let e = sym c.is_matched.ensures in
-    ⊎_elim
-    (λ x. (ap length x.1 ∙ length-set c.loop-left.flags _ _ ∙ c.loop-left.invariant.0, rw x.1 (following_matched w _ _ _ c.loop-left.invariant.1 _ (omega arith) (e ∙ x.0.taken))))
-    (λ x. (ap length x.1 ∙ c.loop-left.invariant.0, rw x.1 (following_passed w _ _ _ c.loop-left.invariant.1 _ (omega arith) (e ∙ x.0.left))))
-    c.if-is_matched.branch
+    elim c.if-is_matched.branch [ then-is_matched x ↦
+    (ap length x.flags-is ∙ length-set c.loop-left.flags _ _ ∙ c.loop-left.invariant.0, rw x.flags-is (following_matched w _ _ _ c.loop-left.invariant.1 _ (omega arith) (e ∙ x.if-is_matched.true)))
+    | else-is_matched x ↦
+    (ap length x.flags-is ∙ c.loop-left.invariant.0, rw x.flags-is (following_passed w _ _ _ c.loop-left.invariant.1 _ (omega arith) (e ∙ x.if-is_matched.false))) ]
 
 pub shape_of-flags : goal.shape_of-flags
 shape_of-flags c = c.loop-left.invariant.0
