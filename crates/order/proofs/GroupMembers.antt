@@ -102,7 +102,7 @@ unfolding members_of
 in_members [] m = absurd (none_in m)
 in_members (g ∷ gs) m = ⊎_elim (λ h. (g, head refl, h)) (λ h. let r = in_members gs h in (r.0, tail r.1, r.2)) (in_either (members g) m)
 
-pub members_in : {gs : List Group} {g : Group} {x : Element} → In g gs → In x (members g) → In x (members_of gs)
+pub members_in : {g : Group} {gs : List Group} {x : Element} → In g gs → In x (members g) → In x (members_of gs)
 unfolding members_of
 members_in {x = x} (head {x = h} {xs = gs} e) m = in_front (members_of gs) (subst (λ (k : Group). In x (members k)) e m)
 members_in (tail {x = h} {xs = gs} i) m = in_rest (members h) (members_in i m)

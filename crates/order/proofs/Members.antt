@@ -4,7 +4,7 @@ use mathlib.Core.Path.{refl, subst, sym}
 use mathlib.Core.List.Memᴰ.{head}
 use mathlib.Core.List.Memᴰ.{tail}
 use mathlib.Core.List.{List, ◌∷◌, Memᴰ as In}
-use Rattle.order.specs.Rearranged.{Inserted, here, there, Rearranged, one_more}
+use Rattle.order.specs.Rearranged.{Inserted, here, there, Rearranged, nothing, one_more}
 
 module _ {E : Type 0} where
   inserted_is : {x : E} {l m : List E} → Inserted x l m → In x m
@@ -26,10 +26,12 @@ module _ {E : Type 0} where
       swap (tail h) = tail (tail h)
 
   pub member_stays : {z : E} {xs ys : List E} → Rearranged xs ys → In z xs → In z ys
+  member_stays {z = z} nothing h = elim h [ ]
   member_stays {ys = ys} (one_more r i) (head e) = subst (λ (x : E). In x ys) (sym e) (inserted_is i)
   member_stays (one_more r i) (tail h) = inserted_keeps i (member_stays r h)
 
   pub member_was : {z : E} {xs ys : List E} → Rearranged xs ys → In z ys → In z xs
+  member_was {z = z} nothing h = elim h [ ]
   member_was (one_more r i) h = on (λ k. member_was r k) (inserted_was i h)
     where
       on : {x z : E} {xs l : List E} → (In z l → In z xs) → In z (x ∷ l) → In z (x ∷ xs)

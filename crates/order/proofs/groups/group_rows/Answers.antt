@@ -15,13 +15,13 @@ use Rattle.order.proofs.groups.group_rows.Goals.{After-queue_rows-m}
 
 module _ (y : After-queue_rows-m) where
   abbrev queue_then : List ℕ
-  queue_then = c.queue_rows-m.new.queue
+  queue_then = y.queue_rows-m.new.queue
 
-  queued_all : RowsQueued c.args.rows.now c.args.ids.now queue_then c.queue_rows-m.result
-  queued_all = let a = c.args in rows_queued a.rows.now a.ids.now a.n _ c.queue_rows-m.result queue_then c.requires.0 c.requires.1 c.queue_rows-m.ensures
+  queued_all : RowsQueued y.args.rows.now y.args.ids.now queue_then y.queue_rows-m.result
+  queued_all = let a = y.args in rows_queued a.rows.now a.ids.now a.n _ y.queue_rows-m.result queue_then y.requires.0 y.requires.1 y.queue_rows-m.ensures
 
-  count_all : c.queue_rows-m.result ≡ c.args.n
-  count_all = let a = c.args in all_count a.rows.now a.ids.now a.n _ c.queue_rows-m.result queue_then c.requires.0 c.requires.1 c.queue_rows-m.ensures
+  count_all : y.queue_rows-m.result ≡ y.args.n
+  count_all = let a = y.args in all_count a.rows.now a.ids.now a.n _ y.queue_rows-m.result queue_then y.requires.0 y.requires.1 y.queue_rows-m.ensures
 
 pub link_rows-requires : goal.link_rows-requires
 link_rows-requires c = let e = count_all (goal.at.link_rows-requires c).After-queue_rows-m in
@@ -56,10 +56,10 @@ returns c = λ test f.
     let a = c.args in
     let laid = c.lay_groups.new in
     let flags : FlagsAre test a.rows.now a.ids.now c.queue_rows-m.result a.flags.now = λ i l. f i (let e = count_all (goal.at.returns c).After-queue_rows-m in omega arith) in
-    let sums' = laid.1.1.1.1.1.1.1.0 in
-    let earliest' = laid.1.1.1.1.1.1.1.1.0 in
-    let laid' = laid.1.1.1.1.1.1.1.1.1.0 in
-    let ends' = laid.1.1.1.1.1.1.1.1.1.1.0 in
+    let sums' = laid.sums in
+    let earliest' = laid.earliest in
+    let laid' = laid.laid in
+    let ends' = laid.ends in
     subst (λ (xs : List Element). GroupsLaid a.rows.now a.ids.now a.n sums' earliest' laid' ends' (chosen_groups test xs) c.lay_groups.result)
     (all_are a.rows.now a.ids.now a.n _ c.queue_rows-m.result (queue_then (goal.at.returns c).After-queue_rows-m) c.requires.0 c.requires.1 c.queue_rows-m.ensures)
     (subst (λ (n : ℕ). GroupsLaid a.rows.now a.ids.now n sums' earliest' laid' ends' (chosen_groups test (queued_from a.rows.now a.ids.now c.queue_rows-m.result (queue_then (goal.at.returns c).After-queue_rows-m) 0)) c.lay_groups.result) (count_all (goal.at.returns c).After-queue_rows-m)

@@ -10,19 +10,13 @@ use Rattle.order.proofs.GroupsLaying.{first_end, GroupsLaying, groups_start, gro
 use Rattle.order.proofs.groups.lay_groups.Goals as goal
 use Rattle.order.proofs.groups.lay_groups.Goals.{At-loop-k, Else-passed-k-ne0, Then-g}
 
-abbrev lent : (l : At-loop-k) → ToGroup c.args.rows.now c.args.ids.now c.args.n c.args.queue.now c.args.links.now c.args.flags.now c.args.passed.now c.args.sums.now c.args.earliest.now c.args.laid.now (set c.args.ends.now 0 0)
-lent l = (first_end c.requires).0
-
 -- the first of a group
 module _ (e : Else-passed-k-ne0) where
-  abbrev l : tie.At-loop invariant-loop decreases-loop
-  l = (TODO_place e At-loop-k)
+  first_inside : e.loop-k.k < e.args.n
+  first_inside = e.loop-k-test.true
 
-  first_inside : l.loop.k < l.before.before.before.before.before.before.before.before.before.before.before.args.n
-  first_inside = c.loop-k-test.true
-
-  room_left : l.loop.w < l.before.before.before.before.before.before.before.before.before.before.before.args.n
-  room_left = let a = l.before.before.before.before.before.before.before.before.before.before.before.args in groups_room a.rows.now a.ids.now a.n a.queue.now a.links.now a.flags.now a.passed.now a.sums.now a.earliest.now a.laid.now (set a.ends.now 0 0) (lent l) l.loop.inv first_inside c.if-passed-k-ne0.false
+  room_left : e.loop-k.w < e.args.n
+  room_left = let a = e.args in groups_room a.rows.now a.ids.now a.n a.queue.now a.links.now a.flags.now a.passed.now a.sums.now a.earliest.now a.laid.now (set a.ends.now 0 0) (first_end e.requires).0 e.loop-k.invariant first_inside e.if-passed-k-ne0.false
 
 pub bounds-ends-0 : goal.bounds-ends-0
 bounds-ends-0 c = let r = c.requires.ends_room in omega arith
@@ -37,57 +31,50 @@ bounds-passed-k c = let r = c.requires.passed_long in let e = c.loop-k.invariant
 
 pub loop-k-preserved-then-passed-k-ne0 : goal.loop-k-preserved-then-passed-k-ne0
 loop-k-preserved-then-passed-k-ne0 c = let a = c.args in
-    groups_passed a.rows.now a.ids.now a.n a.queue.now a.links.now a.flags.now a.passed.now a.sums.now a.earliest.now a.laid.now (set a.ends.now 0 0) (lent (goal.at.loop-k-preserved-then-passed-k-ne0 c).At-loop-k) c.loop-k.invariant c.loop-k-test.true c.if-passed-k-ne0.true
+    groups_passed a.rows.now a.ids.now a.n a.queue.now a.links.now a.flags.now a.passed.now a.sums.now a.earliest.now a.laid.now (set a.ends.now 0 0) (first_end c.requires).0 c.loop-k.invariant c.loop-k-test.true c.if-passed-k-ne0.true
 
 pub lay_members-g-requires : goal.lay_members-g-requires
-lay_members-g-requires c = let a = (begun (l (goal.at.lay_members-g-requires c).Else-passed-k-ne0)).args in
-    to_lay_lem a.rows.now a.ids.now a.n a.queue.now a.links.now a.flags.now a.passed.now a.sums.now a.earliest.now a.laid.now (set a.ends.now 0 0) (lent (l (goal.at.lay_members-g-requires c).Else-passed-k-ne0)) (l (goal.at.lay_members-g-requires c).Else-passed-k-ne0).loop.invariant (first_inside (goal.at.lay_members-g-requires c).Else-passed-k-ne0) c.if-passed-k-ne0.false
+lay_members-g-requires c = let a = c.args in
+    to_lay_lem a.rows.now a.ids.now a.n a.queue.now a.links.now a.flags.now a.passed.now a.sums.now a.earliest.now a.laid.now (set a.ends.now 0 0) (first_end c.requires).0 c.loop-k.invariant (first_inside (goal.at.lay_members-g-requires c).Else-passed-k-ne0) c.if-passed-k-ne0.false
 
 -- ---- one of whose members is chosen
 module _ (c : Then-g) where
-  abbrev laid_here : tie.After-lay-members invariant-loop decreases-loop
-  laid_here = (TODO_place c After-lay_members-g)
+  abbrev few_rows : c.args.n ≤ most_elements
+  few_rows = (first_end c.requires).0.queued.few
 
-  abbrev first_here : tie.Else1 invariant-loop decreases-loop
-  first_here = laid_here.before.before.before
-
-  abbrev few_rows : (begun (l first_here)).args.n ≤ most_elements
-  few_rows = (lent (l first_here)).queued.few
-
-  row_inside : laid_here.lay-members.result.earliest < (begun (l first_here)).args.n
-  row_inside = laid_here.lay-members.ensures.inside
+  row_inside : c.lay_members-g.result.earliest < c.args.n
+  row_inside = c.lay_members-g.ensures.inside
 
 pub offset_bounds-sums-i : goal.offset_bounds-sums-i
-offset_bounds-sums-i c = let i = row_inside c in let f : (begun (l (first_here c))).args.n ≤ most_elements = few_rows c in omega arith
+offset_bounds-sums-i c = let i = row_inside c in let f : c.args.n ≤ most_elements = few_rows c in omega arith
 
 pub bounds-sums-i : goal.bounds-sums-i
-bounds-sums-i c = let i = row_inside c in let r = (lent (l (first_here c))).sums_room in let e = (l (first_here c)).loop.inv.sums_long in omega arith
+bounds-sums-i c = let i = row_inside c in let r = (first_end c.requires).0.sums_room in let e = c.loop-k.invariant.sums_long in omega arith
 
 pub overflow_cast-earliest : goal.overflow_cast-earliest
-overflow_cast-earliest c = let i = row_inside c in let f : (begun (l (first_here c))).args.n ≤ most_elements = few_rows c in omega arith
+overflow_cast-earliest c = let i = row_inside c in let f : c.args.n ≤ most_elements = few_rows c in omega arith
 
 pub bounds-earliest-w : goal.bounds-earliest-w
-bounds-earliest-w c = let w = room_left (first_here c) in let r = (lent (l (first_here c))).earliest_room in let e = (l (first_here c)).loop.inv.earliest_long in omega arith
+bounds-earliest-w c = let w = room_left (goal.at.bounds-earliest-w c).Else-passed-k-ne0 in let r = (first_end c.requires).0.earliest_room in let e = c.loop-k.invariant.earliest_long in omega arith
 
 pub overflow_add-w : goal.overflow_add-w
-overflow_add-w c = let w = room_left (first_here c) in let f : (begun (l (first_here c))).args.n ≤ most_elements = few_rows c in omega arith
+overflow_add-w c = let w = room_left (goal.at.overflow_add-w c).Else-passed-k-ne0 in let f : c.args.n ≤ most_elements = few_rows c in omega arith
 
 pub offset_bounds-ends-w : goal.offset_bounds-ends-w
-offset_bounds-ends-w c = let w = room_left (first_here c) in let f : (begun (l (first_here c))).args.n ≤ most_elements = few_rows c in omega arith
+offset_bounds-ends-w c = let w = room_left (goal.at.offset_bounds-ends-w c).Else-passed-k-ne0 in let f : c.args.n ≤ most_elements = few_rows c in omega arith
 
 pub bounds-ends-w : goal.bounds-ends-w
-bounds-ends-w c = let w = room_left (first_here c) in let r = (lent (l (first_here c))).ends_room in let e = (l (first_here c)).loop.inv.ends_long in omega arith
+bounds-ends-w c = let w = room_left (goal.at.bounds-ends-w c).Else-passed-k-ne0 in let r = (first_end c.requires).0.ends_room in let e = c.loop-k.invariant.ends_long in omega arith
 
 pub overflow_add-k-then-g : goal.overflow_add-k-then-g
-overflow_add-k-then-g c = let i = first_inside (first_here c) in let f : (begun (l (first_here c))).args.n ≤ most_elements = few_rows c in omega arith
+overflow_add-k-then-g c = let i = first_inside (goal.at.overflow_add-k-then-g c).Else-passed-k-ne0 in let f : c.args.n ≤ most_elements = few_rows c in omega arith
 
 pub loop-k-smaller-then-g : goal.loop-k-smaller-then-g
-loop-k-smaller-then-g c = let i = first_inside (first_here c) in omega arith
+loop-k-smaller-then-g c = let i = first_inside (goal.at.loop-k-smaller-then-g c).Else-passed-k-ne0 in omega arith
 
 pub loop-k-preserved-then-g : goal.loop-k-preserved-then-g
-loop-k-preserved-then-g c = let e = first_here c in
-    let a = (begun (l e)).args in
-    groups_laid a.rows.now a.ids.now a.n a.queue.now a.links.now a.flags.now a.passed.now a.sums.now a.earliest.now a.laid.now (set a.ends.now 0 0) (lent (l e)) (l e).loop.inv (first_inside e) e.if1.left (laid_here c).lay-members.ensures c.if-g.true
+loop-k-preserved-then-g c = let a = c.args in
+    groups_laid a.rows.now a.ids.now a.n a.queue.now a.links.now a.flags.now a.passed.now a.sums.now a.earliest.now a.laid.now (set a.ends.now 0 0) (first_end c.requires).0 c.loop-k.invariant (first_inside (goal.at.loop-k-preserved-then-g c).Else-passed-k-ne0) c.if-passed-k-ne0.false c.lay_members-g.ensures c.if-g.true
 
 pub overflow_add-k-in-loop-k : goal.overflow_add-k-in-loop-k
 overflow_add-k-in-loop-k c = let i = first_inside (goal.at.overflow_add-k-in-loop-k c).Else-passed-k-ne0 in omega arith
@@ -96,8 +83,8 @@ pub loop-k-smaller : goal.loop-k-smaller
 loop-k-smaller c = let i = first_inside (goal.at.loop-k-smaller c).Else-passed-k-ne0 in omega arith
 
 pub loop-k-preserved : goal.loop-k-preserved
-loop-k-preserved c = let a = (begun (l (goal.at.loop-k-preserved c).Else-passed-k-ne0)).args in
-    groups_left a.rows.now a.ids.now a.n a.queue.now a.links.now a.flags.now a.passed.now a.sums.now a.earliest.now a.laid.now (set a.ends.now 0 0) (lent (l (goal.at.loop-k-preserved c).Else-passed-k-ne0)) (l (goal.at.loop-k-preserved c).Else-passed-k-ne0).loop.invariant (first_inside (goal.at.loop-k-preserved c).Else-passed-k-ne0) c.if-passed-k-ne0.false c.lay_members-g.ensures c.if-g.false
+loop-k-preserved c = let a = c.args in
+    groups_left a.rows.now a.ids.now a.n a.queue.now a.links.now a.flags.now a.passed.now a.sums.now a.earliest.now a.laid.now (set a.ends.now 0 0) (first_end c.requires).0 c.loop-k.invariant (first_inside (goal.at.loop-k-preserved c).Else-passed-k-ne0) c.if-passed-k-ne0.false c.lay_members-g.ensures c.if-g.false
 
 pub shape_of-passed : goal.shape_of-passed
 shape_of-passed c = c.loop-k.invariant.passed_long
@@ -116,4 +103,4 @@ shape_of-ends c = c.loop-k.invariant.ends_long ∙ length-set c.args.ends.now 0 
 
 pub returns : goal.returns
 returns c = let a = c.args in
-    groups_end a.rows.now a.ids.now a.n a.queue.now a.links.now a.flags.now a.passed.now a.sums.now a.earliest.now a.laid.now (set a.ends.now 0 0) (lent (goal.at.returns c).At-loop-k) c.loop-k.invariant c.loop-k-test.false
+    groups_end a.rows.now a.ids.now a.n a.queue.now a.links.now a.flags.now a.passed.now a.sums.now a.earliest.now a.laid.now (set a.ends.now 0 0) (first_end c.requires).0 c.loop-k.invariant c.loop-k-test.false

@@ -12,28 +12,25 @@ use Rattle.order.proofs.groups.lay_members.Goals as goal
 use Rattle.order.proofs.groups.lay_members.Goals.{In-loop-p}
 
 module _ (c : In-loop-p) where
-  abbrev start : tie.Start invariant-loop decreases-loop
-  start = (TODO_place c Start)
-
   turn_room : c.loop-p.end < length c.loop-p.laid
   turn_room =
-      let a = start.args in
-      let e = count_now a.rows.now a.ids.now a.n a.queue.now a.links.now a.flags.now a.k a.passed.now a.at a.laid.now start.pre c.loop-p.invariant c.loop-p-test.true in
-      let r = start.pre.room in
+      let a = c.args in
+      let e = count_now a.rows.now a.ids.now a.n a.queue.now a.links.now a.flags.now a.k a.passed.now a.at a.laid.now c.requires c.loop-p.invariant c.loop-p-test.true in
+      let r = c.requires.room in
       let g = c.loop-p.invariant.long in
       omega arith
 
-  turn_row : get_or start.args.queue.now c.loop-p.p 0 < start.args.n
-  turn_row = row_inside start.pre.queued c.loop-p.p c.loop-p-test.true
+  turn_row : get_or c.args.queue.now c.loop-p.p 0 < c.args.n
+  turn_row = row_inside c.requires.queued c.loop-p.p c.loop-p-test.true
 
-  turn_short : (queued_at start.args.rows.now start.args.ids.now start.args.queue.now c.loop-p.p).length ≤ 2 ^ 24
-  turn_short = start.pre.short _ turn_row
+  turn_short : (queued_at c.args.rows.now c.args.ids.now c.args.queue.now c.loop-p.p).length ≤ 2 ^ 24
+  turn_short = c.requires.short _ turn_row
 
   turn_small : c.loop-p.stored ≤ 2 ^ 24 * most_elements
   turn_small =
-      let a = start.args in
-      let d = done_few a.rows.now a.ids.now a.n a.queue.now a.links.now a.flags.now a.k a.passed.now a.at a.laid.now start.pre c.loop-p.invariant c.loop-p-test.true in
-      let f : a.n ≤ most_elements = start.pre.queued.few in
+      let a = c.args in
+      let d = done_few a.rows.now a.ids.now a.n a.queue.now a.links.now a.flags.now a.k a.passed.now a.at a.laid.now c.requires c.loop-p.invariant c.loop-p-test.true in
+      let f : a.n ≤ most_elements = c.requires.queued.few in
       let m = c.loop-p.invariant.small in
       omega arith
 
@@ -60,9 +57,9 @@ pub bounds-laid-end : goal.bounds-laid-end
 bounds-laid-end c = turn_room (goal.at.bounds-laid-end c).In-loop-p
 
 pub overflow_add-end : goal.overflow_add-end
-overflow_add-end c = let a = (start (goal.at.overflow_add-end c).In-loop-p).args in
-    let e = count_now a.rows.now a.ids.now a.n a.queue.now a.links.now a.flags.now a.k a.passed.now a.at a.laid.now (start (goal.at.overflow_add-end c).In-loop-p).requires c.loop-p.invariant c.loop-p-test.true in
-    let f : a.at + length (group_from a.rows.now a.ids.now a.n a.queue.now a.k) ≤ most_elements = (start (goal.at.overflow_add-end c).In-loop-p).requires.few in
+overflow_add-end c = let a = c.args in
+    let e = count_now a.rows.now a.ids.now a.n a.queue.now a.links.now a.flags.now a.k a.passed.now a.at a.laid.now c.requires c.loop-p.invariant c.loop-p-test.true in
+    let f : a.at + length (group_from a.rows.now a.ids.now a.n a.queue.now a.k) ≤ most_elements = c.requires.few in
     omega arith
 
 pub overflow_add-stored : goal.overflow_add-stored
@@ -94,20 +91,18 @@ pub lesser-earliest-requires : goal.lesser-earliest-requires
 lesser-earliest-requires c = tt
 
 pub loop-p-smaller : goal.loop-p-smaller
-loop-p-smaller c = let s = start (goal.at.loop-p-smaller c).In-loop-p in
-    let a = s.args in
-    let e = link_is a.rows.now a.ids.now a.n a.queue.now a.links.now a.flags.now a.k a.passed.now a.at a.laid.now s.pre c.loop-p.invariant c.loop-p-test.true in
-    let f = next_from a.rows.now a.ids.now a.n a.queue.now a.links.now a.flags.now a.k a.passed.now a.at a.laid.now s.pre c.loop-p.invariant c.loop-p-test.true in
+loop-p-smaller c = let a = c.args in
+    let e = link_is a.rows.now a.ids.now a.n a.queue.now a.links.now a.flags.now a.k a.passed.now a.at a.laid.now c.requires c.loop-p.invariant c.loop-p-test.true in
+    let f = next_from a.rows.now a.ids.now a.n a.queue.now a.links.now a.flags.now a.k a.passed.now a.at a.laid.now c.requires c.loop-p.invariant c.loop-p-test.true in
     omega arith
 
 pub loop-p-preserved : goal.loop-p-preserved
-loop-p-preserved c = let s = start (goal.at.loop-p-preserved c).In-loop-p in
-    let a = s.args in
+loop-p-preserved c = let a = c.args in
     let e = rw c.row_at-i.ensures at c.element_in_row-x.ensures in
-    let link = link_is a.rows.now a.ids.now a.n a.queue.now a.links.now a.flags.now a.k a.passed.now a.at a.laid.now s.pre c.loop-p.invariant c.loop-p-test.true in
+    let link = link_is a.rows.now a.ids.now a.n a.queue.now a.links.now a.flags.now a.k a.passed.now a.at a.laid.now c.requires c.loop-p.invariant c.loop-p-test.true in
     let flagged = rw c.row_at-i.ensures at c.or_flag-chosen.ensures in
     rw (c.lesser-earliest.ensures, link, c.row_at-i.ensures, e)
-    (laying_more a.rows.now a.ids.now a.n a.queue.now a.links.now a.flags.now a.k a.passed.now a.at a.laid.now s.pre c.loop-p.invariant c.loop-p-test.true _ flagged (turn_short (goal.at.loop-p-preserved c).In-loop-p))
+    (laying_more a.rows.now a.ids.now a.n a.queue.now a.links.now a.flags.now a.k a.passed.now a.at a.laid.now c.requires c.loop-p.invariant c.loop-p-test.true _ flagged (turn_short (goal.at.loop-p-preserved c).In-loop-p))
 
 pub shape_of-passed : goal.shape_of-passed
 shape_of-passed c = c.loop-p.invariant.passed_long
