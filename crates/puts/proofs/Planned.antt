@@ -60,10 +60,10 @@ module _ (a : Sides) where
   bytes_joined [] = refl
   bytes_joined (x ∷ plan) = rw (source_bytes_lem x, bytes_joined plan)
 
-  ranges_joined : (r : List Range) (plan : List ℕ) → planned_ranges a.rows a.ids a.guid a.highest r plan ≡ ranges_of r (map (source_of stay comes) plan)
+  ranges_joined : (plan : List ℕ) (r : List Range) → planned_ranges a.rows a.ids a.guid a.highest r plan ≡ ranges_of r (map (source_of stay comes) plan)
   unfolding planned_ranges ranges_of
-  ranges_joined r [] = refl
-  ranges_joined r (x ∷ plan) = rw (source_serial_lem x) (ranges_joined _ plan)
+  ranges_joined [] r = refl
+  ranges_joined (x ∷ plan) r = rw (source_serial_lem x) (ranges_joined plan _)
 
   -- ---- the whole
 
@@ -81,7 +81,7 @@ module _ (a : Sides) where
     plan_bytes = bytes_joined (sources (id_keys a.ids n) (id_keys a.handed_ids m)) ∙ ap joined plan_is
 
     pub plan_ranges : (r : List Range) → planned_ranges a.rows a.ids a.guid a.highest r (sources (id_keys a.ids n) (id_keys a.handed_ids m)) ≡ ranges_of r new
-    plan_ranges r = ranges_joined r (sources (id_keys a.ids n) (id_keys a.handed_ids m)) ∙ ap (ranges_of r) plan_is
+    plan_ranges r = ranges_joined (sources (id_keys a.ids n) (id_keys a.handed_ids m)) r ∙ ap (ranges_of r) plan_is
 
     pub plan_count : length (sources (id_keys a.ids n) (id_keys a.handed_ids m)) ≡ length new
     plan_count = planned.plan_count a.ids a.handed_ids stay comes stay_ids come_ids n m few ∙ ap length both

@@ -94,7 +94,7 @@ returns c = let a = c.args in
     let f2 : w.result ≡ u.result + length (end_bytes 0x15) = w.ensures.0 in
     let f3 : x.result ≡ w.result + length p = x.ensures.0 in
     let f4 : y.result ≡ x.result + length k = y.ensures.0 in
-    lays_then 0 answer_front (end_bytes 0x15 ++ (p ++ (k ++ ends_bytes))) a.out.now u.result u.last.0 z.result z.last.0 (omega arith) u.ensures
-    (lays_then u.result (end_bytes 0x15) (p ++ (k ++ ends_bytes)) u.last.0 w.result w.last.0 z.result z.last.0 (omega arith) w.ensures
-    (lays_then w.result p (k ++ ends_bytes) w.last.0 x.result x.last.0 z.result z.last.0 (omega arith) x.ensures
-    (lays_then x.result k ends_bytes x.last.0 y.result y.last.0 z.result z.last.0 (omega arith) y.ensures z.ensures)))
+    lays_then 0 answer_front (end_bytes 0x15 ++ (p ++ (k ++ ends_bytes))) a.out.now u.result u.new.out z.result z.new.out (omega arith) u.ensures
+    (lays_then u.result (end_bytes 0x15) (p ++ (k ++ ends_bytes)) u.new.out w.result w.new.out z.result z.new.out (omega arith) w.ensures
+    (lays_then w.result p (k ++ ends_bytes) w.new.out x.result x.new.out z.result z.new.out (omega arith) x.ensures
+    (lays_then x.result k ends_bytes x.new.out y.result y.new.out z.result z.new.out (omega arith) y.ensures z.ensures)))

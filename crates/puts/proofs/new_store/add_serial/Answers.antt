@@ -9,7 +9,7 @@ pub returns-in-Rows : goal.returns-in-Rows
 returns-in-Rows c = let a = c.args in
     let r = c.add_range in
     let e = rw c.key_range.ensures at r.ensures in
-    serial_added a.table.now a.held a.k c.requires.0 c.requires.1 _ r.new.table (sym c.in-Rows.is ∙ e.0) e.1
+    serial_added a.table.now a.held a.k c.requires.0 c.requires.1 _ r.new.t (sym c.in-Rows.is ∙ e.0) e.1
 
 pub returns-in-Full : goal.returns-in-Full
 returns-in-Full c = let a = c.args in
