@@ -10,12 +10,12 @@ use Rattle.pages.proofs.answer.length.Goals as goal
 pub returns-then-too_few : goal.returns-then-too_few
 unfolding answer_told rows_after ranges_after
 returns-then-too_few c = let few = sym c.too_few.ensures ∙ c.if-too_few.true in
-    let a = TODO_above_start in
+    let a = c.args in
     rw (tables_short a.store.now a.request.now (length a.rows.now) (length a.ranges.now) a.offered few, c.at_place.ensures) (refl, refl, refl)
 
 pub tell_length-requires : goal.tell_length-requires
 tell_length-requires c = tables_room _ _ (sym c.too_few.ensures ∙ c.if-too_few.false)
 
 pub returns : goal.returns
-returns c = let a = TODO_above_start in
+returns c = let a = c.args in
     rw (tables_long a.store.now a.request.now (length a.rows.now) (length a.ranges.now) a.offered (sym c.too_few.ensures ∙ c.if-too_few.false)) c.tell_length.ensures

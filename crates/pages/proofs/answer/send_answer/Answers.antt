@@ -11,7 +11,7 @@ use Rattle.pages.specs.Held.{WorkingTables, Ready}
 use Rattle.pages.proofs.Stored.{new_tables, page_follows, refusal_follows, ready_tells, ready_gives}
 use borrow.Author.Rules.{rules}
 use Rattle.pages.proofs.answer.send_answer.Goals as goal
-use Rattle.pages.proofs.answer.send_answer.Goals.{After-decide_answer, In-Page-2}
+use Rattle.pages.proofs.answer.send_answer.Goals.{After-decide_answer, In-Page}
 
 abbrev elements-then : (c : After-decide_answer) → List ℕ
 elements-then c = c.decide_answer.new.elements
@@ -28,7 +28,7 @@ queue_then c = c.decide_answer.new.queue
 lengths : (c : After-decide_answer) → WorkingTables (elements-then c) (ids-then c) (known_then c) (queue_then c)
 lengths c = c.decide_answer.ensures.5
 
-ready : (c : In-Page-2) → Ready (outcome (begun (TODO_place c After-decide_answer)).args.store.now (begun (TODO_place c After-decide_answer)).args.request.now (length (begun (TODO_place c After-decide_answer)).args.out.now)) (begun (TODO_place c After-decide_answer)).args.store.now (length (begun (TODO_place c After-decide_answer)).args.out.now) c.in-Page.page c.in-Page.whole c.in-Page.n (elements-then (TODO_place c After-decide_answer)) (ids-then (TODO_place c After-decide_answer)) (known_then (TODO_place c After-decide_answer)) (queue_then (TODO_place c After-decide_answer))
+ready : (c : In-Page) → Ready (outcome c.args.store.now c.args.request.now (length c.args.out.now)) c.args.store.now (length c.args.out.now) c.in-Page.page c.in-Page.whole c.in-Page.n c.decide_answer.new.elements c.decide_answer.new.ids c.decide_answer.new.known c.decide_answer.new.queue
 ready c = page_follows _ _ _ _ _ _ _ _ c.decide_answer.ensures.6 _ _ _ c.in-Page.is
 
 -- ---- the answers
@@ -48,7 +48,7 @@ pub slice_bounds-write_answer-end-in-Page-3 : goal.slice_bounds-write_answer-end
 slice_bounds-write_answer-end-in-Page-3 c = sym (lengths (goal.at.slice_bounds-write_answer-end-in-Page-3 c).After-decide_answer).known_long
 
 pub write_answer-requires : goal.write_answer-requires
-write_answer-requires c = (ready (goal.at.write_answer-requires c).In-Page-2).to_send
+write_answer-requires c = (ready (goal.at.write_answer-requires c).In-Page).to_send
 
 pub slice_bounds-fill_tables-end : goal.slice_bounds-fill_tables-end
 slice_bounds-fill_tables-end c = sym (lengths (goal.at.slice_bounds-fill_tables-end c).After-decide_answer).elements_long
@@ -60,11 +60,11 @@ pub slice_bounds-fill_tables-end-in-Page-2 : goal.slice_bounds-fill_tables-end-i
 slice_bounds-fill_tables-end-in-Page-2 c = sym (lengths (goal.at.slice_bounds-fill_tables-end-in-Page-2 c).After-decide_answer).known_long
 
 pub fill_tables-requires : goal.fill_tables-requires
-fill_tables-requires c = let x = ready (goal.at.fill_tables-requires c).In-Page-2 in
+fill_tables-requires c = let x = ready (goal.at.fill_tables-requires c).In-Page in
     let few = x.few in
     let ranges-few = x.to_send.few in
     let ranges_room = x.to_send.ranges_room in
-    let lent = (begun (goal.at.fill_tables-requires c).After-decide_answer).requires in
+    let lent = c.requires in
     let f = lent.0 in
     let g = lent.1 in
     (rows_up_to x.stand _ (omega arith), omega arith, omega arith, omega arith, omega arith)
@@ -74,5 +74,5 @@ unfolding answer_told rows_after ranges_after output_after
 returns-in-Refused c = rw (refusal_follows _ _ _ _ _ _ _ _ c.decide_answer.ensures.6 _ c.in-Refused.is) (refl, refl, refl, refl)
 
 pub returns-in-Page : goal.returns-in-Page
-returns-in-Page c = let out = (begun (goal.at.returns-in-Page c).After-decide_answer).args.out.now in
-    ready_gives (ready (goal.at.returns-in-Page c).In-Page-2) _ _ _ _ out _ (ready_tells (ready (goal.at.returns-in-Page c).In-Page-2) _ _ _ _ c.fill_tables.ensures.0 c.fill_tables.ensures.1) c.write_answer.ensures.1
+returns-in-Page c = let out = c.args.out.now in
+    ready_gives (ready (goal.at.returns-in-Page c).In-Page) _ _ _ _ out _ (ready_tells (ready (goal.at.returns-in-Page c).In-Page) _ _ _ _ c.fill_tables.ensures.0 c.fill_tables.ensures.1) c.write_answer.ensures.1

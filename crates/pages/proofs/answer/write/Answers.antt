@@ -10,12 +10,12 @@ use Rattle.pages.proofs.answer.write.Goals as goal
 pub returns-then-too_few : goal.returns-then-too_few
 unfolding answer_told rows_after ranges_after output_after
 returns-then-too_few c = let few = sym c.too_few.ensures ∙ c.if-too_few.true in
-    let a = TODO_above_start in
+    let a = c.args in
     rw (tables_short a.store.now a.request.now (length a.rows.now) (length a.ranges.now) (length a.out.now) few, c.at_place.ensures) (refl, refl, refl, refl)
 
 pub send_answer-requires : goal.send_answer-requires
 send_answer-requires c = tables_room _ _ (sym c.too_few.ensures ∙ c.if-too_few.false)
 
 pub returns : goal.returns
-returns c = let a = TODO_above_start in
+returns c = let a = c.args in
     rw (tables_long a.store.now a.request.now (length a.rows.now) (length a.ranges.now) (length a.out.now) (sym c.too_few.ensures ∙ c.if-too_few.false)) c.send_answer.ensures

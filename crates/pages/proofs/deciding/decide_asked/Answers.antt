@@ -25,20 +25,20 @@ abbrev known_then : (c : After-decide_page-chosen) → List ℕ
 known_then c = c.decide_page-chosen.new.known
 
 -- whatever store stands in the tables
-module _ (c : tie.After-decide-page) (s : List ℕ) (h : StoreHeld s (begun c).args.elements.now (begun c).args.ids.now (begun c).args.n) where
+module _ (c : After-decide_page-chosen) (s : List ℕ) (h : StoreHeld s c.args.elements.now c.args.ids.now c.args.n) where
   abbrev asked : Ask
-  asked = ask_in s (begun c).args.request.now (begun c).args.a
+  asked = ask_in s c.args.request.now c.args.a
 
-  index_is : c.before.before.before.storage-index.result ≡ storage_index (store_walk s).elements
-  index_is = c.before.before.before.storage-index.ensures ∙ ap storage_index h.held
+  index_is : c.storage_index-index.result ≡ storage_index (store_walk s).elements
+  index_is = c.storage_index-index.ensures ∙ ap storage_index h.held
 
   -- the decision is that of document 01, the table of ranges holds what the page says, and the queue its rows
-  decided_is : (c.decide-page.result.decided ≡ page_decided asked (begun c).args.room)
-      × Carries (map lump asked.wanted) (known_in (begun c).args.request.now) c.decide-page.result.decided (known_then c)
-      × SendsRows (begun c).args.elements.now (begun c).args.ids.now (queue_then c) asked.wanted c.decide-page.result.decided c.decide-page.result.rows
+  decided_is : (c.decide_page-chosen.result.decided ≡ page_decided asked c.args.room)
+      × Carries (map lump asked.wanted) (known_in c.args.request.now) c.decide_page-chosen.result.decided (known_then c)
+      × SendsRows c.args.elements.now c.args.ids.now (queue_then c) asked.wanted c.decide_page-chosen.result.decided c.decide_page-chosen.result.rows
   decided_is =
-      let a = (begun c).args in
-      page_decided_lem s a.request.now a.a a.elements.now a.ids.now a.known.now a.n h (begun c).requires.1 a.room _ _ _ _ _ c.decide-page.ensures index_is
+      let a = c.args in
+      page_decided_lem s a.request.now a.a a.elements.now a.ids.now a.known.now a.n h c.requires.1 a.room _ _ _ _ _ c.decide_page-chosen.ensures index_is
 
 long_then : (c : After-decide_page-chosen) → length (known_then c) ≡ length c.args.known.now
 long_then c = c.decide_page-chosen.auto.known
@@ -87,8 +87,8 @@ returns-in-Sent c = λ s h.
     let g = c.requires.1 in
     let x = decided_is (goal.at.returns-in-Sent c).After-decide_page-chosen s h in
     let long = long_then (goal.at.returns-in-Sent c).After-decide_page-chosen in (
-      page_reckoned s a.request.now a.a a.elements.now a.ids.now a.known.now a.n h g a.room _ c.in-Sent.field-0 c.in-Sent.whole c.in-Sent.count c.in-Sent.partial e x.0 _ _ _ x.1 x.2 long _ (index_is (goal.at.returns-in-Sent c).After-decide_page-chosen s h),
+      page_reckoned s a.request.now a.a a.elements.now a.ids.now a.known.now a.n h g a.room _ c.in-Sent.field-0 c.in-Sent.whole c.in-Sent.count c.in-Sent.partial c.in-Sent.is x.0 _ _ _ x.1 x.2 long _ (index_is (goal.at.returns-in-Sent c).After-decide_page-chosen s h),
       long,
       queue_long (goal.at.returns-in-Sent c).After-decide_page-chosen,
-      page_ready s a.request.now a.a a.elements.now a.ids.now a.known.now a.n h g a.room _ c.in-Sent.field-0 c.in-Sent.whole c.in-Sent.count c.in-Sent.partial e x.0 _ _ _ x.1 x.2 long _ (index_is (goal.at.returns-in-Sent c).After-decide_page-chosen s h),
+      page_ready s a.request.now a.a a.elements.now a.ids.now a.known.now a.n h g a.room _ c.in-Sent.field-0 c.in-Sent.whole c.in-Sent.count c.in-Sent.partial c.in-Sent.is x.0 _ _ _ x.1 x.2 long _ (index_is (goal.at.returns-in-Sent c).After-decide_page-chosen s h),
     )

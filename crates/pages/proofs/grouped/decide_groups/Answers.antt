@@ -25,7 +25,7 @@ use Rattle.pages.proofs.SingleGroups.{taken_most}
 use Rattle.pages.proofs.Summed.{same_decided, same_lengths, summed}
 use borrow.Author.Rules.{rules}
 use Rattle.pages.proofs.grouped.decide_groups.Goals as goal
-use Rattle.pages.proofs.grouped.decide_groups.Goals.{After-decide_sums-decided, After-group_rows-wanted}
+use Rattle.pages.proofs.grouped.decide_groups.Goals.{After-taken_in-sent, After-group_rows-wanted}
 
 -- the members of those that are sent are the first rows
 sends_rows : {rows ids : List ℕ} {m : ℕ} {sums earliest laid ends : List ℕ} {gs : List Group} {w : ℕ} → GroupsLaid rows ids m sums earliest laid ends gs w → (d : Decided) (n : ℕ)
@@ -36,69 +36,64 @@ sends_rows l (Short m) n e = tt
 
 -- ---- the groups as they were laid, for whatever test the flags are of
 module _ (g : After-group_rows-wanted) where
-  abbrev start : tie.Start
-  start = (TODO_place g Start)
+
 
   abbrev wanted : (Element → Bool) → List Group
-  wanted test = chosen_groups test (ordered (elements_in start.args.elements.now start.args.ids.now start.args.n))
+  wanted test = chosen_groups test (ordered (elements_in g.args.elements.now g.args.ids.now g.args.n))
 
   abbrev sums_then : List ℕ
-  sums_then = c.group_rows-wanted.last.1.1.1.1.0
+  sums_then = g.group_rows-wanted.new.sums
 
   abbrev earliest_then : List ℕ
-  earliest_then = c.group_rows-wanted.last.1.1.1.1.1.0
+  earliest_then = g.group_rows-wanted.new.earliest
 
   abbrev laid_then : List ℕ
-  laid_then = c.group_rows-wanted.last.1.1.1.1.1.1.0
+  laid_then = g.group_rows-wanted.new.laid
 
   abbrev ends_then : List ℕ
-  ends_then = c.group_rows-wanted.last.1.1.1.1.1.1.1.0
+  ends_then = g.group_rows-wanted.new.ends
 
   abbrev Flagged : (Element → Bool) → Type 0
-  Flagged test = FlagsAre test start.args.elements.now start.args.ids.now start.args.n start.args.flags.now
+  Flagged test = FlagsAre test g.args.elements.now g.args.ids.now g.args.n g.args.flags.now
 
-  laid_groups : (test : Element → Bool) → Flagged test → GroupsLaid start.args.elements.now start.args.ids.now start.args.n sums_then earliest_then laid_then ends_then (wanted test) c.group_rows-wanted.result
-  laid_groups = c.group_rows-wanted.ensures
+  laid_groups : (test : Element → Bool) → Flagged test → GroupsLaid g.args.elements.now g.args.ids.now g.args.n sums_then earliest_then laid_then ends_then (wanted test) g.group_rows-wanted.result
+  laid_groups = g.group_rows-wanted.ensures
 
-  some_laid : GroupsLaid start.args.elements.now start.args.ids.now start.args.n sums_then earliest_then laid_then ends_then (wanted start.pre.3.0) c.group_rows-wanted.result
-  some_laid = laid_groups start.pre.3.0 start.pre.3.1
+  some_laid : GroupsLaid g.args.elements.now g.args.ids.now g.args.n sums_then earliest_then laid_then ends_then (wanted g.requires.3.0) g.group_rows-wanted.result
+  some_laid = laid_groups g.requires.3.0 g.requires.3.1
 
-  groups_few : c.group_rows-wanted.result ≤ most_elements
+  groups_few : g.group_rows-wanted.result ≤ most_elements
   groups_few =
       let a = some_laid.counted in
-      let b = length_least (wanted start.pre.3.0) in
-      let c : length (members_of (wanted start.pre.3.0)) ≤ most_elements = some_laid.few in
+      let b = length_least (wanted g.requires.3.0) in
+      let c : length (members_of (wanted g.requires.3.0)) ≤ most_elements = some_laid.few in
       omega arith
 
   abbrev standing : List Element
-  standing = weighed_in start.args.elements.now start.args.ids.now sums_then sum_column c.group_rows-wanted.result earliest_then
+  standing = weighed_in g.args.elements.now g.args.ids.now sums_then sum_column g.group_rows-wanted.result earliest_then
 
   -- the rows that stand for them have their serial numbers and the lengths of all their members
   stand_for : (test : Element → Bool) → Flagged test → map bare standing ≡ map bare (map lump (wanted test))
-  stand_for test f = ap (map bare) (summed start.args.elements.now start.args.ids.now sums_then (take c.group_rows-wanted.result earliest_then)) ∙ (laid_groups test f).lumps
+  stand_for test f = ap (map bare) (summed g.args.elements.now g.args.ids.now sums_then (take g.group_rows-wanted.result earliest_then)) ∙ (laid_groups test f).lumps
 
 -- ---- what was decided
-module _ (d : After-decide_sums-decided) where
-  abbrev gathered : tie.After-group-rows
-  gathered = (TODO_place d After-group_rows-wanted)
+module _ (d : After-taken_in-sent) where
 
-  abbrev begun : tie.Start
-  begun = start gathered
 
   abbrev known_then : List ℕ
-  known_then = c.decide_sums-decided.last.1.1.1.1.1.1.0
+  known_then = d.decide_sums-decided.new.known
 
   abbrev ranges : List Range
-  ranges = ranges_at begun.args.known.now 0 begun.args.count
+  ranges = ranges_at d.args.known.now 0 d.args.count
 
-  decided : (test : Element → Bool) → Flagged gathered test → DecidesPage (map lump (wanted gathered test)) ranges begun.args.bounds c.decide_sums-decided.result known_then
-  decided test f = same_decided (standing gathered) (map lump (wanted gathered test)) (stand_for gathered test f) ranges begun.args.bounds c.decide_sums-decided.result known_then c.decide_sums-decided.ensures
+  decided : (test : Element → Bool) → Flagged (goal.at.returns d).After-group_rows-wanted test → DecidesPage (map lump (wanted (goal.at.returns d).After-group_rows-wanted test)) ranges d.args.bounds d.decide_sums-decided.result known_then
+  decided test f = same_decided (standing (goal.at.returns d).After-group_rows-wanted) (map lump (wanted (goal.at.returns d).After-group_rows-wanted test)) (stand_for (goal.at.returns d).After-group_rows-wanted test f) ranges d.args.bounds d.decide_sums-decided.result known_then d.decide_sums-decided.ensures
 
-  taken_few : (test : Element → Bool) → Flagged gathered test → taken_in c.decide_sums-decided.result ≤ gathered.group-rows.result
+  taken_few : (test : Element → Bool) → Flagged (goal.at.returns d).After-group_rows-wanted test → taken_in d.decide_sums-decided.result ≤ d.group_rows-wanted.result
   taken_few test f =
-      let a = taken_most begun.args.bounds ranges _ c.decide_sums-decided.result known_then (decided test f) in
-      let b = length-map (wanted gathered test) lump in
-      let c = (laid_groups gathered test f).counted in
+      let a = taken_most d.args.bounds ranges _ d.decide_sums-decided.result known_then (decided test f) in
+      let b = length-map (wanted (goal.at.returns d).After-group_rows-wanted test) lump in
+      let c = (laid_groups (goal.at.returns d).After-group_rows-wanted test f).counted in
       omega arith
 
 pub group_rows-wanted-requires : goal.group_rows-wanted-requires
@@ -106,34 +101,33 @@ group_rows-wanted-requires c = let few : c.args.n ≤ most_elements = c.requires
     (c.requires.0.stand, few, c.requires.0.short, c.requires.1, few, few, c.requires.0.roomy, omega arith, c.requires.3)
 
 pub decide_sums-decided-requires : goal.decide_sums-decided-requires
-decide_sums-decided-requires c = let s = start (goal.at.decide_sums-decided-requires c).After-group_rows-wanted in
-    let a = s.args in
-    let test = s.pre.3.0 in
+decide_sums-decided-requires c = let a = c.args in
+    let test = c.requires.3.0 in
     let l = some_laid (goal.at.decide_sums-decided-requires c).After-group_rows-wanted in
-    let e = stand_for (goal.at.decide_sums-decided-requires c).After-group_rows-wanted test s.pre.3.1 in
-    let few : a.n ≤ most_elements = s.pre.0.few in (
+    let e = stand_for (goal.at.decide_sums-decided-requires c).After-group_rows-wanted test c.requires.3.1 in
+    let few : a.n ≤ most_elements = c.requires.0.few in (
       record {
-        stand = s.pre.0.stand;
+        stand = c.requires.0.stand;
         few = few;
-        sums_long = let long = c.group_rows-wanted.kept in omega arith;
+        sums_long = let long = c.group_rows-wanted.auto in omega arith;
         long = l.long;
         wanted_few = groups_few (goal.at.decide_sums-decided-requires c).After-group_rows-wanted;
         inside = l.inside;
         apart = l.apart;
-        short = same_lengths (standing (goal.at.decide_sums-decided-requires c).After-group_rows-wanted) (map lump (wanted (goal.at.decide_sums-decided-requires c).After-group_rows-wanted test)) e (λ (n : ℕ). n ≤ 2 ^ 32) (chosen_short test a.elements.now a.ids.now a.n s.pre.0.short l.few);
-        least = same_lengths (standing (goal.at.decide_sums-decided-requires c).After-group_rows-wanted) (map lump (wanted (goal.at.decide_sums-decided-requires c).After-group_rows-wanted test)) e (λ (n : ℕ). 46 ≤ n) (least_lumps 46 (wanted (goal.at.decide_sums-decided-requires c).After-group_rows-wanted test) (chosen_each (λ (x : Element). 46 ≤ x.length) test a.elements.now a.ids.now a.n s.pre.0.least));
-        carry = s.pre.0.carry;
+        short = same_lengths (standing (goal.at.decide_sums-decided-requires c).After-group_rows-wanted) (map lump (wanted (goal.at.decide_sums-decided-requires c).After-group_rows-wanted test)) e (λ (n : ℕ). n ≤ 2 ^ 32) (chosen_short test a.elements.now a.ids.now a.n c.requires.0.short l.few);
+        least = same_lengths (standing (goal.at.decide_sums-decided-requires c).After-group_rows-wanted) (map lump (wanted (goal.at.decide_sums-decided-requires c).After-group_rows-wanted test)) e (λ (n : ℕ). 46 ≤ n) (least_lumps 46 (wanted (goal.at.decide_sums-decided-requires c).After-group_rows-wanted test) (chosen_each (λ (x : Element). 46 ≤ x.length) test a.elements.now a.ids.now a.n c.requires.0.least));
+        carry = c.requires.0.carry;
       },
-      s.pre.2,
+      c.requires.2,
     )
 
 pub offset_bounds-ends-sent : goal.offset_bounds-ends-sent
-offset_bounds-ends-sent c = let s = begun (goal.at.offset_bounds-ends-sent c).After-decide_sums-decided in let t = taken_few (goal.at.offset_bounds-ends-sent c).After-decide_sums-decided s.pre.3.0 s.pre.3.1 in let f : (gathered (goal.at.offset_bounds-ends-sent c).After-decide_sums-decided).group-rows.result ≤ most_elements = groups_few (gathered (goal.at.offset_bounds-ends-sent c).After-decide_sums-decided) in rw c.taken_in-sent.ensures (omega arith)
+offset_bounds-ends-sent c = let t = taken_few c c.requires.3.0 c.requires.3.1 in let f : c.group_rows-wanted.result ≤ most_elements = groups_few (goal.at.offset_bounds-ends-sent c).After-group_rows-wanted in rw c.taken_in-sent.ensures (omega arith)
 
 pub bounds-ends-sent : goal.bounds-ends-sent
-bounds-ends-sent c = let s = begun (goal.at.bounds-ends-sent c).After-decide_sums-decided in let t = taken_few (goal.at.bounds-ends-sent c).After-decide_sums-decided s.pre.3.0 s.pre.3.1 in let f : (gathered (goal.at.bounds-ends-sent c).After-decide_sums-decided).group-rows.result ≤ most_elements = groups_few (gathered (goal.at.bounds-ends-sent c).After-decide_sums-decided) in rw c.taken_in-sent.ensures (omega arith)
+bounds-ends-sent c = let t = taken_few c c.requires.3.0 c.requires.3.1 in let f : c.group_rows-wanted.result ≤ most_elements = groups_few (goal.at.bounds-ends-sent c).After-group_rows-wanted in rw c.taken_in-sent.ensures (omega arith)
 
 pub returns : goal.returns
 returns c = λ test f.
-    let l = laid_groups (gathered (goal.at.returns c).After-decide_sums-decided) test f in
-    (decided (goal.at.returns c).After-decide_sums-decided test f, sends_rows l c.decide_sums-decided.result _ (rw c.taken_in-sent.ensures (l.ends_are (taken_in c.decide_sums-decided.result) (taken_few (goal.at.returns c).After-decide_sums-decided test f))))
+    let l = laid_groups (goal.at.returns c).After-group_rows-wanted test f in
+    (decided c test f, sends_rows l c.decide_sums-decided.result _ (rw c.taken_in-sent.ensures (l.ends_are (taken_in c.decide_sums-decided.result) (taken_few c test f))))

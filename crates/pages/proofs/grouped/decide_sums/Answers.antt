@@ -27,7 +27,7 @@ decide-requires c = let s = c.requires.0 in
 
 pub returns-then-rises : goal.returns-then-rises
 returns-then-rises c = let a = c.args in
-    let known' = c.decide.last.1.1.1.1.1.1.0 in
+    let known' = c.decide.new.t in
     let l = ranges_at a.known.now 0 a.count in
     one_by_one a.bounds l (weighed_in a.rows.now a.ids.now a.sums.now sum_column a.wanted a.earliest.now) c.decide.result a.known.now known' (rw (length_rows a.known.now 0 a.count))
     (subst (λ (k : Column). Decides (weighed_in a.rows.now a.ids.now a.sums.now k a.wanted a.earliest.now) l a.bounds c.decide.result a.known.now known') c.sum_column-column.ensures c.decide.ensures)
@@ -45,7 +45,7 @@ decide_queued-requires c = let s = c.requires.0 in
       record {
         stand = s.stand;
         few = s.few;
-        flagged = let long = c.mark_rows.kept.1.1.0 in let few : a.n ≤ most_elements = s.few in omega arith;
+        flagged = let long = c.mark_rows.auto.flags in let few : a.n ≤ most_elements = s.few in omega arith;
         column = sums_column a.rows.now a.ids.now a.sums.now s;
         queued = sums_weigh a.rows.now a.ids.now a.sums.now s;
         wanted_few = s.wanted_few;
@@ -59,5 +59,5 @@ decide_queued-requires c = let s = c.requires.0 in
 
 pub returns : goal.returns
 returns c = let a = c.args in
-    let known' = c.decide_queued.last.1.1.1.1.1.1.1.1.0 in
+    let known' = c.decide_queued.new.known in
     subst (λ (k : Column). DecidesPage (weighed_in a.rows.now a.ids.now a.sums.now k a.wanted a.earliest.now) (ranges_at a.known.now 0 a.count) a.bounds c.decide_queued.result known') c.sum_column-column.ensures c.decide_queued.ensures

@@ -13,6 +13,7 @@ use Rattle.request.specs.Choice.{set_flags}
 use Rattle.request.proofs.Setting.{Setting, setting_start, setting_matched, setting_passed, setting_end}
 use Rattle.pages.specs.Choice.{is_known}
 use Rattle.pages.proofs.wanted.clear_known.Goals as goal
+use Rattle.pages.proofs.wanted.clear_known.Goals.{then-knows_element, else-knows_element}
 
 pub loop-i-init : goal.loop-i-init
 loop-i-init c = (refl, setting_start _ _ _ _ _ _ (omega arith))
@@ -23,10 +24,10 @@ element_in_row-requires c = rows_up_to c.requires.0 _ (omega arith)
 pub loop-i-preserved : goal.loop-i-preserved
 loop-i-preserved c = let h = c.loop-i-test.true in
     let e = rw c.element_in_row.ensures at (sym c.knows_element.ensures) in
-    ⊎_elim
-    (λ w. (ap length w.1 ∙ length-set c.loop-i.flags c.loop-i.i 0 ∙ c.loop-i.invariant.0, rw w.1 (setting_matched c.loop-i.invariant.1 h (e ∙ w.0.taken))))
-    (λ w. (ap length w.1 ∙ c.loop-i.invariant.0, rw w.1 (setting_passed c.loop-i.invariant.1 h (e ∙ w.0.left))))
-    c.if-knows_element.branch
+    elim c.if-knows_element.branch [ then-knows_element w ↦
+    (ap length w.flags-is ∙ length-set c.loop-i.flags c.loop-i.i 0 ∙ c.loop-i.invariant.0, rw w.flags-is (setting_matched c.loop-i.invariant.1 h (e ∙ w.if-knows_element.true)))
+    | else-knows_element w ↦
+    (ap length w.flags-is ∙ c.loop-i.invariant.0, rw w.flags-is (setting_passed c.loop-i.invariant.1 h (e ∙ w.if-knows_element.false))) ]
 
 pub shape_of-flags : goal.shape_of-flags
 shape_of-flags c = c.loop-i.invariant.0

@@ -13,10 +13,10 @@ use Rattle.pages.proofs.whole.flagged_rows.Goals.{After-weighed_row-x}
 
 -- a row whose flag is not 0 is not long
 light_here : (y : After-weighed_row-x)
-    → (weighed c.args.rows.now c.args.ids.now c.args.lengths.now c.args.c c.loop-i.i).length ≤ 2 ^ 32
+    → (weighed y.args.rows.now y.args.ids.now y.args.lengths.now y.args.c y.loop-i.i).length ≤ 2 ^ 32
 light_here y =
-    let flag = c.if-flags-i-eq0.false in
-    c.requires.5 c.loop-i.i c.loop-i-test.true (omega (arith, flag))
+    let flag = y.if-flags-i-eq0.false in
+    y.requires.5 y.loop-i.i y.loop-i-test.true (omega (arith, flag))
 
 -- ---- the answers
 pub loop-i-init : goal.loop-i-init

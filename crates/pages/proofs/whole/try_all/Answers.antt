@@ -13,8 +13,8 @@ use borrow.Author.Rules.{rules}
 use Rattle.pages.proofs.whole.try_all.Goals as goal
 use Rattle.pages.proofs.whole.try_all.Goals.{After-decide-first}
 
-tried_length : (d : After-decide-first) → length (weighed_in c.args.rows.now c.args.ids.now c.args.lengths.now c.args.c c.args.count c.args.tried.now) ≡ c.args.count
-tried_length d = length_weighed_lem c.requires.0.first.queued
+tried_length : (d : After-decide-first) → length (weighed_in d.args.rows.now d.args.ids.now d.args.lengths.now d.args.c d.args.count d.args.tried.now) ≡ d.args.count
+tried_length d = length_weighed_lem d.requires.0.first.queued
 
 pub returns-then-is_whole : goal.returns-then-is_whole
 unfolding ranges_at Normal
@@ -23,16 +23,16 @@ returns-then-is_whole c = let a = c.args in
     let n = tried_length (goal.at.returns-then-is_whole c).After-decide-first in
     let some = p.some in
     let few = p.few in
-    tried a.b [] tt (weighed_in a.rows.now a.ids.now a.lengths.now a.c a.count a.tried.now) (weighed_in a.rows.now a.ids.now a.lengths.now a.c a.wanted a.queue.now) p.same p.least (omega arith) (omega arith) c.decide-first.result a.t.now c.decide-first.last.1.1.1.1.1.1.0 refl c.decide-first.ensures (sym c.is_whole.ensures ∙ c.if-is_whole.true)
+    tried a.b [] tt (weighed_in a.rows.now a.ids.now a.lengths.now a.c a.count a.tried.now) (weighed_in a.rows.now a.ids.now a.lengths.now a.c a.wanted a.queue.now) p.same p.least (omega arith) (omega arith) c.decide-first.result a.t.now c.decide-first.new.t refl c.decide-first.ensures (sym c.is_whole.ensures ∙ c.if-is_whole.true)
 
 pub decide-requires : goal.decide-requires
 unfolding ranges_at Normal
 decide-requires c = let p = c.requires.0.then in
-    let long = c.decide-first.kept.1.1.1.1.1.1.0 in
+    let long = c.decide-first.auto.t in
     let room = p.carry.room in
     (record { queued = p.queued; few = p.few; short = p.short; carry = record { said = p.carry.said; most_carried_lem = p.carry.most_carried_lem; room = omega arith; ranges_stand = (omega arith, tt) } }, c.requires.1)
 
 pub returns : goal.returns
 unfolding ranges_at
 returns c = let a = c.args in
-    one_by_one a.b [] (weighed_in a.rows.now a.ids.now a.lengths.now a.c a.wanted a.queue.now) c.decide.result c.decide-first.last.1.1.1.1.1.1.0 c.decide.last.1.1.1.1.1.1.0 refl c.decide.ensures
+    one_by_one a.b [] (weighed_in a.rows.now a.ids.now a.lengths.now a.c a.wanted a.queue.now) c.decide.result c.decide-first.new.t c.decide.new.t refl c.decide.ensures

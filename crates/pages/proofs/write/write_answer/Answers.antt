@@ -48,8 +48,8 @@ returns c = let a = c.args in
     let j = length_back in
     let h = answer_room _ _ _ _ _ _ _ c.requires.fits in
     rw (answer_parts a.store.now a.page.id a.page.index (queued_in a.rows.now a.ids.now a.page.count a.queue.now) a.page.partial (ranges_at a.table.now 0 a.page.ranges))
-    (lays_then 0 answer_front (w ++ (m ++ (k ++ b))) a.out.now c.lay_front-behind_front.result c.lay_front-behind_front.last.0 c.lay_back.result c.lay_back.last.0 (omega arith) c.lay_front-behind_front.ensures
-    (lays_then c.lay_front-behind_front.result w (m ++ (k ++ b)) c.lay_front-behind_front.last.0 c.lay_elements-behind_elements.result c.lay_elements-behind_elements.last.0 c.lay_back.result c.lay_back.last.0 (omega arith) c.lay_elements-behind_elements.ensures
-    (lays_then c.lay_elements-behind_elements.result m (k ++ b) c.lay_elements-behind_elements.last.0 c.lay_middle-behind_middle.result c.lay_middle-behind_middle.last.0 c.lay_back.result c.lay_back.last.0 (omega arith) c.lay_middle-behind_middle.ensures
-    (lays_then c.lay_middle-behind_middle.result k b c.lay_middle-behind_middle.last.0 c.lay_knowledge-behind_knowledge.result c.lay_knowledge-behind_knowledge.last.0 c.lay_back.result c.lay_back.last.0 (omega arith)
+    (lays_then 0 answer_front (w ++ (m ++ (k ++ b))) a.out.now c.lay_front-behind_front.result c.lay_front-behind_front.new.out c.lay_back.result c.lay_back.new.out (omega arith) c.lay_front-behind_front.ensures
+    (lays_then c.lay_front-behind_front.result w (m ++ (k ++ b)) c.lay_front-behind_front.new.out c.lay_elements-behind_elements.result c.lay_elements-behind_elements.new.out c.lay_back.result c.lay_back.new.out (omega arith) c.lay_elements-behind_elements.ensures
+    (lays_then c.lay_elements-behind_elements.result m (k ++ b) c.lay_elements-behind_elements.new.out c.lay_middle-behind_middle.result c.lay_middle-behind_middle.new.out c.lay_back.result c.lay_back.new.out (omega arith) c.lay_middle-behind_middle.ensures
+    (lays_then c.lay_middle-behind_middle.result k b c.lay_middle-behind_middle.new.out c.lay_knowledge-behind_knowledge.result c.lay_knowledge-behind_knowledge.new.out c.lay_back.result c.lay_back.new.out (omega arith)
     c.lay_knowledge-behind_knowledge.ensures c.lay_back.ensures))))
