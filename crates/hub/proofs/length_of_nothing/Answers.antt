@@ -2,7 +2,8 @@
 -- Assumes nothing.
 use Prim.Native.Nat.{ℕ}
 use native.Mathlib.Omega.{arith}
-use lib.ListN.{length-replicate}
+use lib.ListN.{replicate, length-replicate}
+use mathlib.Core.List.{[]}
 use Rattle.store.specs.Knowledge.{said_numbers}
 use Rattle.hub.proofs.Reports.{nothing_ready, nothing_refused, some_store, refusal_told, page_told}
 use borrow.Author.Rules.{rules}
@@ -14,10 +15,10 @@ decide_request-requires c = (some_store, length-replicate {A = ℕ} said_numbers
 pub returns-in-Refused : goal.returns-in-Refused
 returns-in-Refused c = λ s e.
     let f = c.refuse.ensures in
-    rw f.0 (refusal_told s _ _ _ _ _ (nothing_refused s _ _ _ _ _ _ _ e c.decide_request.ensures _ c.in-Refused.is) f.1)
+    rw f.0 (refusal_told s _ _ _ _ _ (nothing_refused s _ _ _ (replicate said_numbers 0) _ [] _ e c.decide_request.ensures _ c.in-Refused.is) f.1)
 
 pub returns-in-Page : goal.returns-in-Page
 returns-in-Page c = λ s e.
     let f = c.done.ensures in
-    let x = nothing_ready s _ _ _ _ _ _ _ e c.decide_request.ensures _ _ _ c.in-Page.is in
+    let x = nothing_ready s _ _ _ (replicate said_numbers 0) _ [] _ e c.decide_request.ensures _ _ _ c.in-Page.is in
     rw f.0 (page_told _ x.1 _ _ f.1)

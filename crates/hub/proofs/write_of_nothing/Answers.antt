@@ -3,7 +3,8 @@
 use mathlib.Core.Path.{refl, sym, ◌∙◌}
 use Prim.Native.Nat.{ℕ}
 use native.Mathlib.Omega.{arith}
-use lib.ListN.{length-replicate}
+use lib.ListN.{replicate, length-replicate}
+use mathlib.Core.List.{[]}
 use Rattle.store.specs.Knowledge.{said_numbers}
 use Rattle.store.proofs.Beginning.{nothing_held}
 use Rattle.hub.proofs.Reports.{nothing_ready, nothing_refused, some_store, refusal_written, page_written}
@@ -17,13 +18,13 @@ pub slice_bounds-write_answer-end-in-Page-3 : goal.slice_bounds-write_answer-end
 slice_bounds-write_answer-end-in-Page-3 c = sym ((c.decide_request.ensures c.args.store.now (nothing_held _ c.requires)).3 ∙ length-replicate {A = ℕ} said_numbers 0)
 
 pub write_answer-requires : goal.write_answer-requires
-write_answer-requires c = (nothing_ready _ _ _ _ _ _ _ _ c.requires c.decide_request.ensures _ _ _ c.in-Page.is).1.to_send
+write_answer-requires c = (nothing_ready _ _ _ _ (replicate said_numbers 0) _ [] _ c.requires c.decide_request.ensures _ _ _ c.in-Page.is).1.to_send
 
 pub returns-in-Refused : goal.returns-in-Refused
 returns-in-Refused c = let f = c.refuse.ensures in
-    rw f.0 (refusal_written _ _ c.args.out.now _ _ _ (nothing_refused _ _ _ _ _ _ _ _ c.requires c.decide_request.ensures _ c.in-Refused.is) f.1)
+    rw f.0 (refusal_written _ _ c.args.out.now _ _ _ (nothing_refused _ _ _ _ (replicate said_numbers 0) _ [] _ c.requires c.decide_request.ensures _ c.in-Refused.is) f.1)
 
 pub returns-in-Page : goal.returns-in-Page
 returns-in-Page c = let f = c.done.ensures in
-    let x = nothing_ready _ _ _ _ _ _ _ _ c.requires c.decide_request.ensures _ _ _ c.in-Page.is in
+    let x = nothing_ready _ _ _ _ (replicate said_numbers 0) _ [] _ c.requires c.decide_request.ensures _ _ _ c.in-Page.is in
     rw f.0 (page_written _ x.1 c.args.out.now _ _ _ refl c.write_answer.ensures.1 f.1)
