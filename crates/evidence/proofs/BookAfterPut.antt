@@ -8,14 +8,16 @@ use mathlib.Core.Path.{◌≡◌, refl, sym, ap, subst, ◌∙◌}
 use mathlib.Core.Bool.{Bool, true, false}
 use mathlib.Core.List.Memᴰ.{head as here}
 use mathlib.Core.List.Memᴰ.{of_map}
-use mathlib.Core.List.{List, [], ◌∷◌, map, Memᴰ as In}
+use mathlib.Core.List.{List, [], ◌∷◌, ◌++◌, map, Memᴰ as In}
 use mathlib.Core.Logic.{⊎_elim}
-use Prim.Native.Nat.{ℕ}
+use Prim.Native.Nat.{ℕ, ◌^◌, ◌<◌}
+use lib.ListN.{length, drop}
 use Rattle.laws.specs.Bytes.{AllBytes}
 use Rattle.laws.specs.Once.{seen}
 use Rattle.laws.specs.Pick.{pick}
 use Rattle.laws.proofs.Cases.{by_bool, impossible}
 use Rattle.numbers.specs.Guid.{GuidFits}
+use Rattle.hub.specs.Put.{guid_of, HubPuts}
 use Rattle.numbers.specs.declared.guid.Guid.{Guid}
 use Rattle.talk.specs.Series.{over, idle, then}
 use Rattle.store.specs.Element.{same_key}
@@ -34,7 +36,7 @@ use Rattle.evidence.specs.Puts.{is_named, is_new}
 use Rattle.evidence.specs.Talk.{elements_of, Talk}
 use Rattle.evidence.proofs.Holding.{one_element, some_member, member_some, of_store, shares, group_of, one_group, let_in_stored}
 use Rattle.evidence.proofs.InStep.{ask_page, talk_of, all_in_book}
-use Rattle.evidence.proofs.PutDemands.{PutDemandTwo, put_demand_two}
+use Rattle.evidence.proofs.PutDemands.{PutDemandTwo, put_demand_two, demand_two_hub_put}
 use Rattle.evidence.proofs.SerialsOverPuts.{new_before}
 use Rattle.evidence.proofs.Steps as steps
 use Rattle.evidence.proofs.StoreBehind as behind

@@ -54,7 +54,7 @@ use Rattle.evidence.specs.Calling.{report_number}
 use Rattle.evidence.proofs.DemandTwo.{DemandTwo}
 use Rattle.evidence.proofs.Holding.{of_store}
 use Rattle.evidence.proofs.InStep.{in_step_kept}
-use Rattle.evidence.proofs.KeepDemands.{BookDemandTwo, demand_two_keep, taken}
+use Rattle.evidence.proofs.KeepDemands.{BookDemandTwo, demand_two_keep}
 use Rattle.evidence.proofs.Keeping.{answer_stands, answer_kept, page_wanted}
 use Rattle.evidence.proofs.NoMore.{no_more}
 use Rattle.evidence.proofs.Turns.{TurnTells, turn_tells, turn_answered, next_bytes}
@@ -238,5 +238,5 @@ book_right s f bs bf bk (next {k = z} {m = m} {a = w} t c) h =
     let ask = book_ask s f bs bf z w m bk t in (
       h,
       book_right s f bs bf (next_bytes s f z.knowledge w m.knowledge bs bf bk t.exchange) c
-          (in_step_kept s bs (filters_in f) {z = standing z} {z' = standing m} (then ask over) h.0, (taken ask.1).reads),
+          (in_step_kept s bs (filters_in f) {z = standing z} {z' = standing m} (then ask over) h.0, (demand_two_keep _ _ _ ask.1).reads),
     )

@@ -53,6 +53,7 @@ type_one x l =
 -- ---- where ranks do not fall, it leads: the first member of its group is of no higher rank, and that of the first group of none higher still
 
 leads : (x : Element) → x.kind ≡ 1 → (l : List Element) → NotFalling l → In x l → IndexFirst l
+leads x k [] f m = elim m [ ]
 leads x k (y ∷ ys) f (head e) = (y, ys, refl, subst (λ (z : Element). z.kind ≡ 1) e k)
 leads x k (y ∷ ys) f (tail m) =
     let a = of_each (λ (z : Element). rank_of y ≤ rank_of z) ys f.0 x m in
@@ -67,6 +68,7 @@ group_leads x k g f m = same_first (leads x k (members g) f m)
     same_first (y, ys, e, t) = let z : g.first ≡ y = cc in subst (λ (v : Element). v.kind ≡ 1) (sym z) t
 
 first_in : (g : Group) (gs : List Group) → In g gs → In g.first (firsts gs)
+first_in g [] m = elim m [ ]
 first_in g (h ∷ gs) (head e) = head (ap (λ (y : Group). y.first) e)
 first_in g (h ∷ gs) (tail m) = tail (first_in g gs m)
 

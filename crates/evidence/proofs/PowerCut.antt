@@ -82,7 +82,7 @@ carried_and_left s b fs {know' = know'} (then {k = k} {m = m} {a = w} r t) =
 
 -- "it asks for some elements once more, at worst": with the saved knowledge exactly what the answers between carried is wanted once more,
 -- besides what is wanted with the later one
-pub asked_once_more : (s : List ℕ) → AllBytes s → (fs : List Filter) {saved later : Standing} {more : List (List ℕ)} → KeptTalk s fs saved more later
+unfoldable pub asked_once_more : (s : List ℕ) → AllBytes s → (fs : List Filter) {saved later : Standing} {more : List (List ℕ)} → KeptTalk s fs saved more later
     → (answers : List (Answer Group)) × AllReadAs s more answers × (wanted_of s fs saved.know ≡ joined_pages answers ++ wanted_of s fs later.know)
 asked_once_more s b fs t = carried_and_left s b fs (talk_of s fs t)
 

@@ -253,10 +253,12 @@ unseen_groups k (g ∷ gs) h =
 
 -- a group of a list stands in it between others
 stands_between : (g : Group) (gs : List Group) → In g gs → (before : List Group) × (after : List Group) × (gs ≡ before ++ (g ∷ after))
+stands_between g [] m = elim m [ ]
 stands_between g (h ∷ gs) (head e) = ([], gs, ap (λ (y : Group). y ∷ gs) (sym e))
 stands_between g (h ∷ gs) (tail m) = let z = stands_between g gs m in (h ∷ z.0, z.1, ap (λ (l : List Group). h ∷ l) z.2)
 
 in_first : {g : Group} (page rest : List Group) → In g page → In g (page ++ rest)
+in_first {g = g} [] rest m = elim m [ ]
 in_first (h ∷ page) rest (head e) = head e
 in_first (h ∷ page) rest (tail m) = tail (in_first page rest m)
 
