@@ -3,9 +3,9 @@
 -- And a buffer as long as book and answer together is always long enough.
 -- Assumes nothing.
 use mathlib.Core.Path.{◌≡◌, refl, sym, ap, subst, ◌∙◌}
-use mathlib.Core.Bool.{Bool, true, false}
+use mathlib.Core.Bool.{true, false}
 use mathlib.Core.List.Memᴰ.{of_map}
-use mathlib.Core.List.{List, [], ◌∷◌, ◌++◌, map, Memᴰ as In}
+use mathlib.Core.List.{List, [], map, Memᴰ as In}
 use Prim.Native.Nat.{ℕ, ◌+◌, ◌≤◌}
 use native.Mathlib.Omega.{arith}
 use lib.ListN.{length}
@@ -18,7 +18,7 @@ use Rattle.store.specs.declared.element.Element.{Element}
 use Rattle.store.proofs.Chains.{store_read, ids_once, chain_ids_once}
 use Rattle.enter.specs.Entering.{Kept, kept_id, enter}
 use Rattle.enter.specs.Package.{kept_in, joined, packed}
-use Rattle.enter.proofs.EnteringLaws.{named, unnamed_stays, enter_twice}
+use Rattle.enter.proofs.EnteringLaws.{unnamed_stays, enter_twice}
 use Rattle.enter.proofs.KeptIn.{kept_in_parts, kept_in_ids}
 use Rattle.enter.proofs.PackageLeast.{end_inside, chain_joined, store_joined, entered_joined, length_packed}
 use Rattle.enter.proofs.PackageReads.{Readable, Piece, enters, ReadsAs, each_readable, entered_reads}

@@ -10,7 +10,7 @@ use lib.Dec.{ltb}
 use Rattle.laws.proofs.Cases.{by_bool}
 use Rattle.talk.specs.Each.{Each}
 use Rattle.store.specs.Store.{store_walk}
-use Rattle.store.specs.Tables.{id_width, most_elements, id_keys, id_in_row, element_in_row, elements_in_rows, elements_in}
+use Rattle.store.specs.Tables.{id_width, most_elements, id_keys, id_in_row, element_in_row, elements_in_rows}
 use Rattle.store.specs.Written.{framed}
 use Rattle.store.specs.declared.element.Element.{Element}
 use Rattle.store.proofs.Elements.{rows_up_to}

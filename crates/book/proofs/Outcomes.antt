@@ -20,7 +20,7 @@ use Rattle.request.specs.Message.{in_request}
 use Rattle.enter.specs.Entering.{Kept}
 use Rattle.enter.specs.Package.{packed}
 use Rattle.client.specs.Read.{answer_end}
-use Rattle.book.specs.Keep.{Outcome, refused, kept, kept_elements, sized, counted, on_answer, on_book, keep_outcome, keep_told, book_after, GivesBook}
+use Rattle.book.specs.Keep.{refused, kept, kept_elements, sized, counted, on_answer, on_book, keep_outcome, keep_told, book_after, GivesBook}
 use Rattle.book.specs.declared.keep.Keeping.TheVariants as keeping
 
 -- what is refused leaves the buffer

@@ -3,7 +3,7 @@
 -- Assumes nothing.
 use mathlib.Core.Path.{◌≡◌, refl, sym, ap, ◌∙◌}
 use mathlib.Core.List.{List}
-use Prim.Native.Nat.{ℕ, ◌≤◌, ◌<◌}
+use Prim.Native.Nat.{ℕ}
 use lib.ListN.{length}
 use Rattle.laws.proofs.Cases.{by_lt, impossible}
 use Rattle.numbers.specs.Refusals.{fault_at, too_short, longest_input}
@@ -13,7 +13,6 @@ use Rattle.objects.specs.declared.reading.Reading.TheVariants as reading
 use Rattle.store.specs.Store.{store_walk, Stands}
 use Rattle.store.specs.Tables.{most_elements}
 use Rattle.request.specs.Message.{in_request}
-use Rattle.enter.specs.Package.{packed}
 use Rattle.client.specs.Read.{answer_end}
 use Rattle.book.specs.Refusing.{new_book, Enters, WhyKeep, book, answer, too_many, too_long, buffer_short}
 use Rattle.book.specs.Keep.{Outcome, refused, kept, kept_elements, counted, on_answer, on_book, keep_outcome}

@@ -2,7 +2,7 @@
 -- long the elements are that enter. So a store of them that is written anew is not longer than what they came in.
 -- Assumes nothing.
 use mathlib.Core.Path.{◌≡◌, refl, sym, ap, subst, ◌∙◌}
-use mathlib.Core.Bool.{Bool, true, false}
+use mathlib.Core.Bool.{Bool, true}
 use mathlib.Core.List.Memᴰ.{append_cases as in_either}
 use mathlib.Core.List.Memᴰ.{append_left as in_front}
 use mathlib.Core.List.Memᴰ.{append_right as in_rest}

@@ -3,15 +3,14 @@
 -- `demand_one_hub_keep`, `demand_two_keep` and `kept_twice`. What stands behind a `=` can be skipped.
 -- Assumes nothing.
 use mathlib.Core.Path.{◌≡◌, refl, sym, ap, subst, ◌∙◌}
-use mathlib.Core.Bool.{Bool, true, false}
-use mathlib.Core.List.{List, [], ◌∷◌, ◌++◌, map, Memᴰ as In}
-use mathlib.Core.Logic.{◌⊎◌, inl, inr, ⊎_elim}
-use Prim.Native.Nat.{ℕ, ◌+◌, ◌^◌, ◌≤◌, ◌<◌}
+use mathlib.Core.Bool.{false}
+use mathlib.Core.List.{List, [], ◌∷◌, Memᴰ as In}
+use mathlib.Core.Logic.{⊎_elim}
+use Prim.Native.Nat.{ℕ, ◌≤◌}
 use native.Mathlib.Omega.{arith}
 use lib.ListN.{length, take, drop}
 use lib.Seq.{take_at}
 use Rattle.laws.specs.Once.{seen}
-use Rattle.laws.specs.Placed.{placed}
 use Rattle.laws.proofs.Cases.{impossible}
 use Rattle.numbers.specs.Refusals.{longest_input}
 use Rattle.numbers.specs.declared.refusal.Refusal.{Refusal}
@@ -20,16 +19,14 @@ use Rattle.objects.proofs.InputFaults.{input_told}
 use Rattle.store.specs.Element.{same_key, ids_in}
 use Rattle.store.specs.Store.{store_walk, Stands}
 use Rattle.store.proofs.Places.{store_fault}
-use Rattle.request.specs.Message.{in_request}
 use Rattle.enter.specs.Entering.{Kept, enter}
 use Rattle.enter.specs.Package.{packed}
 use Rattle.client.specs.Read.{longest_answer, package_in, answer_end}
 use Rattle.client.proofs.AnswerWithin.{answer_within}
-use Rattle.report.specs.Report.{three_numbers}
-use Rattle.book.specs.Keep.{Outcome, refused, kept, in_book, in_answer, keep_outcome, tell_keeping, keep_told, book_after, GivesBook, KeepsAnswer}
-use Rattle.book.specs.Refusing.{new_book, Enters, WhyKeep}
+use Rattle.book.specs.Keep.{Outcome, refused, kept, in_book, in_answer, keep_outcome, keep_told, book_after, GivesBook}
+use Rattle.book.specs.Refusing.{new_book, WhyKeep}
 use Rattle.book.specs.declared.keep.Keeping.TheVariants as keeping
-use Rattle.book.proofs.AfterKeep.{AfterKeep, after_keep, unnamed_kept, kept_again}
+use Rattle.book.proofs.AfterKeep.{after_keep, unnamed_kept, kept_again}
 use Rattle.book.proofs.Refusals.{nothing_refused, why_refused, why_keep}
 use Rattle.hub.specs.Keep.{keep_number, keep_report, HubGivesBook, HubKeeps}
 use Rattle.evidence.specs.Book.{Keeps, by_keep, by_hub_keep}

@@ -1,7 +1,6 @@
 -- The limits that document 01 names by their numbers: whoever changes one of the names changes this page.
 -- Assumes nothing.
 use mathlib.Core.Path.{◌≡◌, refl}
-use Prim.Native.Nat.{ℕ}
 use Rattle.store.specs.Knowledge.{most_said}
 use Rattle.store.specs.Tables.{most_elements}
 use Rattle.order.specs.Order.{ranked_numbers}

@@ -4,18 +4,15 @@
 -- Lost and BookAfterPut.
 -- Assumes nothing.
 use Rattle.std.specs.Prelude.{◌≡◌, Bool, true, false, ◌↔◌, ℕ, ◌≤◌, length, take}
-use mathlib.Core.List.{List, map, Memᴰ as In}
+use mathlib.Core.List.{List, Memᴰ as In}
 use Rattle.numbers.specs.declared.guid.Guid.{Guid}
 use Rattle.talk.specs.Series.{Trace, over, idle, then}
 use Rattle.store.specs.Held.{stored_bytes}
-use Rattle.store.specs.Store.{store_walk, Stands}
 use Rattle.store.specs.declared.element.Element.{Element}
 use Rattle.store.specs.declared.element.Key.{Key}
 use Rattle.order.specs.Groups.{Group, members}
 use Rattle.request.specs.Meaning.{Filter}
-use Rattle.enter.specs.Entering.{enter}
-use Rattle.enter.specs.Package.{kept_in}
-use Rattle.client.specs.Read.{package_in, answer_end, answer_in}
+use Rattle.client.specs.Read.{answer_in}
 use Rattle.client.specs.declared.answer.Received.{Received}
 use Rattle.client.specs.declared.answer.ReadAnswer.TheVariants as answer
 use Rattle.book.specs.Keep.{KeepsAnswer}

@@ -2,6 +2,7 @@
 // call that it makes but the report; the answering calls have the working tables besides, whose rows nobody is told, and for a store
 // without elements none of these but for the ranges: to clear them is most of what such a call costs.
 #![tactic(auto)]
+
 ghost use Rattle.std.specs.Prelude.{◌≡◌, ◌∷◌, [], length};
 ghost use Rattle.laws.specs.Pick.{pick};
 ghost use Rattle.store.specs.Accessor.{tell_found};

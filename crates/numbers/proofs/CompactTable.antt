@@ -12,7 +12,7 @@ use native.Mathlib.Omega.{arith}
 use lib.ListN.{length, get_or, take, length-take}
 use lib.Arith.{digits_mod}
 use lib.Count.{count_trailing_zeros}
-use lib.Dec.{lit<, lit≤, ltb}
+use lib.Dec.{lit<, lit≤}
 use lib.Pow.{pow-lt, split, le_ones, lt_of_le_ones}
 use borrow.Author.Tests.{ne_eqb, lt-ltb, le-ltb}
 use Rattle.laws.specs.Bytes.{AllBytes, le, bytes}

@@ -17,7 +17,6 @@ use Rattle.numbers.specs.ExtendedGuid.{extended_guid_bytes, ExtendedGuidFits}
 use Rattle.numbers.specs.Serial.{serial_bytes, SerialFits}
 use Rattle.numbers.specs.declared.guid.Guid.{Guid}
 use Rattle.numbers.specs.declared.extended_guid.ExtendedGuid.{ExtendedGuid}
-use Rattle.numbers.specs.declared.extended_guid.ExtendedGuid.TheVariants as id
 use Rattle.numbers.specs.declared.serial.Serial.{Serial}
 use Rattle.numbers.proofs.RoundTrip.{written_unpadded}
 use Rattle.numbers.proofs.Guids.{length_guid, guid_read_written}

@@ -1,17 +1,16 @@
 -- What was read of a store and of a put, and what was planned for them, is what the definition of the new store speaks of.
 -- Assumes nothing.
 use mathlib.Core.Path.{◌≡◌, sym, ap, ◌∙◌}
-use mathlib.Core.List.{List, [], ◌∷◌, ◌++◌, map}
-use Prim.Native.Nat.{ℕ, zero, suc, ◌+◌, ◌-◌, ◌≤◌, ◌<◌}
+use mathlib.Core.List.{List, [], ◌++◌, map}
+use Prim.Native.Nat.{ℕ, ◌+◌, ◌-◌, ◌≤◌, ◌<◌}
 use native.Mathlib.Omega.{arith}
-use lib.ListN.{length, take, get_or, length-append}
+use lib.ListN.{length, take, length-append}
 use lib.Seq.{take_at}
 use Rattle.numbers.specs.declared.guid.Guid.{Guid}
 use Rattle.talk.specs.Each.{Each}
 use Rattle.store.specs.Held.{StoreHeld}
 use Rattle.store.specs.Store.{store_walk}
 use Rattle.store.specs.Tables.{id_width, most_elements, id_keys, elements_in}
-use Rattle.store.specs.declared.element.Key.{Key}
 use Rattle.store.proofs.Elements.{rows_up_to, length_elements}
 use Rattle.store.proofs.StoreHeld.{fits_row, short_row}
 use Rattle.store.specs.Written.{framed}

@@ -1,8 +1,7 @@
 -- How long the new store and the answer are, and the parts in which they are laid.
 -- Assumes nothing.
 use mathlib.Core.Path.{◌≡◌, refl, ap}
-use mathlib.Core.Bool.{true}
-use mathlib.Core.List.{List, [], ◌∷◌, ◌++◌}
+use mathlib.Core.List.{List, ◌++◌}
 use Prim.Native.Nat.{ℕ, zero, suc, ◌+◌, ◌<◌}
 use native.Mathlib.Omega.{arith}
 use lib.ListN.{length, take, get_or, length-append}
@@ -12,12 +11,11 @@ use Rattle.laws.proofs.Parts.{part_length}
 use Rattle.laws.specs.Bytes.{bytes}
 use Rattle.numbers.specs.Compact.{compact_bytes, size_of, form_of, form_from}
 use Rattle.numbers.specs.declared.guid.Guid.{Guid}
-use Rattle.objects.specs.Header.{start_bytes, end_bytes}
+use Rattle.objects.specs.Header.{end_bytes}
 use Rattle.talk.specs.declared.range.Range.{Range}
 use Rattle.store.specs.Held.{stored_bytes}
 use Rattle.store.specs.KnowledgeWritten.{knowledge_bytes}
 use Rattle.store.specs.Tables.{most_elements, element_in_row}
-use Rattle.store.specs.Written.{package_front, framed}
 use Rattle.request.specs.Response.{answer_front, sub_response_bytes, ends_bytes}
 use Rattle.request.proofs.ResponseLengths.{length_front, length_back, length_sub}
 use Rattle.puts.specs.Plan.{sides, handed_row, source_bytes, source_length, planned_bytes, planned_length, SourceFits, Planning}

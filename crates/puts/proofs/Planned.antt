@@ -1,6 +1,6 @@
 -- What was planned by the ids is what the definition says: the numbers of the plan stand for the elements of the new store.
 -- Assumes nothing.
-use mathlib.Core.Path.{◌≡◌, refl, sym, ap, ◌∙◌}
+use mathlib.Core.Path.{◌≡◌, refl, ap, ◌∙◌}
 use mathlib.Core.List.{List, [], ◌∷◌, map}
 use Prim.Native.Nat.{ℕ, zero, suc, ◌+◌, ◌≤◌}
 use native.Mathlib.Omega.{arith}
@@ -9,7 +9,7 @@ use lib.Dec.{ltb}
 use Rattle.laws.proofs.Cases.{by_bool}
 use Rattle.talk.specs.declared.range.Range.{Range}
 use Rattle.store.specs.Element.{key_of}
-use Rattle.store.specs.Tables.{most_elements, key_at, id_keys, id_in_row, element_in_row, elements_in_rows, elements_in}
+use Rattle.store.specs.Tables.{most_elements, id_keys, id_in_row, element_in_row, elements_in_rows, elements_in}
 use Rattle.enter.specs.Entering.{Kept, enter}
 use Rattle.enter.specs.Package.{kept_in, joined}
 use Rattle.enter.specs.Plan.{sources}

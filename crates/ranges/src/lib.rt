@@ -1,6 +1,7 @@
 // The working table of ranges, in normal form: four numbers to a row (the GUID's sixteen bytes as two numbers, the first
 // byte highest; from; to). One range is added, one pair of GUID and number is looked up.
 #![tactic(auto)]
+
 ghost use Rattle.std.specs.Prelude.{◌≡◌, ◌++◌, ◌∷◌, ◌+◌, ◌-◌, ◌*◌, ◌≤◌, min, max, length, take, drop};
 ghost use Rattle.talk.specs.Ranges.{is_before, joined, insert, within};
 ghost use Rattle.ranges.specs.RangeTable.{range_width, range_at, ranges_at, RangesStand, range_numbers, numbers_of, added_to, laid_in, FirstNotBefore, Gathers};

@@ -1,5 +1,6 @@
 // The report of an exported call: the numbers that it takes, a refusal's own, and what is told on success.
 #![tactic(auto)]
+
 ghost use Rattle.std.specs.Prelude.{◌≡◌};
 ghost use Rattle.laws.specs.Placed.{placed};
 ghost use Rattle.report.specs.Report.{numbers_bytes, three_numbers, refusal_report};

@@ -17,7 +17,7 @@ use Rattle.objects.specs.declared.reading.Reading.{Reading}
 use Rattle.objects.specs.declared.reading.Reading.TheVariants.{At, Refused}
 use Rattle.talk.specs.Each.{Each}
 use Rattle.store.specs.Store.{Walk, walked, walk_from, store_walk, store_start, nothing_of, beginning_of}
-use Rattle.store.specs.Tables.{elements_in_rows, flat, rows_of}
+use Rattle.store.specs.Tables.{elements_in_rows, flat}
 use Rattle.store.specs.Held.{StoreHeld}
 use Rattle.store.specs.declared.package.Beginning.TheVariants as beginning
 

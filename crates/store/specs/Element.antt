@@ -4,7 +4,7 @@
 -- says how strictly it is read (`Strictness`): whether padding is taken, in its headers and in its type; how many levels are left inside it;
 -- and whether its serial number is judged.
 -- Assumes nothing.
-use Rattle.std.specs.Prelude.{ℕ, ◌-◌, Bool, false, List, [], ◌∷◌, map, length, eqb}
+use Rattle.std.specs.Prelude.{ℕ, ◌-◌, Bool, false, List, [], ◌∷◌, map, eqb}
 use Rattle.laws.specs.Pick.{pick}
 use Rattle.laws.specs.Once.{seen}
 use Rattle.numbers.specs.Refusals.{Told, gives, refuses, fault_at}

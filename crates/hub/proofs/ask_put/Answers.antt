@@ -1,7 +1,6 @@
 -- `ask_put` meets its contract: no storage index, a number that is too wide, or one that fits.
 -- Assumes nothing.
 use Rattle.hub.proofs.PutReports.{asked_null, asked_named, asked_wide}
-use borrow.Author.Rules.{rules}
 use Rattle.hub.proofs.ask_put.Goals as goal
 
 pub returns-then-named-eq0 : goal.returns-then-named-eq0

@@ -2,7 +2,6 @@
 -- Assumes nothing.
 use borrow.Author.Tests.{eq-eqb, ne_eqb}
 use Rattle.hub.specs.Bench.{element_found}
-use borrow.Author.Rules.{rules}
 use Rattle.hub.proofs.find_in.Goals as goal
 
 pub returns-then-kind-eq0 : goal.returns-then-kind-eq0

@@ -1,7 +1,6 @@
 -- `hub_ask` meets its contract.
 -- Assumes nothing.
 use Rattle.hub.proofs.BenchReports.{hub_wrote, hub_wrote_not}
-use borrow.Author.Rules.{rules}
 use Rattle.hub.proofs.hub_ask.Goals as goal
 
 pub returns-in-Refused : goal.returns-in-Refused

@@ -6,7 +6,6 @@ use Prim.Native.Nat.{ℕ}
 use Rattle.laws.specs.Placed.{placed}
 use Rattle.store.specs.Accessor.{tell_found}
 use Rattle.hub.proofs.BenchReports.{found_told, found_refused}
-use borrow.Author.Rules.{rules}
 use Rattle.hub.proofs.hub_element.Goals as goal
 
 pub returns-in-Refused : goal.returns-in-Refused

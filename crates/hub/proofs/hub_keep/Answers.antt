@@ -1,7 +1,6 @@
 -- `hub_keep` meets its contract.
 -- Assumes nothing.
 use Rattle.hub.proofs.KeepReports.{book_kept, book_refused}
-use borrow.Author.Rules.{rules}
 use Rattle.hub.proofs.hub_keep.Goals as goal
 
 pub returns-in-Refused : goal.returns-in-Refused

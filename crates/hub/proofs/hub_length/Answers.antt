@@ -2,7 +2,6 @@
 -- Assumes nothing.
 use mathlib.Core.Path.{sym, ◌∙◌}
 use Rattle.hub.proofs.Reports.{begin_refused, refusal_told}
-use borrow.Author.Rules.{rules}
 use Rattle.hub.proofs.hub_length.Goals as goal
 
 pub returns-in-Refused : goal.returns-in-Refused

@@ -1,8 +1,6 @@
 -- `hub_put` meets its contract.
 -- Assumes nothing.
-use mathlib.Core.Path.{◌≡◌}
 use Rattle.hub.proofs.EnteredReports.{put_entered, put_refused}
-use borrow.Author.Rules.{rules}
 use Rattle.hub.proofs.hub_put.Goals as goal
 
 pub returns-in-Refused : goal.returns-in-Refused

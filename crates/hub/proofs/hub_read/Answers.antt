@@ -3,7 +3,6 @@
 use mathlib.Core.Path.{sym, ap, ◌∙◌}
 use Rattle.client.specs.Read.{tell_read_answer}
 use Rattle.hub.proofs.BenchReports.{read_told, read_refused}
-use borrow.Author.Rules.{rules}
 use Rattle.hub.proofs.hub_read.Goals as goal
 
 pub returns-in-Refused : goal.returns-in-Refused

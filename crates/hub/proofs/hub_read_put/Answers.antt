@@ -3,7 +3,6 @@
 use mathlib.Core.Path.{sym, ap, ◌∙◌}
 use Rattle.client.specs.ReadPut.{tell_read_put_answer}
 use Rattle.hub.proofs.PutReports.{put_told, put_refused}
-use borrow.Author.Rules.{rules}
 use Rattle.hub.proofs.hub_read_put.Goals as goal
 
 pub returns-in-Refused : goal.returns-in-Refused

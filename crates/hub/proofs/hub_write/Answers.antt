@@ -2,7 +2,6 @@
 -- Assumes nothing.
 use mathlib.Core.Path.{sym, ◌∙◌}
 use Rattle.hub.proofs.Reports.{begin_refused, refusal_written}
-use borrow.Author.Rules.{rules}
 use Rattle.hub.proofs.hub_write.Goals as goal
 
 pub write_of_nothing-requires : goal.write_of_nothing-requires

@@ -1,7 +1,6 @@
 -- `index_numbers` meets its contract.
 -- Assumes nothing.
 use Rattle.client.specs.Read.{id_numbers}
-use borrow.Author.Rules.{rules}
 use Rattle.hub.proofs.index_numbers.Goals as goal
 
 pub returns-in-Null : goal.returns-in-Null

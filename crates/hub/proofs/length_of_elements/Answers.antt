@@ -2,7 +2,6 @@
 -- Assumes nothing.
 use Rattle.pages.proofs.Stored.{page_follows, refusal_follows}
 use Rattle.hub.proofs.Reports.{refusal_told, page_told}
-use borrow.Author.Rules.{rules}
 use Rattle.hub.proofs.length_of_elements.Goals as goal
 
 pub returns-in-Refused : goal.returns-in-Refused

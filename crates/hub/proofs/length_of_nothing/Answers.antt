@@ -6,7 +6,6 @@ use lib.ListN.{replicate, length-replicate}
 use mathlib.Core.List.{[]}
 use Rattle.store.specs.Knowledge.{said_numbers}
 use Rattle.hub.proofs.Reports.{nothing_ready, nothing_refused, some_store, refusal_told, page_told}
-use borrow.Author.Rules.{rules}
 use Rattle.hub.proofs.length_of_nothing.Goals as goal
 
 pub decide_request-requires : goal.decide_request-requires

@@ -1,6 +1,5 @@
 -- `put_entered` meets its contract.
 -- Assumes nothing.
-use borrow.Author.Rules.{rules}
 use Rattle.hub.proofs.put_entered.Goals as goal
 
 pub returns : goal.returns

@@ -1,7 +1,6 @@
 -- `put_handed` meets its contract.
 -- Assumes nothing.
 use Rattle.hub.specs.BenchPut.{put_report_after}
-use borrow.Author.Rules.{rules}
 use Rattle.hub.proofs.put_handed.Goals as goal
 
 pub returns : goal.returns

@@ -2,7 +2,6 @@
 -- Assumes nothing.
 use Rattle.client.specs.Read.{received_numbers}
 use Rattle.hub.specs.Bench.{report_after}
-use borrow.Author.Rules.{rules}
 use Rattle.hub.proofs.put_received.Goals as goal
 
 pub returns : goal.returns

@@ -3,7 +3,6 @@
 use mathlib.Core.Path.{refl}
 use Rattle.pages.proofs.Stored.{page_follows, refusal_follows}
 use Rattle.hub.proofs.Reports.{refusal_written, page_written}
-use borrow.Author.Rules.{rules}
 use Rattle.hub.proofs.write_of_elements.Goals as goal
 
 pub write_answer-requires : goal.write_answer-requires

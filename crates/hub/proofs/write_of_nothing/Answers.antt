@@ -8,7 +8,6 @@ use mathlib.Core.List.{[]}
 use Rattle.store.specs.Knowledge.{said_numbers}
 use Rattle.store.proofs.Beginning.{nothing_held}
 use Rattle.hub.proofs.Reports.{nothing_ready, nothing_refused, some_store, refusal_written, page_written}
-use borrow.Author.Rules.{rules}
 use Rattle.hub.proofs.write_of_nothing.Goals as goal
 
 pub decide_request-requires : goal.decide_request-requires

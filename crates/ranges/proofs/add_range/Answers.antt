@@ -8,7 +8,6 @@ use Rattle.talk.specs.Ranges.{insert}
 use Rattle.talk.specs.declared.range.Range.{Range}
 use Rattle.ranges.specs.RangeTable.{ranges_at}
 use Rattle.ranges.proofs.RangeRows.{insert_at, add_full, add_done}
-use borrow.Author.Rules.{rules}
 use Rattle.ranges.proofs.add_range.Goals as goal
 
 pub returns-then-t-new : goal.returns-then-t-new

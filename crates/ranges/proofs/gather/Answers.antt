@@ -1,11 +1,11 @@
 -- `ranges::gather` meets its contract.
 -- Assumes nothing.
-use Rattle.talk.specs.Ranges.{is_before, joined, absorb}
-use Rattle.ranges.specs.RangeTable.{range_at, ranges_at}
+use Rattle.talk.specs.Ranges.{is_before, joined}
+use Rattle.ranges.specs.RangeTable.{range_at}
 use mathlib.Core.Bool.{true, false}
 use Rattle.ranges.proofs.RangeRows.{gather_turn, gather_stop, gather_end}
 use native.Mathlib.Omega.{arith}
-use Prim.Native.Nat.{◌-◌, ◌≤◌, ◌<◌}
+use Prim.Native.Nat.{◌<◌}
 use mathlib.Core.Path.{◌≡◌, refl, sym, ap, ◌∙◌}
 use Rattle.ranges.proofs.gather.Goals as goal
 

@@ -1,12 +1,9 @@
 -- `ranges::gather` meets its contract.
 -- Assumes nothing.
-use Rattle.talk.specs.Ranges.{is_before, joined, absorb}
-use Rattle.ranges.specs.RangeTable.{range_at, ranges_at}
-use mathlib.Core.Bool.{true, false}
-use Rattle.ranges.proofs.RangeRows.{gather_turn, gather_stop, gather_end}
-use native.Mathlib.Omega.{arith}
-use Prim.Native.Nat.{◌-◌, ◌≤◌, ◌<◌}
-use mathlib.Core.Path.{◌≡◌, refl, sym, ap, ◌∙◌}
+use Rattle.talk.specs.Ranges.{absorb}
+use Rattle.ranges.specs.RangeTable.{ranges_at}
+use Prim.Native.Nat.{◌-◌, ◌≤◌}
+use mathlib.Core.Path.{◌≡◌}
 use Rattle.ranges.proofs.gather.Given as goal
 
 abbrev pub invariant-loop-j : goal.invariant-loop-j

@@ -5,7 +5,6 @@ use native.Mathlib.Omega.{arith}
 use borrow.Author.Tests.{lt-ltb, le-ltb}
 use Rattle.laws.proofs.Cases.{by_lt}
 use Rattle.talk.proofs.Order.{before_upper, after_upper, before_lower, after_lower, before_numbers, touching_not_before}
-use borrow.Author.Rules.{rules}
 use Rattle.ranges.proofs.is_before.Goals as goal
 
 pub returns-then-a-b : goal.returns-then-a-b

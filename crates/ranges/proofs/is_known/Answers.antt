@@ -4,7 +4,6 @@ use mathlib.Core.Path.{sym, ◌∙◌}
 use native.Mathlib.Omega.{arith}
 use Rattle.ranges.specs.Ranged.{range_of, knows}
 use Rattle.ranges.proofs.RangeSearch.{no_row_holds, one_row_holds}
-use borrow.Author.Rules.{rules}
 use Rattle.ranges.proofs.is_known.Goals as goal
 
 pub returns-then-i-count : goal.returns-then-i-count

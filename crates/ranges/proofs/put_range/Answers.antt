@@ -4,7 +4,6 @@ use Prim.Native.Nat.{◌*◌}
 use native.Mathlib.Omega.{arith}
 use lib.ListN.{length-set}
 use Rattle.ranges.proofs.Four.{put_four}
-use borrow.Author.Rules.{rules}
 use Rattle.ranges.proofs.put_range.Goals as goal
 
 pub bounds-t-at-2 : goal.bounds-t-at-2

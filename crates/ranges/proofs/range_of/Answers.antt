@@ -1,7 +1,6 @@
 -- `ranges::range_of` meets its contract.
 -- Assumes nothing.
 use Rattle.ranges.specs.Ranged.{range_of}
-use borrow.Author.Rules.{rules}
 use Rattle.ranges.proofs.range_of.Goals as goal
 
 pub returns : goal.returns

@@ -1,11 +1,8 @@
 -- `ranges::rows_before` meets its contract. The invariant: the rows below `low` lie before x, and row `high` does not.
 -- Assumes nothing.
 use mathlib.Core.Path.{◌≡◌, sym, ◌∙◌}
-use mathlib.Core.Bool.{true, false}
-use Prim.Native.Nat.{ℕ, ◌-◌, ◌≤◌, ◌<◌}
+use Prim.Native.Nat.{◌-◌}
 use native.Mathlib.Omega.{arith}
-use Rattle.talk.specs.Ranges.{is_before}
-use Rattle.ranges.specs.RangeTable.{range_at}
 use Rattle.ranges.proofs.RangeSearch.{all_before}
 use Rattle.ranges.proofs.rows_before.Goals as goal
 

@@ -2,7 +2,6 @@
 -- Assumes nothing.
 use Rattle.ranges.specs.RangeTable.{range_at, ranges_at, numbers_of}
 use Rattle.talk.specs.declared.range.Range.{Range}
-use borrow.Author.Rules.{rules}
 use Rattle.ranges.proofs.RangeRows.{rows_step, rows_none, row_kept, put_rest, put_turn, put_last, put_over}
 use lib.ListN.{length, take, drop}
 use native.Mathlib.Omega.{arith}

@@ -1,14 +1,10 @@
 -- `ranges::shift` meets its contract.
 -- Assumes nothing.
-use Rattle.ranges.specs.RangeTable.{range_at, ranges_at, numbers_of}
-use Rattle.talk.specs.declared.range.Range.{Range}
-use borrow.Author.Rules.{rules}
-use Rattle.ranges.proofs.RangeRows.{rows_step, rows_none, row_kept, put_rest, put_turn, put_last, put_over}
+use Rattle.ranges.specs.RangeTable.{ranges_at, numbers_of}
 use lib.ListN.{length, take, drop}
-use native.Mathlib.Omega.{arith}
-use Prim.Native.Nat.{ℕ, ◌+◌, ◌-◌, ◌*◌, ◌≤◌}
-use mathlib.Core.List.{List, ◌∷◌, ◌++◌, append_assoc}
-use mathlib.Core.Path.{◌≡◌, refl, sym, ap, ◌∙◌}
+use Prim.Native.Nat.{◌+◌, ◌-◌, ◌*◌, ◌≤◌}
+use mathlib.Core.List.{◌∷◌, ◌++◌}
+use mathlib.Core.Path.{◌≡◌}
 use Rattle.ranges.proofs.shift.Given as goal
 
 abbrev pub invariant-loop-n : goal.invariant-loop-n

@@ -1,9 +1,8 @@
 -- `put_report` meets its contract. The invariant: the first i numbers stand at the report's front.
 -- Assumes nothing.
 use mathlib.Core.Path.{◌≡◌, refl, sym}
-use Prim.Native.Nat.{◌-◌, ◌*◌, ◌≤◌}
 use native.Mathlib.Omega.{arith}
-use lib.ListN.{length, take, get_or}
+use lib.ListN.{take, get_or}
 use lib.Seq.{take_all}
 use Rattle.laws.specs.Bytes.{bytes}
 use Rattle.laws.specs.Placed.{Lays}

@@ -1,15 +1,10 @@
 -- `put_report` meets its contract. The invariant: the first i numbers stand at the report's front.
 -- Assumes nothing.
-use mathlib.Core.Path.{◌≡◌, refl, sym}
+use mathlib.Core.Path.{◌≡◌}
 use Prim.Native.Nat.{◌-◌, ◌*◌, ◌≤◌}
-use native.Mathlib.Omega.{arith}
-use lib.ListN.{length, take, get_or}
-use lib.Seq.{take_all}
-use Rattle.laws.specs.Bytes.{bytes}
+use lib.ListN.{length, take}
 use Rattle.laws.specs.Placed.{Lays}
-use Rattle.laws.proofs.Numbers.{length_bytes}
 use Rattle.report.specs.Report.{numbers_bytes}
-use Rattle.report.proofs.Numbers.{numbers_then, numbers_short, numbers_placed}
 use Rattle.report.proofs.put_report.Given as goal
 
 abbrev pub invariant-loop-i : goal.invariant-loop-i

@@ -7,7 +7,6 @@ use lib.ListN.{length, length-replicate}
 use Rattle.book.specs.Keep.{kept_elements}
 use Rattle.book.proofs.Keeping.{planned_count, planned_book, plan_taken, plan_made}
 use Rattle.book.proofs.Outcomes.{refused_gives, counted_over, counted_fits}
-use borrow.Author.Rules.{rules}
 use Rattle.book.proofs.keep.count.Goals as goal
 
 pub plan_elements-planned-requires : goal.plan_elements-planned-requires

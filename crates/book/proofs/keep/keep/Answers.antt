@@ -9,7 +9,6 @@ use Rattle.store.specs.Tables.{id_width, most_elements, row_numbers}
 use Rattle.store.proofs.StoreHeld.{store_held, store_long}
 use Rattle.book.proofs.Outcomes.{refused_gives, book_faulty, book_fine}
 use Rattle.book.proofs.ReadRows.{book_rows}
-use borrow.Author.Rules.{rules}
 use Rattle.book.proofs.keep.keep.Goals as goal
 
 pub slice_bounds-keep_answer-end : goal.slice_bounds-keep_answer-end

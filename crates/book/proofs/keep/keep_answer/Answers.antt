@@ -8,7 +8,6 @@ use Rattle.store.specs.Tables.{id_width, most_elements, row_numbers}
 use Rattle.client.proofs.AnswerRest.{answer_fault}
 use Rattle.book.proofs.Outcomes.{refused_gives, answer_fine, answer_faulty}
 use Rattle.book.proofs.ReadRows.{answer_rows, answer_long, answer_stands}
-use borrow.Author.Rules.{rules}
 use Rattle.book.proofs.keep.keep_answer.Goals as goal
 
 pub slice_bounds-count-end : goal.slice_bounds-count-end

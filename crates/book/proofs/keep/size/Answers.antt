@@ -1,6 +1,6 @@
 -- `keep::size` meets its contract.
 -- Assumes nothing.
-use mathlib.Core.Path.{◌≡◌, sym}
+use mathlib.Core.Path.{◌≡◌}
 use Prim.Native.Nat.{◌+◌}
 use native.Mathlib.Omega.{arith}
 use lib.ListN.{length, take}
@@ -9,7 +9,6 @@ use Rattle.enter.proofs.PackageLengths.{length_framed}
 use Rattle.book.specs.Plan.{sides, planned_bytes}
 use Rattle.book.proofs.Outcomes.{refused_gives, sized_long, sized_short, sized_gives}
 use Rattle.book.proofs.Turns.{length_planned}
-use borrow.Author.Rules.{rules}
 use Rattle.book.proofs.keep.size.Goals as goal
 
 pub overflow_add-whole : goal.overflow_add-whole

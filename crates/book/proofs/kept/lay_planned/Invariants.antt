@@ -1,15 +1,11 @@
 -- `kept::lay_planned` meets its contract. The invariant: with the elements still to come laid at p, out is what it is to be.
 -- Assumes nothing.
-use mathlib.Core.Path.{◌≡◌, refl, sym, ap, ◌∙◌}
-use mathlib.Core.List.{List, ◌++◌}
-use Prim.Native.Nat.{ℕ, ◌+◌, ◌-◌, ◌≤◌}
-use native.Mathlib.Omega.{arith}
-use lib.ListN.{length, take, get_or, length-append}
+use mathlib.Core.Path.{◌≡◌}
+use Prim.Native.Nat.{◌+◌, ◌-◌, ◌≤◌}
+use lib.ListN.{length, take}
 use Rattle.laws.specs.Placed.{laid}
-use Rattle.laws.proofs.Placing.{laid_nothing, lays_first}
 use Rattle.enter.proofs.PlanTurns.{plan_from}
-use Rattle.book.specs.Plan.{sides, source_bytes, planned_bytes}
-use Rattle.book.proofs.Turns.{bytes_turn, bytes_end}
+use Rattle.book.specs.Plan.{sides, planned_bytes}
 use Rattle.book.proofs.kept.lay_planned.Given as goal
 
 abbrev pub invariant-loop-k : goal.invariant-loop-k

@@ -8,7 +8,6 @@ use Rattle.store.specs.Tables.{most_elements, element_in_row}
 use Rattle.store.specs.Held.{stored_bytes}
 use Rattle.book.specs.Plan.{sides}
 use Rattle.book.proofs.Turns.{source_there, source_came}
-use borrow.Author.Rules.{rules}
 use Rattle.book.proofs.kept.lay_source.Goals as goal
 
 pub element_in_row-x-requires : goal.element_in_row-x-requires

@@ -1,11 +1,9 @@
 -- `kept::planned_length` meets its contract. The invariant: the whole is what was counted and what is still to come.
 -- Assumes nothing.
 use mathlib.Core.Path.{◌≡◌}
-use Prim.Native.Nat.{◌+◌, ◌-◌, ◌*◌, ◌^◌, ◌≤◌}
 use native.Mathlib.Omega.{arith}
-use lib.ListN.{take, get_or}
-use Rattle.enter.proofs.PlanTurns.{plan_from}
-use Rattle.book.specs.Plan.{source_element, planned_length}
+use lib.ListN.{get_or}
+use Rattle.book.specs.Plan.{source_element}
 use Rattle.book.proofs.Turns.{length_turn, length_end}
 use Rattle.book.proofs.kept.planned_length.Goals as goal
 

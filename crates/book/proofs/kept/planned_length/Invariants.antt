@@ -2,11 +2,9 @@
 -- Assumes nothing.
 use mathlib.Core.Path.{◌≡◌}
 use Prim.Native.Nat.{◌+◌, ◌-◌, ◌*◌, ◌^◌, ◌≤◌}
-use native.Mathlib.Omega.{arith}
-use lib.ListN.{take, get_or}
+use lib.ListN.{take}
 use Rattle.enter.proofs.PlanTurns.{plan_from}
-use Rattle.book.specs.Plan.{source_element, planned_length}
-use Rattle.book.proofs.Turns.{length_turn, length_end}
+use Rattle.book.specs.Plan.{planned_length}
 use Rattle.book.proofs.kept.planned_length.Given as goal
 
 abbrev pub invariant-loop-k : goal.invariant-loop-k

@@ -9,7 +9,6 @@ use Rattle.store.specs.Tables.{id_width, most_elements, row_numbers}
 use Rattle.store.proofs.Found.{found_row, found_none, package_most, laid_long, full_rows}
 use Rattle.client.specs.Read.{response_start, package_in, answer_strictness}
 use Rattle.client.proofs.AnswerRest.{answer_refused, answer_is, rows_received_lem, ids_received_lem}
-use borrow.Author.Rules.{rules}
 use Rattle.client.proofs.accessor.find_received.Goals as goal
 use Rattle.client.proofs.accessor.find_received.Goals.{Else-x-position}
 

@@ -4,7 +4,6 @@ use mathlib.Core.Path.{◌≡◌, sym, ◌∙◌}
 use Rattle.store.proofs.OneAnswers.{found_telling}
 use Rattle.client.specs.Accessor.{received_at, received_bytes}
 use Rattle.store.specs.declared.accessor.Found.TheVariants.{At, Refused}
-use borrow.Author.Rules.{rules}
 use Rattle.client.proofs.accessor.received_bytes.Goals as goal
 
 pub returns-in-At : goal.returns-in-At

@@ -3,7 +3,6 @@
 use Rattle.store.specs.Knowledge.{most_said}
 use Rattle.client.specs.Read.{knowledge_in}
 use Rattle.client.proofs.KnowledgeOn.{knowledge_on}
-use borrow.Author.Rules.{rules}
 use Rattle.client.proofs.answer.behind_knowledge.Goals as goal
 
 pub returns : goal.returns

@@ -1,7 +1,6 @@
 -- `answer::changes_fields` meets its contract.
 -- Assumes nothing.
 use Rattle.client.specs.Read.{changes_fields}
-use borrow.Author.Rules.{rules}
 use Rattle.client.proofs.answer.changes_fields.Goals as goal
 
 pub returns : goal.returns

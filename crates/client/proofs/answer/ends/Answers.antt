@@ -1,7 +1,6 @@
 -- `answer::ends` meets its contract.
 -- Assumes nothing.
 use Rattle.client.specs.Read.{ends_of}
-use borrow.Author.Rules.{rules}
 use Rattle.client.proofs.answer.ends.Goals as goal
 
 pub returns : goal.returns

@@ -2,7 +2,6 @@
 -- Assumes nothing.
 use mathlib.Core.Path.{ap}
 use Rattle.client.specs.Read.{tell_read_answer}
-use borrow.Author.Rules.{rules}
 use Rattle.client.proofs.answer.read_answer.Goals as goal
 
 pub returns : goal.returns

@@ -5,7 +5,6 @@ use mathlib.Core.Path.{◌≡◌, sym, ◌∙◌}
 use Rattle.client.specs.Read.{changes, mark_at, knowledge_end, received_from, rest_of, answer_on}
 use Rattle.client.proofs.AnswerWithin.{good_changes_fields}
 use Rattle.client.proofs.AnswerRest.{knowledge_forward}
-use borrow.Author.Rules.{rules}
 use Rattle.client.proofs.answer.read_rest.Goals as goal
 use Rattle.client.proofs.answer.read_rest.Goals.{After-ends}
 
@@ -37,17 +36,17 @@ returns-in-Refused c = rw (sym (end_is (goal.at.returns-in-Refused c).After-ends
 pub returns-in-At : goal.returns-in-At
 unfolding answer_on received_from
 returns-in-At c = rw (
-      sym (end_is (goal.at.returns-in-At c).After-ends) ∙ c.in-At.is,
-      c.place-in-At-2.ensures,
-      c.place-in-At.ensures,
-      c.place.ensures,
-      c.id_in.ensures,
-      c.extended_guid.ensures,
-      c.value-in-At.ensures,
-      c.value.ensures,
-      knowledge_is (goal.at.returns-in-At c).After-ends,
-      mark_is (goal.at.returns-in-At c).After-ends,
-      c.run-d.ensures,
-      c.start-o.ensures,
-      c.sub_response-sub.ensures,
-    )
+  sym (end_is (goal.at.returns-in-At c).After-ends) ∙ c.in-At.is,
+  c.place-in-At-2.ensures,
+  c.place-in-At.ensures,
+  c.place.ensures,
+  c.id_in.ensures,
+  c.extended_guid.ensures,
+  c.value-in-At.ensures,
+  c.value.ensures,
+  knowledge_is (goal.at.returns-in-At c).After-ends,
+  mark_is (goal.at.returns-in-At c).After-ends,
+  c.run-d.ensures,
+  c.start-o.ensures,
+  c.sub_response-sub.ensures,
+)

@@ -8,7 +8,6 @@ use Rattle.client.specs.Read.{package_in, answer_end, answer_on, answer_in}
 use Rattle.client.specs.Accessor.{rows_received, ids_received}
 use Rattle.client.proofs.AnswerWithin.{good_response_start}
 use Rattle.client.proofs.AnswerRest.{rest_fault, package_refused, package_holds}
-use borrow.Author.Rules.{rules}
 use Rattle.client.proofs.answer.read_rows.Goals as goal
 
 pub returns-then-s-gt-LONGEST_ANSWER : goal.returns-then-s-gt-LONGEST_ANSWER

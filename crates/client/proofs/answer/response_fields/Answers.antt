@@ -1,7 +1,6 @@
 -- `answer::response_fields` meets its contract.
 -- Assumes nothing.
 use Rattle.client.specs.Read.{response_fields}
-use borrow.Author.Rules.{rules}
 use Rattle.client.proofs.answer.response_fields.Goals as goal
 
 pub returns : goal.returns

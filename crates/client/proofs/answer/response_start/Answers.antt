@@ -2,7 +2,6 @@
 -- Assumes nothing.
 use Rattle.client.specs.Read.{response_start}
 use Rattle.client.proofs.AnswerWithin.{good_response_fields}
-use borrow.Author.Rules.{rules}
 use Rattle.client.proofs.answer.response_start.Goals as goal
 
 pub closed-requires : goal.closed-requires

@@ -1,7 +1,6 @@
 -- `answer::status_byte` meets its contract.
 -- Assumes nothing.
 use Rattle.client.specs.Read.{status_byte}
-use borrow.Author.Rules.{rules}
 use Rattle.client.proofs.answer.status_byte.Goals as goal
 
 pub returns : goal.returns

@@ -2,7 +2,6 @@
 -- Assumes nothing.
 use Rattle.client.specs.Read.{sub_response}
 use Rattle.client.proofs.AnswerWithin.{good_sub_response_fields}
-use borrow.Author.Rules.{rules}
 use Rattle.client.proofs.answer.sub_response.Goals as goal
 
 pub closed-requires : goal.closed-requires

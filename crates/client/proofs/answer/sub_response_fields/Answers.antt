@@ -1,7 +1,6 @@
 -- `answer::sub_response_fields` meets its contract.
 -- Assumes nothing.
 use Rattle.client.specs.Read.{sub_response_fields}
-use borrow.Author.Rules.{rules}
 use Rattle.client.proofs.answer.sub_response_fields.Goals as goal
 
 pub returns : goal.returns

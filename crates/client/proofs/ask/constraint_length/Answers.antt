@@ -2,7 +2,6 @@
 -- Assumes nothing.
 use native.Mathlib.Omega.{arith}
 use Rattle.client.proofs.AskLengths.{length_none, length_constraint}
-use borrow.Author.Rules.{rules}
 use Rattle.client.proofs.ask.constraint_length.Goals as goal
 
 pub returns-then-limit-eq-NO_LIMIT : goal.returns-then-limit-eq-NO_LIMIT

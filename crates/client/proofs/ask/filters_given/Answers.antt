@@ -2,7 +2,6 @@
 -- Assumes nothing.
 use borrow.Author.Tests.{lt-ltb, le-ltb}
 use Rattle.client.specs.Ask.{filters_given}
-use borrow.Author.Rules.{rules}
 use Rattle.client.proofs.ask.filters_given.Goals as goal
 
 pub returns-then-f-gt-LONGEST_INPUT : goal.returns-then-f-gt-LONGEST_INPUT

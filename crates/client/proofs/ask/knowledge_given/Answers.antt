@@ -5,7 +5,6 @@ use Rattle.store.specs.Knowledge.{most_said}
 use Rattle.client.specs.Ask.{knowledge_given}
 use Rattle.client.proofs.KnowledgeOn.{knowledge_on}
 use Rattle.client.proofs.AskGiven.{given_none, given_some}
-use borrow.Author.Rules.{rules}
 use Rattle.client.proofs.ask.knowledge_given.Goals as goal
 
 pub returns-then-k-gt-LONGEST_INPUT : goal.returns-then-k-gt-LONGEST_INPUT

@@ -10,7 +10,6 @@ use Rattle.objects.specs.Header.{start_bytes}
 use Rattle.laws.proofs.Placing.{lays_then}
 use Rattle.client.specs.AskWritten.{argument_data, argument_bytes}
 use Rattle.client.proofs.AskLengths.{length_arguments}
-use borrow.Author.Rules.{rules}
 use Rattle.client.proofs.ask.lay_arguments.Goals as goal
 
 pub lay_start-behind_start-requires : goal.lay_start-behind_start-requires

@@ -9,7 +9,6 @@ use Rattle.objects.specs.Header.{start_bytes}
 use Rattle.laws.specs.Placed.{Lays}
 use Rattle.laws.proofs.Placing.{lays_then, laid_nothing}
 use Rattle.client.proofs.AskLengths.{no_constraint, a_constraint, length_constraint_start, length_constraint}
-use borrow.Author.Rules.{rules}
 use Rattle.client.proofs.ask.lay_constraint.Goals as goal
 
 pub returns-then-limit-eq-NO_LIMIT : goal.returns-then-limit-eq-NO_LIMIT

@@ -7,7 +7,6 @@ use Rattle.objects.specs.Header.{end_bytes}
 use Rattle.laws.proofs.Placing.{lays_then}
 use Rattle.client.specs.AskWritten.{ask_ends}
 use Rattle.client.proofs.AskLengths.{length_ends}
-use borrow.Author.Rules.{rules}
 use Rattle.client.proofs.ask.lay_ends.Goals as goal
 
 pub lay_end-behind_sub_request-requires : goal.lay_end-behind_sub_request-requires

@@ -9,7 +9,6 @@ use Rattle.numbers.specs.Compact.{compact_bytes}
 use Rattle.request.proofs.ResponseLengths.{length_two}
 use Rattle.client.specs.AskWritten.{identified_bytes, query_bytes, argument_bytes, ask_front}
 use Rattle.client.proofs.AskLengths.{length_query, length_arguments, length_identified, length_front}
-use borrow.Author.Rules.{rules}
 use Rattle.client.proofs.ask.lay_front.Goals as goal
 
 pub lay_identified-behind_sub_request-requires : goal.lay_identified-behind_sub_request-requires

@@ -11,7 +11,6 @@ use Rattle.request.proofs.ResponseLengths.{length_versions}
 use Rattle.numbers.specs.Compact.{compact_bytes}
 use Rattle.client.specs.AskWritten.{user_agent_bytes, sub_request_bytes, identified_bytes}
 use Rattle.client.proofs.AskLengths.{length_agent, length_sub, length_identified}
-use borrow.Author.Rules.{rules}
 use Rattle.client.proofs.ask.lay_identified.Goals as goal
 
 pub lay_versions-behind_versions-requires : goal.lay_versions-behind_versions-requires

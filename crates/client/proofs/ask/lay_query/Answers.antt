@@ -9,7 +9,6 @@ use Rattle.objects.specs.Header.{start_bytes}
 use Rattle.laws.proofs.Placing.{lays_then}
 use Rattle.client.specs.AskWritten.{query_bytes}
 use Rattle.client.proofs.AskLengths.{length_query}
-use borrow.Author.Rules.{rules}
 use Rattle.client.proofs.ask.lay_query.Goals as goal
 
 pub lay_start-behind_start-requires : goal.lay_start-behind_start-requires

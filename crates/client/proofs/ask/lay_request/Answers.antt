@@ -6,7 +6,6 @@ use lib.ListN.{length-append}
 use Rattle.laws.proofs.Placing.{lays_then}
 use Rattle.client.specs.AskWritten.{constraint_bytes, ask_front, ask_ends, ask_bytes}
 use Rattle.client.proofs.AskLengths.{length_parts}
-use borrow.Author.Rules.{rules}
 use Rattle.client.proofs.ask.lay_request.Goals as goal
 
 pub lay_front-behind_front-requires : goal.lay_front-behind_front-requires

@@ -12,7 +12,6 @@ use Rattle.laws.specs.Placed.{Lays}
 use Rattle.laws.proofs.Placing.{lays_then}
 use Rattle.client.specs.AskWritten.{sub_request_data, sub_request_bytes}
 use Rattle.client.proofs.AskLengths.{length_zero, length_sub_data, length_sub_start, length_sub}
-use borrow.Author.Rules.{rules}
 use Rattle.client.proofs.ask.lay_sub_request.Goals as goal
 
 pub lay_start-behind_start-requires : goal.lay_start-behind_start-requires

@@ -9,7 +9,6 @@ use Rattle.objects.specs.Header.{start_bytes, end_bytes}
 use Rattle.laws.proofs.Placing.{lays_then}
 use Rattle.client.specs.AskWritten.{user_agent_bytes}
 use Rattle.client.proofs.AskLengths.{length_agent}
-use borrow.Author.Rules.{rules}
 use Rattle.client.proofs.ask.lay_user_agent.Goals as goal
 
 pub lay_start-behind_request-requires : goal.lay_start-behind_request-requires

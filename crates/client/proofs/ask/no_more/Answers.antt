@@ -2,7 +2,6 @@
 -- Assumes nothing.
 use borrow.Author.Tests.{lt-ltb, le-ltb}
 use Rattle.client.specs.Ask.{no_more}
-use borrow.Author.Rules.{rules}
 use Rattle.client.proofs.ask.no_more.Goals as goal
 
 pub returns-then-at-s : goal.returns-then-at-s

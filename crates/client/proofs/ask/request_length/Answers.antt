@@ -2,7 +2,6 @@
 -- Assumes nothing.
 use native.Mathlib.Omega.{arith}
 use Rattle.client.proofs.AskLengths.{length_ask}
-use borrow.Author.Rules.{rules}
 use Rattle.client.proofs.ask.request_length.Goals as goal
 
 pub returns : goal.returns

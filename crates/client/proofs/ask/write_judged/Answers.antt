@@ -3,7 +3,6 @@
 use native.Mathlib.Omega.{arith}
 use Rattle.client.proofs.AskGiven.{sent_long, sent_short, sent_done}
 use Rattle.client.specs.AskWritten.{ask_bytes}
-use borrow.Author.Rules.{rules}
 use Rattle.client.proofs.ask.write_judged.Goals as goal
 
 pub returns-then-needed-gt-LONGEST_INPUT : goal.returns-then-needed-gt-LONGEST_INPUT

@@ -2,14 +2,13 @@
 -- Assumes nothing.
 use mathlib.Core.Path.{sym, ◌∙◌}
 use Rattle.client.proofs.AskGiven.{filters_short, knowledge_short, filters_refused, knowledge_refused, both_judged}
-use borrow.Author.Rules.{rules}
 use Rattle.client.proofs.ask.write_request.Goals as goal
 
 pub write_judged-requires : goal.write_judged-requires
 write_judged-requires c = (
-      filters_short _ _ _ (sym c.filters_given.ensures ∙ c.in-At.is),
-      knowledge_short _ _ _ (sym c.knowledge_given.ensures ∙ c.in-At-knowledge_given.is),
-    )
+  filters_short _ _ _ (sym c.filters_given.ensures ∙ c.in-At.is),
+  knowledge_short _ _ _ (sym c.knowledge_given.ensures ∙ c.in-At-knowledge_given.is),
+)
 
 pub returns-in-Refused : goal.returns-in-Refused
 returns-in-Refused c = let a = c.args in

@@ -2,7 +2,6 @@
 -- Assumes nothing.
 use mathlib.Core.Path.{sym, ◌∙◌}
 use Rattle.client.proofs.PutGiven.{given_long, given_refused, given_holds}
-use borrow.Author.Rules.{rules}
 use Rattle.client.proofs.put.elements_given.Goals as goal
 
 pub returns-then-s-gt-LONGEST_INPUT : goal.returns-then-s-gt-LONGEST_INPUT

@@ -6,7 +6,6 @@ use lib.ListN.{length-append}
 use Rattle.laws.proofs.Placing.{lays_then}
 use Rattle.client.specs.PutWritten.{put_front_bytes, put_ends_bytes, put_bytes}
 use Rattle.client.proofs.PutLengths.{length_put_parts}
-use borrow.Author.Rules.{rules}
 use Rattle.client.proofs.put.lay_put.Goals as goal
 
 pub lay_put_front-behind_front-requires : goal.lay_put_front-behind_front-requires

@@ -12,7 +12,6 @@ use Rattle.laws.specs.Placed.{Lays}
 use Rattle.laws.proofs.Placing.{lays_then}
 use Rattle.client.specs.PutWritten.{put_changes_data, put_changes_bytes}
 use Rattle.client.proofs.PutLengths.{length_put_data, length_put_start, length_put_changes}
-use borrow.Author.Rules.{rules}
 use Rattle.client.proofs.put.lay_put_changes.Goals as goal
 
 pub lay_start-behind_start-requires : goal.lay_start-behind_start-requires

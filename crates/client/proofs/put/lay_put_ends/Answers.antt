@@ -7,7 +7,6 @@ use Rattle.objects.specs.Header.{end_bytes}
 use Rattle.laws.proofs.Placing.{lays_then}
 use Rattle.client.specs.PutWritten.{put_ends_bytes}
 use Rattle.client.proofs.PutLengths.{length_put_ends}
-use borrow.Author.Rules.{rules}
 use Rattle.client.proofs.put.lay_put_ends.Goals as goal
 
 pub lay_end-behind_package-requires : goal.lay_end-behind_package-requires

@@ -15,7 +15,6 @@ use Rattle.client.specs.AskWritten.{identified_bytes}
 use Rattle.client.specs.PutWritten.{put_changes_bytes, put_front_bytes}
 use Rattle.client.proofs.AskLengths.{length_identified}
 use Rattle.client.proofs.PutLengths.{length_package, length_put_changes, length_put_front}
-use borrow.Author.Rules.{rules}
 use Rattle.client.proofs.put.lay_put_front.Goals as goal
 
 pub lay_identified-behind_fields-requires : goal.lay_identified-behind_fields-requires

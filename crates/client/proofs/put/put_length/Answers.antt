@@ -2,7 +2,6 @@
 -- Assumes nothing.
 use native.Mathlib.Omega.{arith}
 use Rattle.client.proofs.PutLengths.{length_put}
-use borrow.Author.Rules.{rules}
 use Rattle.client.proofs.put.put_length.Goals as goal
 
 pub returns : goal.returns

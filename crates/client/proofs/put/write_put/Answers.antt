@@ -2,7 +2,6 @@
 -- Assumes nothing.
 use mathlib.Core.Path.{sym, ◌∙◌}
 use Rattle.client.proofs.PutGiven.{elements_short, elements_refused, elements_judged}
-use borrow.Author.Rules.{rules}
 use Rattle.client.proofs.put.write_put.Goals as goal
 
 pub write_judged_put-requires : goal.write_judged_put-requires

@@ -8,7 +8,6 @@ use Rattle.client.specs.Read.{package_in}
 use Rattle.client.specs.ReadPut.{put_answer_end, put_answer_on, put_answer_in}
 use Rattle.client.proofs.AnswerWithin.{good_response_start}
 use Rattle.client.proofs.AnswerRest.{put_rest_fault, package_refused, package_holds}
-use borrow.Author.Rules.{rules}
 use Rattle.client.proofs.put_answer.read_put_answer.Goals as goal
 
 pub returns-then-s-gt-LONGEST_ANSWER : goal.returns-then-s-gt-LONGEST_ANSWER

@@ -4,7 +4,6 @@ use mathlib.Core.Path.{◌≡◌, sym, ◌∙◌}
 use Rattle.client.specs.Read.{behind_knowledge}
 use Rattle.client.specs.ReadPut.{put_known, received_put_from, put_rest_of, put_answer_on}
 use Rattle.client.proofs.AnswerRest.{put_forward}
-use borrow.Author.Rules.{rules}
 use Rattle.client.proofs.put_answer.read_put_rest.Goals as goal
 use Rattle.client.proofs.put_answer.read_put_rest.Goals.{After-ends}
 
@@ -28,11 +27,11 @@ returns-in-Refused c = rw (sym (end_is (goal.at.returns-in-Refused c).After-ends
 pub returns-in-At : goal.returns-in-At
 unfolding put_answer_on received_put_from
 returns-in-At c = rw (
-      sym (end_is (goal.at.returns-in-At c).After-ends) ∙ c.in-At.is,
-      c.place-in-At-2.ensures,
-      c.place-in-At.ensures,
-      c.place.ensures,
-      c.value.ensures,
-      knowledge_is (goal.at.returns-in-At c).After-ends,
-      c.sub_response-sub.ensures,
-    )
+  sym (end_is (goal.at.returns-in-At c).After-ends) ∙ c.in-At.is,
+  c.place-in-At-2.ensures,
+  c.place-in-At.ensures,
+  c.place.ensures,
+  c.value.ensures,
+  knowledge_is (goal.at.returns-in-At c).After-ends,
+  c.sub_response-sub.ensures,
+)

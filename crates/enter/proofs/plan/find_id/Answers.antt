@@ -2,13 +2,11 @@
 -- Assumes nothing.
 use mathlib.Core.Path.{◌≡◌, sym, ap, ◌∙◌}
 use mathlib.Core.Bool.{true, false}
-use Prim.Native.Nat.{◌+◌, ◌-◌, ◌≤◌, ◌<◌}
+use Prim.Native.Nat.{◌<◌}
 use native.Mathlib.Omega.{arith}
-use borrow.Author.Rules.{rules}
 use Rattle.store.specs.Element.{same_key}
-use Rattle.store.specs.Tables.{id_in_row, id_keys}
-use Rattle.enter.specs.Plan.{place_among}
-use Rattle.enter.proofs.Planning.{ids_from, find_start, find_here, find_later, find_none}
+use Rattle.store.specs.Tables.{id_in_row}
+use Rattle.enter.proofs.Planning.{find_start, find_here, find_later, find_none}
 use Rattle.enter.proofs.plan.find_id.Goals as goal
 
 pub loop-i-init : goal.loop-i-init

@@ -1,14 +1,10 @@
 -- `plan::find_id` meets its contract. The invariant: the id stands so many places behind row i as it does among the ids from there on.
 -- Assumes nothing.
-use mathlib.Core.Path.{◌≡◌, sym, ap, ◌∙◌}
-use mathlib.Core.Bool.{true, false}
-use Prim.Native.Nat.{◌+◌, ◌-◌, ◌≤◌, ◌<◌}
-use native.Mathlib.Omega.{arith}
-use borrow.Author.Rules.{rules}
-use Rattle.store.specs.Element.{same_key}
-use Rattle.store.specs.Tables.{id_in_row, id_keys}
+use mathlib.Core.Path.{◌≡◌}
+use Prim.Native.Nat.{◌+◌, ◌-◌, ◌≤◌}
+use Rattle.store.specs.Tables.{id_keys}
 use Rattle.enter.specs.Plan.{place_among}
-use Rattle.enter.proofs.Planning.{ids_from, find_start, find_here, find_later, find_none}
+use Rattle.enter.proofs.Planning.{ids_from}
 use Rattle.enter.proofs.plan.find_id.Given as goal
 
 abbrev pub invariant-loop-i : goal.invariant-loop-i

@@ -1,7 +1,6 @@
 -- `plan::plan_elements` meets its contract.
 -- Assumes nothing.
 use native.Mathlib.Omega.{arith}
-use borrow.Author.Rules.{rules}
 use Rattle.store.specs.Tables.{id_width, id_keys}
 use Rattle.enter.proofs.Planning.{length_keys, both_planned}
 use Rattle.enter.proofs.plan.plan_elements.Goals as goal

@@ -1,15 +1,13 @@
 -- `plan::plan_kept` meets its contract. The invariant: with the numbers still to come laid at i, the plan is what it is to be.
 -- Assumes nothing.
-use mathlib.Core.Path.{◌≡◌, refl, sym, ap, ◌∙◌}
-use mathlib.Core.List.{List, [], ◌∷◌, ◌++◌}
-use Prim.Native.Nat.{ℕ, ◌+◌, ◌-◌, ◌≤◌, ◌<◌}
-use native.Mathlib.Omega.{arith}
-use lib.ListN.{length, drop, set, length-set}
+use mathlib.Core.Path.{◌≡◌}
+use mathlib.Core.List.{◌++◌}
+use Prim.Native.Nat.{◌-◌, ◌≤◌}
+use lib.ListN.{length, drop}
 use Rattle.laws.specs.Placed.{laid}
-use Rattle.laws.proofs.Placing.{laid_nothing, lays_first}
-use Rattle.store.specs.Tables.{id_in_row, id_keys}
-use Rattle.enter.specs.Plan.{kept_source, kept_sources}
-use Rattle.enter.proofs.Planning.{ids_from, length_keys, length_kept, set_lays, kept_turn, kept_end, kept_start}
+use Rattle.store.specs.Tables.{id_keys}
+use Rattle.enter.specs.Plan.{kept_sources}
+use Rattle.enter.proofs.Planning.{ids_from}
 use Rattle.enter.proofs.plan.plan_kept.Given as goal
 
 abbrev pub invariant-loop-i : goal.invariant-loop-i

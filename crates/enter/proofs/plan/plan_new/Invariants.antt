@@ -1,16 +1,12 @@
 -- `plan::plan_new` meets its contract. The invariant: with the numbers still to come laid at the count, the plan is what it is to be.
 -- Assumes nothing.
-use mathlib.Core.Path.{◌≡◌, refl, sym, ap, ◌∙◌}
-use mathlib.Core.List.{List, [], ◌∷◌, ◌++◌}
-use Prim.Native.Nat.{ℕ, ◌+◌, ◌-◌, ◌*◌, ◌≤◌}
-use native.Mathlib.Omega.{arith}
-use lib.ListN.{length, set, length-set}
+use mathlib.Core.Path.{◌≡◌}
+use Prim.Native.Nat.{◌+◌, ◌-◌, ◌≤◌}
+use lib.ListN.{length}
 use Rattle.laws.specs.Placed.{laid}
-use Rattle.laws.proofs.Placing.{laid_nothing, lays_first}
-use Rattle.store.specs.Tables.{id_width, most_elements, id_in_row, id_keys}
-use Rattle.store.specs.declared.element.Key.{Key}
-use Rattle.enter.specs.Plan.{place_among, new_sources}
-use Rattle.enter.proofs.Planning.{ids_from, ids_start, length_keys, length_new, set_lays, new_held, new_turn, new_end}
+use Rattle.store.specs.Tables.{id_keys}
+use Rattle.enter.specs.Plan.{new_sources}
+use Rattle.enter.proofs.Planning.{ids_from}
 use Rattle.enter.proofs.plan.plan_new.Given as goal
 
 abbrev pub invariant-loop-j : goal.invariant-loop-j

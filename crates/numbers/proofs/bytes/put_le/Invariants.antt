@@ -1,14 +1,10 @@
 -- `bytes::put_le` meets its contract. The invariant: the first i bytes of x stand in front of out's own, and `rest` is what is left of x.
 -- Assumes nothing.
-use mathlib.Core.Path.{◌≡◌, refl}
+use mathlib.Core.Path.{◌≡◌}
 use mathlib.Core.List.{◌++◌}
 use Prim.Native.Nat.{◌≤◌, ◌^◌, ◌-◌, ◌/◌}
-use native.Mathlib.Nat.{div-one, div-div-eq-div-mul, pow-suc}
-use native.Mathlib.Numerals.{add-one}
-use native.Mathlib.Omega.{arith}
-use lib.ListN.{length, drop, length-set}
+use lib.ListN.{length, drop}
 use Rattle.laws.specs.Bytes.{bytes}
-use Rattle.laws.proofs.Numbers.{put_step}
 use Rattle.numbers.proofs.bytes.put_le.Given as goal
 
 abbrev pub invariant-loop-i : goal.invariant-loop-i

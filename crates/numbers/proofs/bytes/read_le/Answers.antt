@@ -1,7 +1,7 @@
 -- `bytes::read_le` meets its contract. The invariant: x is the number of the bytes from i up to n.
 -- Assumes nothing.
 use mathlib.Core.Path.{◌≡◌}
-use Prim.Native.Nat.{◌≤◌, ◌<◌, ◌^◌, ◌*◌, ◌+◌, ◌-◌}
+use Prim.Native.Nat.{◌<◌, ◌^◌, ◌*◌, ◌+◌, ◌-◌}
 use native.Mathlib.Omega.{arith}
 use lib.ListN.{get_or, take, drop, length-take, length-drop, drop_of_length-le}
 use lib.Seq.{get_or-take}

@@ -1,12 +1,9 @@
 -- `bytes::read_le` meets its contract. The invariant: x is the number of the bytes from i up to n.
 -- Assumes nothing.
 use mathlib.Core.Path.{◌≡◌}
-use Prim.Native.Nat.{◌≤◌, ◌<◌, ◌^◌, ◌*◌, ◌+◌, ◌-◌}
-use native.Mathlib.Omega.{arith}
-use lib.ListN.{get_or, take, drop, length-take, length-drop, drop_of_length-le}
-use lib.Seq.{get_or-take}
+use Prim.Native.Nat.{◌≤◌}
+use lib.ListN.{take, drop}
 use Rattle.laws.specs.Bytes.{le}
-use Rattle.laws.proofs.Numbers.{le_lt, le_step, take_bytes, drop_bytes}
 use Rattle.numbers.proofs.bytes.read_le.Given as goal
 
 abbrev pub invariant-loop-i : goal.invariant-loop-i

@@ -5,7 +5,6 @@ use native.Mathlib.Omega.{arith}
 use lib.ListN.{length}
 use Rattle.numbers.specs.Compact.{compact_bytes, form_of}
 use Rattle.numbers.proofs.Forms.{form_of_le, length_compact, size_le}
-use borrow.Author.Rules.{rules}
 use Rattle.numbers.proofs.compact.compact_length.Goals as goal
 
 pub returns-then-v-eq0 : goal.returns-then-v-eq0

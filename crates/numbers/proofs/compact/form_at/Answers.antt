@@ -7,7 +7,6 @@ use lib.ListN.{get_or}
 use lib.Count.{count_trailing_zeros}
 use Rattle.numbers.specs.Compact.{read_compact}
 use Rattle.numbers.proofs.LowestBit.{zeros_lt}
-use borrow.Author.Rules.{rules}
 use Rattle.numbers.proofs.compact.form_at.Goals as goal
 use Rattle.numbers.proofs.compact.form_at.Goals.{Else-b-eq0}
 

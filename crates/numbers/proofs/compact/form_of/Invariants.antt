@@ -1,12 +1,8 @@
 -- `compact::form_of` meets its contract. The invariant: the form of v is k forms more than that of the rest.
 -- Assumes nothing.
-use mathlib.Core.Path.{◌≡◌, sym, ◌∙◌}
-use Prim.Native.Nat.{◌+◌, ◌-◌, ◌≤◌, ◌<◌}
-use native.Mathlib.Nat.{add-zero}
-use native.Mathlib.Omega.{arith}
-use borrow.Author.Tests.{ltb-true, ltb-false}
+use mathlib.Core.Path.{◌≡◌}
+use Prim.Native.Nat.{◌+◌, ◌-◌, ◌≤◌}
 use Rattle.numbers.specs.Compact.{form_from, form_of}
-use Rattle.numbers.proofs.Forms.{form_more, form_no_more}
 use Rattle.numbers.proofs.compact.form_of.Given as goal
 
 abbrev pub invariant-loop-rest : goal.invariant-loop-rest

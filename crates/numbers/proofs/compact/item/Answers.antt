@@ -1,7 +1,6 @@
 -- `compact::item` meets its contract: what the form says, and 3 where padding is refused.
 -- Assumes nothing.
 use Rattle.numbers.specs.Compact.{compact_for}
-use borrow.Author.Rules.{rules}
 use Rattle.numbers.proofs.compact.item.Goals as goal
 
 pub returns-then-padding : goal.returns-then-padding

@@ -1,11 +1,9 @@
 -- `compact::put_form` meets its contract: the long form is a byte 128 and then the value, any other one number.
 -- Assumes nothing.
-use mathlib.Core.Path.{◌≡◌, ◌∙◌}
-use Prim.Native.Nat.{◌+◌, ◌*◌, ◌%◌, ◌^◌, ◌<◌, ◌-◌}
-use borrow.Author.Rules.{rules}
+use mathlib.Core.Path.{◌≡◌}
+use Prim.Native.Nat.{◌+◌, ◌*◌, ◌%◌, ◌^◌, ◌<◌}
 use native.Mathlib.Omega.{arith}
-use lib.ListN.{length, set, length-set}
-use borrow.Rule.Slice.PartMut.{same_len_mid}
+use lib.ListN.{set, length-set}
 use Rattle.numbers.specs.Compact.{with_form, size_of}
 use Rattle.laws.proofs.Parts.{tail_part, tail_length, mid_tail}
 use Rattle.numbers.proofs.Forms.{size_long, size_short, long_put, with_form_shl, with_form_short}

@@ -6,7 +6,6 @@ use Prim.Native.Nat.{◌≤◌, ◌<◌}
 use lib.ListN.{length}
 use Rattle.numbers.specs.Compact.{read_form, size_of}
 use Rattle.numbers.proofs.Forms.{least_shl}
-use borrow.Author.Rules.{rules}
 use Rattle.numbers.proofs.compact.read_form.Goals as goal
 
 pub returns-then-s-n : goal.returns-then-s-n

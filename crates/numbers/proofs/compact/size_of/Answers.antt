@@ -1,6 +1,5 @@
 -- `compact::size_of` meets its contract.
 -- Assumes nothing.
-use borrow.Author.Rules.{rules}
 use borrow.Author.Tests.{eq-eqb, ne_eqb}
 use Rattle.numbers.specs.Compact.{size_of}
 use Rattle.numbers.proofs.compact.size_of.Goals as goal

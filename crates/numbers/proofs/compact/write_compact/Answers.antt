@@ -6,7 +6,6 @@ use lib.ListN.{length}
 use Rattle.numbers.specs.Compact.{size_of, compact_bytes}
 use Rattle.numbers.proofs.Forms.{form_of_le, with_form_lt, compact_is, length_compact}
 use Rattle.numbers.proofs.Calls.{wrote_short, wrote_done}
-use borrow.Author.Rules.{rules}
 use Rattle.numbers.proofs.compact.write_compact.Goals as goal
 
 pub returns-then-v-eq0 : goal.returns-then-v-eq0

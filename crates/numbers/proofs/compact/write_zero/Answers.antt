@@ -5,7 +5,6 @@ use mathlib.Core.List.{[], ◌∷◌}
 use lib.ListN.{set}
 use lib.Seq.{set_split}
 use Rattle.numbers.proofs.Calls.{wrote_short, wrote_done}
-use borrow.Author.Rules.{rules}
 use Rattle.numbers.proofs.compact.write_zero.Goals as goal
 
 pub returns-then-out-lt1 : goal.returns-then-out-lt1

@@ -5,7 +5,6 @@ use native.Mathlib.Omega.{arith}
 use Rattle.numbers.specs.ExtendedGuid.{extended_guid_bytes}
 use Rattle.numbers.proofs.ExtendedGuids.{named_5, named_10, named_17, named_32, length_short}
 use Rattle.numbers.proofs.Guids.{length_tagged}
-use borrow.Author.Rules.{rules}
 use Rattle.numbers.proofs.extended_guid.extended_guid_length.Goals as goal
 
 pub returns-then-x-lt32 : goal.returns-then-x-lt32

@@ -2,7 +2,6 @@
 -- Assumes nothing.
 use borrow.Author.Tests.{eq-eqb, ne_eqb}
 use Rattle.numbers.specs.ExtendedGuid.{read_extended_guid, form_of_id}
-use borrow.Author.Rules.{rules}
 use Rattle.numbers.proofs.extended_guid.item.Goals as goal
 
 pub returns-then-s-eq0 : goal.returns-then-s-eq0

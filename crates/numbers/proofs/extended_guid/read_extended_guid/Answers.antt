@@ -2,7 +2,6 @@
 -- Assumes nothing.
 use mathlib.Core.Path.{sym}
 use Rattle.numbers.proofs.Calls.{single_over, single_item}
-use borrow.Author.Rules.{rules}
 use Rattle.numbers.proofs.extended_guid.read_extended_guid.Goals as goal
 
 pub returns-then-s-gt-LONGEST_INPUT : goal.returns-then-s-gt-LONGEST_INPUT

@@ -9,7 +9,6 @@ use lib.ListN.{take, drop, length-take}
 use Rattle.laws.specs.Bytes.{le}
 use Rattle.laws.proofs.Numbers.{le_lt, take_bytes, drop_bytes}
 use Rattle.numbers.specs.ExtendedGuid.{long_form, named_of}
-use borrow.Author.Rules.{rules}
 use Rattle.numbers.proofs.extended_guid.read_long.Goals as goal
 
 pub returns-then-s-lt21 : goal.returns-then-s-lt21

@@ -5,7 +5,6 @@ use borrow.Author.Tests.{lt-ltb, le-ltb}
 use Rattle.laws.proofs.Parts.{tail_part}
 use Rattle.numbers.specs.ExtendedGuid.{short_form, named_of}
 use Rattle.numbers.proofs.ExtendedGuids.{short_fits}
-use borrow.Author.Rules.{rules}
 use Rattle.numbers.proofs.extended_guid.read_short.Goals as goal
 
 pub returns-then-s-n : goal.returns-then-s-n

@@ -1,7 +1,6 @@
 -- `extended_guid::write_extended_guid` meets its contract: null, or the GUID and the number.
 -- Assumes nothing.
 use Rattle.numbers.specs.ExtendedGuid.{extended_guid_bytes}
-use borrow.Author.Rules.{rules}
 use Rattle.numbers.proofs.extended_guid.write_extended_guid.Goals as goal
 
 pub returns-in-Null : goal.returns-in-Null

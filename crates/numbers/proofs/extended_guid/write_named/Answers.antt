@@ -2,7 +2,6 @@
 -- Assumes nothing.
 use native.Mathlib.Omega.{arith}
 use Rattle.numbers.proofs.ExtendedGuids.{named_5, named_10, named_17, named_32, room_5, room_10, room_17}
-use borrow.Author.Rules.{rules}
 use Rattle.numbers.proofs.extended_guid.write_named.Goals as goal
 
 pub write_short-requires : goal.write_short-requires

@@ -17,7 +17,6 @@ use Rattle.numbers.specs.ExtendedGuid.{short_bytes}
 use Rattle.numbers.proofs.Forms.{with_form_shl}
 use Rattle.numbers.proofs.ExtendedGuids.{length_short}
 use Rattle.numbers.proofs.Calls.{wrote_short, wrote_done}
-use borrow.Author.Rules.{rules}
 use Rattle.numbers.proofs.extended_guid.write_short.Goals as goal
 use Rattle.numbers.proofs.extended_guid.write_short.Goals.{Else-out-n}
 

@@ -2,7 +2,6 @@
 -- Assumes nothing.
 use Rattle.laws.proofs.Parts.{tail_part}
 use Rattle.numbers.specs.Guid.{guid_at}
-use borrow.Author.Rules.{rules}
 use Rattle.numbers.proofs.guid.guid_at.Goals as goal
 
 pub returns : goal.returns

@@ -8,7 +8,6 @@ use Rattle.laws.specs.Bytes.{bytes}
 use lib.ListN.{drop}
 use lib.Seq.{drop-drop}
 use Rattle.numbers.specs.Guid.{guid_bytes}
-use borrow.Author.Rules.{rules}
 use Rattle.numbers.proofs.guid.put_guid.Goals as goal
 
 pub returns : goal.returns

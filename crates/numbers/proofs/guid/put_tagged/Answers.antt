@@ -9,7 +9,6 @@ use lib.ListN.{length, take, drop, set, length-set}
 use borrow.Rule.Slice.PartMut.{put_mid, same_len_mid}
 use Rattle.numbers.specs.Guid.{guid_bytes}
 use Rattle.numbers.proofs.Guids.{tagged_put}
-use borrow.Author.Rules.{rules}
 use Rattle.numbers.proofs.guid.put_tagged.Goals as goal
 use Rattle.numbers.proofs.guid.put_tagged.Goals.{After-put_guid}
 

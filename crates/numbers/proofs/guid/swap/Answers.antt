@@ -2,7 +2,6 @@
 -- Assumes nothing.
 use mathlib.Core.Path.{sym}
 use Rattle.numbers.proofs.Guids.{swapped_is}
-use borrow.Author.Rules.{rules}
 use Rattle.numbers.proofs.guid.swap.Goals as goal
 
 pub returns : goal.returns

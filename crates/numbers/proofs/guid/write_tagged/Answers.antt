@@ -7,7 +7,6 @@ use lib.Seq.{drop-drop}
 use Rattle.numbers.specs.Guid.{tagged_bytes}
 use Rattle.numbers.proofs.Guids.{length_tagged}
 use Rattle.numbers.proofs.Calls.{wrote_short, wrote_done}
-use borrow.Author.Rules.{rules}
 use Rattle.numbers.proofs.guid.write_tagged.Goals as goal
 
 pub returns-then-out-needed : goal.returns-then-out-needed

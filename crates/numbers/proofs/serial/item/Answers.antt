@@ -2,7 +2,6 @@
 -- Assumes nothing.
 use borrow.Author.Tests.{eq-eqb, ne_eqb}
 use Rattle.numbers.specs.Serial.{read_serial}
-use borrow.Author.Rules.{rules}
 use Rattle.numbers.proofs.serial.item.Goals as goal
 
 pub returns-then-s-eq0 : goal.returns-then-s-eq0

@@ -3,7 +3,6 @@
 use borrow.Author.Tests.{lt-ltb, le-ltb}
 use Rattle.laws.proofs.Parts.{tail_part}
 use Rattle.numbers.specs.Serial.{numbered}
-use borrow.Author.Rules.{rules}
 use Rattle.numbers.proofs.serial.read_numbered.Goals as goal
 
 pub returns-then-s-lt25 : goal.returns-then-s-lt25

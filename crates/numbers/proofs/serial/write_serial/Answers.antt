@@ -1,7 +1,6 @@
 -- `serial::write_serial` meets its contract: null, or the GUID and the number.
 -- Assumes nothing.
 use Rattle.numbers.specs.Serial.{serial_bytes}
-use borrow.Author.Rules.{rules}
 use Rattle.numbers.proofs.serial.write_serial.Goals as goal
 
 pub returns-in-Null : goal.returns-in-Null

@@ -4,7 +4,6 @@ use mathlib.Core.Path.{sym}
 use Rattle.laws.proofs.Parts.{tail_part}
 use Rattle.objects.specs.Header.{header_at}
 use Rattle.objects.proofs.HeaderLaws.{header_past}
-use borrow.Author.Rules.{rules}
 use Rattle.objects.proofs.header.header_at.Goals as goal
 
 pub returns-then-s-at : goal.returns-then-s-at

@@ -2,7 +2,6 @@
 -- Assumes nothing.
 use borrow.Author.Tests.{eq-eqb, ne_eqb}
 use Rattle.objects.specs.Header.{header_of}
-use borrow.Author.Rules.{rules}
 use Rattle.objects.proofs.header.header_of.Goals as goal
 
 pub returns-then-t-eq0 : goal.returns-then-t-eq0

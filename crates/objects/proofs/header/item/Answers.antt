@@ -2,7 +2,6 @@
 -- Assumes nothing.
 use mathlib.Core.Path.{sym, ◌∙◌}
 use Rattle.objects.specs.Header.{whole_header}
-use borrow.Author.Rules.{rules}
 use Rattle.objects.proofs.header.item.Goals as goal
 
 pub returns-in-Is : goal.returns-in-Is

@@ -6,7 +6,6 @@ use borrow.Author.Tests.{eq-eqb, ne_eqb}
 use Rattle.laws.proofs.Parts.{tail_part}
 use Rattle.objects.specs.Header.{length_at}
 use Rattle.objects.proofs.HeaderLaws.{compact_past, compact_fits}
-use borrow.Author.Rules.{rules}
 use Rattle.objects.proofs.header.length_at.Goals as goal
 
 pub returns-then-n-ne-ESCAPE : goal.returns-then-n-ne-ESCAPE

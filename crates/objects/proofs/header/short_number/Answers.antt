@@ -5,7 +5,6 @@ use native.Mathlib.Omega.{arith}
 use borrow.Author.Tests.{lt-ltb, le-ltb}
 use Rattle.laws.proofs.Parts.{tail_part}
 use Rattle.objects.specs.Next.{short_number}
-use borrow.Author.Rules.{rules}
 use Rattle.objects.proofs.header.short_number.Goals as goal
 
 less_than_two : (n at : ℕ) → n - 1 ≤ at → n - at < 2

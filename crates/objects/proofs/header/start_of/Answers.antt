@@ -2,7 +2,6 @@
 -- Assumes nothing.
 use borrow.Author.Tests.{lt-ltb, le-ltb}
 use Rattle.objects.specs.Header.{sized, start_of}
-use borrow.Author.Rules.{rules}
 use Rattle.objects.proofs.header.start_of.Goals as goal
 
 pub returns-then-t-n : goal.returns-then-t-n

@@ -5,7 +5,6 @@ use mathlib.Core.Bool.{true, false}
 use Prim.Native.Nat.{ℕ, ◌+◌}
 use native.Mathlib.Omega.{arith}
 use Rattle.objects.proofs.HeaderForms.{length_short, length_own, length_behind}
-use borrow.Author.Rules.{rules}
 use Rattle.objects.proofs.header_write.start_length.Goals as goal
 
 pub returns-then-is_short : goal.returns-then-is_short

@@ -2,7 +2,6 @@
 -- Assumes nothing.
 use native.Mathlib.Omega.{arith}
 use Rattle.objects.specs.Header.{start_number}
-use borrow.Author.Rules.{rules}
 use Rattle.objects.proofs.header_write.start_number.Goals as goal
 
 pub returns-then-compound : goal.returns-then-compound

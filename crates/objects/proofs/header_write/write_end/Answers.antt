@@ -3,7 +3,6 @@
 use Rattle.objects.specs.Header.{end_bytes}
 use Rattle.objects.proofs.HeaderForms.{end_short, end_long}
 use Rattle.objects.proofs.Calls.{typed_over, typed_within}
-use borrow.Author.Rules.{rules}
 use Rattle.objects.proofs.header_write.write_end.Goals as goal
 
 pub returns-then-kind-gt16383 : goal.returns-then-kind-gt16383

@@ -12,7 +12,6 @@ use Rattle.laws.proofs.Parts.{tail_part, mid_tail}
 use Rattle.laws.proofs.Placing.{placed_fits, laid_behind}
 use Rattle.numbers.specs.Compact.{compact_bytes}
 use Rattle.numbers.proofs.Calls.{wrote_short, wrote_done}
-use borrow.Author.Rules.{rules}
 use Rattle.objects.proofs.header_write.write_lengthened.Goals as goal
 
 pub returns-then-out-needed : goal.returns-then-out-needed

@@ -1,7 +1,6 @@
 -- `header_write::write_long_start` meets its contract: the length stands in the header, or behind it.
 -- Assumes nothing.
 use Rattle.objects.proofs.HeaderForms.{long_own, long_behind}
-use borrow.Author.Rules.{rules}
 use Rattle.objects.proofs.header_write.write_long_start.Goals as goal
 
 pub returns-then-length-lt-ESCAPE : goal.returns-then-length-lt-ESCAPE

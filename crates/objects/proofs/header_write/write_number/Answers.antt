@@ -3,7 +3,6 @@
 use Rattle.laws.specs.Bytes.{bytes}
 use Rattle.laws.proofs.Numbers.{length_bytes}
 use Rattle.numbers.proofs.Calls.{wrote_short, wrote_done}
-use borrow.Author.Rules.{rules}
 use Rattle.objects.proofs.header_write.write_number.Goals as goal
 
 pub returns-then-out-n : goal.returns-then-out-n

@@ -5,7 +5,6 @@ use native.Mathlib.Omega.{arith}
 use Rattle.objects.specs.Header.{start_bytes}
 use Rattle.objects.proofs.HeaderForms.{short_bounds, start_short, start_long}
 use Rattle.objects.proofs.Calls.{typed_over, typed_within}
-use borrow.Author.Rules.{rules}
 use Rattle.objects.proofs.header_write.write_start.Goals as goal
 
 pub returns-then-kind-gt16383 : goal.returns-then-kind-gt16383

@@ -5,7 +5,6 @@ use Rattle.objects.specs.Steps.{GoodIn}
 use Rattle.objects.specs.declared.reading.Reading.TheVariants.{Refused}
 use borrow.Author.Tests.{lt-ltb, le-ltb, eq-eqb, ne_eqb}
 use Rattle.objects.specs.Steps.{closed_at}
-use borrow.Author.Rules.{rules}
 use Rattle.objects.proofs.layout.closed_at.Goals as goal
 
 pub carry-requires : goal.carry-requires

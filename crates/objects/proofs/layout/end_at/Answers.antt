@@ -5,7 +5,6 @@ use native.Mathlib.Omega.{arith}
 use Rattle.objects.proofs.HeaderLaws.{header_fits_at}
 use Rattle.objects.proofs.Short.{short_room, short_ends}
 use borrow.Author.Tests.{lt-ltb, le-ltb, eq-eqb, ne_eqb}
-use borrow.Author.Rules.{rules}
 use Rattle.objects.proofs.layout.end_at.Goals as goal
 
 pub bounds-s-at : goal.bounds-s-at

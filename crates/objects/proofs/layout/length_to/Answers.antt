@@ -3,7 +3,6 @@
 use borrow.Author.Tests.{lt-ltb, le-ltb, eq-eqb, ne_eqb}
 use Rattle.objects.specs.Steps.{length_to}
 use mathlib.Core.Path.{sym, ◌∙◌}
-use borrow.Author.Rules.{rules}
 use Rattle.objects.proofs.layout.length_to.Goals as goal
 
 pub returns-in-Is : goal.returns-in-Is

@@ -2,7 +2,6 @@
 -- Assumes nothing.
 use native.Mathlib.Nat.{add-sub_cancel_left}
 use Rattle.objects.proofs.ItemsAt.{part_past, rest_part}
-use borrow.Author.Rules.{rules}
 use Rattle.objects.proofs.layout.part.Goals as goal
 
 pub returns-then-len-from : goal.returns-then-len-from

@@ -2,7 +2,6 @@
 -- Assumes nothing.
 use borrow.Author.Tests.{lt-ltb, le-ltb, eq-eqb, ne_eqb}
 use Rattle.objects.specs.Next.{short_is}
-use borrow.Author.Rules.{rules}
 use Rattle.objects.proofs.layout.short_is.Goals as goal
 
 pub returns-then-w-ne0 : goal.returns-then-w-ne0

@@ -3,7 +3,6 @@
 use mathlib.Core.Path.{sym, ◌∙◌}
 use native.Mathlib.Omega.{arith}
 use Rattle.objects.proofs.Short.{short_room, short_is_lem, short_start_on}
-use borrow.Author.Rules.{rules}
 use Rattle.objects.proofs.layout.start_at.Goals as goal
 
 pub overflow_add-result : goal.overflow_add-result

@@ -4,7 +4,6 @@ use mathlib.Core.Path.{sym, ◌∙◌}
 use native.Mathlib.Omega.{arith}
 use borrow.Author.Tests.{eq-eqb, ne_eqb}
 use Rattle.objects.proofs.HeaderLaws.{header_fits_at}
-use borrow.Author.Rules.{rules}
 use Rattle.objects.proofs.layout.start_by_header.Goals as goal
 
 pub returns-then-k-outer : goal.returns-then-k-outer

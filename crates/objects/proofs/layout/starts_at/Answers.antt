@@ -3,7 +3,6 @@
 use mathlib.Core.Path.{sym, ◌∙◌}
 use Rattle.objects.proofs.Short.{short_starts}
 use borrow.Author.Tests.{lt-ltb, le-ltb, eq-eqb, ne_eqb}
-use borrow.Author.Rules.{rules}
 use Rattle.objects.proofs.layout.starts_at.Goals as goal
 
 pub returns-then-w-eq0 : goal.returns-then-w-eq0

@@ -1,7 +1,6 @@
 -- `nesting::read_object` and `nesting::read_run`, which call each other, meet their contracts.
 -- Assumes nothing.
-use Rattle.std.proofs.Common.{◌≡◌, ℕ, true, ◌+◌, ◌<◌, ◌≤◌, length, sym, ap, ◌∙◌, refl, arith}
-use Rattle.objects.specs.Nesting.{run_at}
+use Rattle.std.proofs.Common.{◌≡◌, ℕ, true, sym, ap, ◌∙◌, refl, arith}
 use Rattle.objects.specs.Next.{next_at, told_number}
 use Rattle.objects.specs.declared.nesting.Passed.TheVariants.{Refused}
 use Rattle.objects.specs.declared.nesting.Next.TheVariants.{Opens}
@@ -33,10 +32,12 @@ read_object-returns-in-Ends t c =
 opens : (t : ℕ) (c : read_object-Joined-inside-eq0 t)
     → next_at c.args.padding c.args.s.now c.args.at c.args.depth ≡ Opens c.if-inside-eq0.kind c.if-inside-eq0.inside
 opens t c =
-    elim c.if-inside-eq0.branch [ read_object-then-inside-eq0+in-Opens w ↦
-    opens_as _ _ _ _ _ _ _ _ (sym w.next_by_header.ensures ∙ w.in-Opens.is) w.kind-is w.inside-is
-    | read_object-else-inside-eq0 w ↦
-    opened_opens _ _ _ _ _ _ _ _ (sym c.short_number-w.ensures) (sym c.opened_at-inside.ensures) w.if-inside-eq0.false w.kind-is w.inside-is ]
+    elim c.if-inside-eq0.branch [
+      | read_object-then-inside-eq0+in-Opens w ↦
+          opens_as _ _ _ _ _ _ _ _ (sym w.next_by_header.ensures ∙ w.in-Opens.is) w.kind-is w.inside-is
+      | read_object-else-inside-eq0 w ↦
+          opened_opens _ _ _ _ _ _ _ _ (sym c.short_number-w.ensures) (sym c.opened_at-inside.ensures) w.if-inside-eq0.false w.kind-is w.inside-is
+    ]
 
 pub read_object-overflow_sub-depth : goal.read_object-overflow_sub-depth
 read_object-overflow_sub-depth t c = (next_ahead _ _ _ _ _ (opens t c)).2

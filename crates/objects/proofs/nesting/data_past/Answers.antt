@@ -3,7 +3,6 @@
 use mathlib.Core.Path.{sym, ◌∙◌}
 use borrow.Author.Tests.{lt-ltb, le-ltb}
 use Rattle.objects.specs.Nesting.{data_past}
-use borrow.Author.Rules.{rules}
 use Rattle.objects.proofs.nesting.data_past.Goals as goal
 
 pub returns-then-left-v : goal.returns-then-left-v

@@ -4,7 +4,6 @@ use mathlib.Core.Path.{sym, ◌∙◌}
 use native.Mathlib.Omega.{arith}
 use Rattle.objects.proofs.Short.{short_room}
 use Rattle.objects.proofs.Next.{met_by_header, met_ended, met_other_end, met_compound, met_cut, met_wide, met_plain}
-use borrow.Author.Rules.{rules}
 use Rattle.objects.proofs.nesting.met_at.Goals as goal
 
 pub overflow_add-result : goal.overflow_add-result

@@ -1,7 +1,6 @@
 -- `nesting::met_by_header` meets its contract.
 -- Assumes nothing.
 use mathlib.Core.Path.{sym, ◌∙◌}
-use borrow.Author.Rules.{rules}
 use Rattle.objects.proofs.Next.{next_met, next_own_end, next_other_end}
 use Rattle.objects.proofs.nesting.met_by_header.Goals as goal
 

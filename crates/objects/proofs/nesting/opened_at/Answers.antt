@@ -4,7 +4,6 @@ use mathlib.Core.Path.{sym}
 use native.Mathlib.Omega.{arith}
 use Rattle.objects.proofs.Short.{short_room}
 use Rattle.objects.proofs.Next.{opened_other, opened_over, opened_cut, opened_wide, opened_there}
-use borrow.Author.Rules.{rules}
 use Rattle.objects.proofs.nesting.opened_at.Goals as goal
 
 pub returns-then-w-ne4 : goal.returns-then-w-ne4

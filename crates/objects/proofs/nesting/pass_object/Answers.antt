@@ -5,7 +5,6 @@ use native.Mathlib.Omega.{arith}
 use Rattle.objects.specs.declared.nesting.Passed.TheVariants.{Refused}
 use Rattle.objects.proofs.Ahead.{object_ahead}
 use Rattle.objects.proofs.Told.{told_goes, told_both, object_behind}
-use borrow.Author.Rules.{rules}
 use Rattle.objects.proofs.nesting.pass_object.Goals as goal
 
 pub returns-then-s-at : goal.returns-then-s-at

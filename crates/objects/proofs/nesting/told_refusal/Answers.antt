@@ -1,7 +1,6 @@
 -- `nesting::told_refusal` meets its contract.
 -- Assumes nothing.
 use Rattle.objects.specs.Next.{told_refusal}
-use borrow.Author.Rules.{rules}
 use Rattle.objects.proofs.nesting.told_refusal.Goals as goal
 
 pub returns-then-placed : goal.returns-then-placed

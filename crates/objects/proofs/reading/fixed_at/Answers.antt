@@ -4,7 +4,6 @@ use Rattle.laws.specs.Bytes.{le}
 use mathlib.Core.Path.{◌≡◌}
 use native.Mathlib.Omega.{arith}
 use Rattle.laws.proofs.Parts.{tail_part}
-use borrow.Author.Rules.{rules}
 use Rattle.objects.proofs.reading.fixed_at.Goals as goal
 
 pub returns-then-s-at : goal.returns-then-s-at

@@ -5,7 +5,6 @@ use mathlib.Core.List.{List}
 use Prim.Native.Nat.{ℕ, ◌≤◌}
 use native.Mathlib.Omega.{arith}
 use lib.ListN.{get_or-replicate}
-use borrow.Author.Rules.{rules}
 use Rattle.store.specs.Tables.{most_elements}
 use Rattle.store.specs.declared.element.Element.{Element}
 use Rattle.order.specs.Links.{RowsQueued, queued_from, FlagsAre, chosen_groups, GroupsLaid}

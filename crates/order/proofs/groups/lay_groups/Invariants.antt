@@ -1,12 +1,7 @@
 -- `groups::lay_groups` meets its contract. The invariant is `GroupsLaying`.
 -- Assumes nothing.
-use mathlib.Core.Path.{◌∙◌}
-use Prim.Native.Nat.{◌-◌, ◌≤◌, ◌<◌}
-use native.Mathlib.Omega.{arith}
-use lib.ListN.{set, length-set}
-use Rattle.store.specs.Tables.{most_elements}
-use Rattle.order.specs.Links.{ToGroup}
-use Rattle.order.proofs.GroupsLaying.{first_end, GroupsLaying, groups_start, groups_passed, groups_room, to_lay_lem, groups_left, groups_laid, groups_end}
+use Prim.Native.Nat.{◌-◌}
+use Rattle.order.proofs.GroupsLaying.{GroupsLaying}
 use Rattle.order.proofs.groups.lay_groups.Given as goal
 
 abbrev pub invariant-loop-k : goal.invariant-loop-k

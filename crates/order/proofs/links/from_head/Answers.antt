@@ -1,6 +1,5 @@
 -- `links::from_head` meets its contract.
 -- Assumes nothing.
-use borrow.Author.Rules.{rules}
 use borrow.Author.Tests.{eq-eqb, ne_eqb}
 use Rattle.order.specs.Links.{from_head}
 use Rattle.order.proofs.links.from_head.Goals as goal

@@ -3,8 +3,7 @@
 use mathlib.Core.Path.{◌≡◌, refl, sym, ap, subst, ◌∙◌}
 use Prim.Native.Nat.{ℕ, suc, ◌+◌, ◌-◌, ◌≤◌, ◌<◌}
 use native.Mathlib.Omega.{arith}
-use lib.ListN.{length, get_or, set, length-set}
-use borrow.Author.Rules.{rules}
+use lib.ListN.{get_or, set, length-set}
 use Rattle.store.specs.Tables.{most_elements, mark_of}
 use Rattle.store.specs.declared.element.Element.{Element}
 use Rattle.order.specs.Links.{queued_at, queued_from, first_sharing, from_head, head_count, LinkedFrom}

@@ -3,7 +3,6 @@
 use mathlib.Core.Path.{refl}
 use Prim.Native.Nat.{ℕ}
 use lib.ListN.{get_or-replicate}
-use borrow.Author.Rules.{rules}
 use Rattle.order.specs.Links.{head_count}
 use Rattle.order.proofs.links.link_rows.Goals as goal
 

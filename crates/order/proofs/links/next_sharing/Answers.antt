@@ -2,13 +2,11 @@
 -- Assumes nothing.
 use mathlib.Core.Path.{◌≡◌, refl, sym, ap, ◌∙◌}
 use mathlib.Core.Bool.{Bool, true, false}
-use Prim.Native.Nat.{◌-◌, ◌≤◌}
 use native.Mathlib.Omega.{arith}
 use native.Mathlib.Numerals.{add-one}
-use borrow.Author.Rules.{rules}
 use Rattle.store.specs.declared.element.Element.{Element}
 use Rattle.order.specs.Groups.{sharing}
-use Rattle.order.specs.Links.{queued_at, queued_from, first_sharing}
+use Rattle.order.specs.Links.{queued_at}
 use Rattle.order.proofs.Linking.{row_stands, first_passes, first_stops, first_ends}
 use Rattle.order.proofs.links.next_sharing.Goals as goal
 use Rattle.order.proofs.links.next_sharing.Goals.{After-same_key}

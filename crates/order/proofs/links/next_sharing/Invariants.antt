@@ -1,15 +1,8 @@
 -- `links::next_sharing` meets its contract. The invariant: of those that were passed none shares the serial number.
 -- Assumes nothing.
-use mathlib.Core.Path.{◌≡◌, refl, sym, ap, ◌∙◌}
-use mathlib.Core.Bool.{Bool, true, false}
+use mathlib.Core.Path.{◌≡◌}
 use Prim.Native.Nat.{◌-◌, ◌≤◌}
-use native.Mathlib.Omega.{arith}
-use native.Mathlib.Numerals.{add-one}
-use borrow.Author.Rules.{rules}
-use Rattle.store.specs.declared.element.Element.{Element}
-use Rattle.order.specs.Groups.{sharing}
-use Rattle.order.specs.Links.{queued_at, queued_from, first_sharing}
-use Rattle.order.proofs.Linking.{row_stands, first_passes, first_stops, first_ends}
+use Rattle.order.specs.Links.{queued_from, first_sharing}
 use Rattle.order.proofs.links.next_sharing.Given as goal
 
 abbrev pub invariant-loop-k : goal.invariant-loop-k

@@ -1,11 +1,8 @@
 -- `queue::join_parts` meets its contract. The invariant is `Joining`.
 -- Assumes nothing.
-use mathlib.Core.Path.{◌≡◌, refl}
-use Prim.Native.Nat.{◌-◌}
+use mathlib.Core.Path.{refl}
 use native.Mathlib.Omega.{arith}
-use lib.ListN.{length}
-use Rattle.order.specs.Queue.{ranks}
-use Rattle.order.proofs.Joining.{Joining, joining_start, joining_fits, joining_more, joining_end}
+use Rattle.order.proofs.Joining.{joining_start, joining_fits, joining_more, joining_end}
 use Rattle.order.proofs.queue.join_parts.Goals as goal
 
 pub loop-r-init : goal.loop-r-init

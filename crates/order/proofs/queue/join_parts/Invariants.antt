@@ -1,11 +1,10 @@
 -- `queue::join_parts` meets its contract. The invariant is `Joining`.
 -- Assumes nothing.
-use mathlib.Core.Path.{◌≡◌, refl}
+use mathlib.Core.Path.{◌≡◌}
 use Prim.Native.Nat.{◌-◌}
-use native.Mathlib.Omega.{arith}
 use lib.ListN.{length}
 use Rattle.order.specs.Queue.{ranks}
-use Rattle.order.proofs.Joining.{Joining, joining_start, joining_fits, joining_more, joining_end}
+use Rattle.order.proofs.Joining.{Joining}
 use Rattle.order.proofs.queue.join_parts.Given as goal
 
 abbrev pub invariant-loop-r : goal.invariant-loop-r

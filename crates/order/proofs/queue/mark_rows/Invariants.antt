@@ -1,14 +1,9 @@
 -- `queue::mark_rows` meets its contract. The invariant: the rows at the positions from k on are marked.
 -- Assumes nothing.
-use mathlib.Core.Path.{◌≡◌, refl, ap, ◌∙◌}
-use mathlib.Core.List.{List}
-use Prim.Native.Nat.{ℕ, suc, ◌-◌, ◌≤◌, ◌<◌}
-use native.Mathlib.Omega.{arith}
-use lib.ListN.{length, take, drop, get_or, set, length-set}
-use lib.Seq.{get_or-take, length-take-le}
+use mathlib.Core.Path.{◌≡◌}
+use Prim.Native.Nat.{◌≤◌}
+use lib.ListN.{length, take, drop}
 use Rattle.order.specs.Queue.{marking}
-use Rattle.order.proofs.Queueing.{each_get}
-use Rattle.order.proofs.Marking.{marking_start, marking_more}
 use Rattle.order.proofs.queue.mark_rows.Given as goal
 
 abbrev pub invariant-loop-k : goal.invariant-loop-k

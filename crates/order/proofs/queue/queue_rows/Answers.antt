@@ -7,7 +7,6 @@ use Rattle.store.specs.Tables.{elements_in}
 use Rattle.order.specs.Queue.{ranks, part_length}
 use Rattle.order.proofs.Joining.{parts_queue}
 use Rattle.order.proofs.Queueing.{queue_most}
-use borrow.Author.Rules.{rules}
 use Rattle.order.proofs.queue.queue_rows.Goals as goal
 
 pub part_rows-requires : goal.part_rows-requires

@@ -1,11 +1,9 @@
 -- `rows::put_queued` meets its contract. The invariant: the rows of the first k stand in front of the table's own numbers.
 -- Assumes nothing.
 use mathlib.Core.Path.{◌≡◌, refl}
-use Prim.Native.Nat.{◌-◌, ◌≤◌}
 use native.Mathlib.Omega.{arith}
-use lib.ListN.{length}
 use Rattle.order.proofs.Queueing.{queued_row}
-use Rattle.order.proofs.Putting.{put, put_none, put_next}
+use Rattle.order.proofs.Putting.{put_none, put_next}
 use Rattle.order.proofs.rows.put_queued.Goals as goal
 
 pub loop-k-init : goal.loop-k-init

@@ -3,7 +3,6 @@
 use Prim.Native.Nat.{◌*◌}
 use native.Mathlib.Omega.{arith}
 use lib.ListN.{length-set}
-use borrow.Author.Rules.{rules}
 use Rattle.order.proofs.Putting.{put_seven}
 use Rattle.order.proofs.rows.put_ranked.Goals as goal
 

@@ -4,7 +4,6 @@ use native.Mathlib.Omega.{arith}
 use lib.ListN.{replicate}
 use Rattle.store.specs.Tables.{most_elements}
 use Rattle.order.proofs.Queueing.{queue_stands, all_queued}
-use borrow.Author.Rules.{rules}
 use Rattle.order.proofs.rows.put_rows.Goals as goal
 
 pub put_queued-requires : goal.put_queued-requires

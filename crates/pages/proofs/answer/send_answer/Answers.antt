@@ -9,7 +9,6 @@ use Rattle.store.proofs.Elements.{rows_up_to}
 use Rattle.pages.specs.Answer.{outcome, answer_told, rows_after, ranges_after, output_after}
 use Rattle.pages.specs.Held.{WorkingTables, Ready}
 use Rattle.pages.proofs.Stored.{new_tables, page_follows, refusal_follows, ready_tells, ready_gives}
-use borrow.Author.Rules.{rules}
 use Rattle.pages.proofs.answer.send_answer.Goals as goal
 use Rattle.pages.proofs.answer.send_answer.Goals.{After-decide_answer, In-Page}
 

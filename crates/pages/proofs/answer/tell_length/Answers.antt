@@ -8,7 +8,6 @@ use Rattle.store.proofs.Elements.{rows_up_to}
 use Rattle.pages.specs.Answer.{outcome, answer_told, rows_after, ranges_after}
 use Rattle.pages.specs.Held.{WorkingTables, Ready}
 use Rattle.pages.proofs.Stored.{new_tables, page_follows, refusal_follows, ready_tells}
-use borrow.Author.Rules.{rules}
 use Rattle.pages.proofs.answer.tell_length.Goals as goal
 use Rattle.pages.proofs.answer.tell_length.Goals.{After-decide_answer, In-Page}
 

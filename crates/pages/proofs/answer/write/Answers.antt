@@ -4,7 +4,6 @@ use mathlib.Core.Path.{refl, sym, ◌∙◌}
 use lib.ListN.{length}
 use Rattle.pages.specs.Answer.{answer_told, rows_after, ranges_after, output_after}
 use Rattle.pages.proofs.Stored.{tables_short, tables_long, tables_room}
-use borrow.Author.Rules.{rules}
 use Rattle.pages.proofs.answer.write.Goals as goal
 
 pub returns-then-too_few : goal.returns-then-too_few

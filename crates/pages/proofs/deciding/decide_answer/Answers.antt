@@ -11,7 +11,6 @@ use Rattle.store.proofs.StoreHeld.{store_held, store_long}
 use Rattle.pages.specs.Answer.{on_store, outcome}
 use Rattle.pages.specs.Held.{reckoned_of}
 use Rattle.pages.proofs.Stored.{last_refused, last_read}
-use borrow.Author.Rules.{rules}
 use Rattle.pages.proofs.deciding.decide_answer.Goals as goal
 use Rattle.pages.proofs.deciding.decide_answer.Goals.{After-read_store, In-Holds}
 

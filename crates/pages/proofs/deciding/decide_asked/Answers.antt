@@ -14,7 +14,6 @@ use Rattle.pages.specs.Tables.{Carries, SendsRows}
 use Rattle.pages.specs.Answer.{Ask, known_in, page_decided}
 use Rattle.pages.specs.Held.{ask_in}
 use Rattle.pages.proofs.Paged.{page_decided_lem, page_crowded, page_short, page_reckoned, page_ready}
-use borrow.Author.Rules.{rules}
 use Rattle.pages.proofs.deciding.decide_asked.Goals as goal
 use Rattle.pages.proofs.deciding.decide_asked.Goals.{After-decide_page-chosen}
 

@@ -19,14 +19,11 @@ use Rattle.pages.specs.Held.{is_wanted_here, groups_wanted, bounds_for}
 use Rattle.pages.specs.declared.page.Bounds.{Bounds}
 use Rattle.pages.proofs.Chosen.{flags_say}
 use Rattle.pages.proofs.SingleGroups.{singles_decided}
-use borrow.Author.Rules.{rules}
 use Rattle.pages.proofs.deciding.decide_page.Goals as goal
 use Rattle.pages.proofs.deciding.decide_page.Goals.{After-bounds_of-bounds}
 
 -- ---- the places: where the flags are set and the bounds are known
 module _ (b : After-bounds_of-bounds) where
-
-
   abbrev all : List Element
   all = elements_in b.args.elements.now b.args.ids.now b.args.n
 

@@ -8,7 +8,6 @@ use Rattle.pages.specs.Decision.{most_carried}
 use Rattle.pages.specs.Answer.{on_request}
 use Rattle.pages.specs.Held.{reckoned_for}
 use Rattle.pages.proofs.Stored.{request_same, request_long, request_read}
-use borrow.Author.Rules.{rules}
 use Rattle.pages.proofs.deciding.decide_request.Goals as goal
 use Rattle.pages.proofs.deciding.decide_request.Goals.{After-read_request}
 

@@ -1,6 +1,5 @@
 -- `deciding::mark_wanted` meets its contract.
 -- Assumes nothing.
-use borrow.Author.Rules.{rules}
 use Rattle.pages.proofs.deciding.mark_wanted.Goals as goal
 
 pub returns : goal.returns

@@ -23,7 +23,6 @@ use Rattle.pages.specs.declared.page.Decided.TheVariants.{Sent, Crowded, Short}
 use Rattle.pages.proofs.Lumps.{least_lumps}
 use Rattle.pages.proofs.SingleGroups.{taken_most}
 use Rattle.pages.proofs.Summed.{same_decided, same_lengths, summed}
-use borrow.Author.Rules.{rules}
 use Rattle.pages.proofs.grouped.decide_groups.Goals as goal
 use Rattle.pages.proofs.grouped.decide_groups.Goals.{After-taken_in-sent, After-group_rows-wanted}
 
@@ -36,8 +35,6 @@ sends_rows l (Short m) n e = tt
 
 -- ---- the groups as they were laid, for whatever test the flags are of
 module _ (g : After-group_rows-wanted) where
-
-
   abbrev wanted : (Element → Bool) → List Group
   wanted test = chosen_groups test (ordered (elements_in g.args.elements.now g.args.ids.now g.args.n))
 
@@ -78,8 +75,6 @@ module _ (g : After-group_rows-wanted) where
 
 -- ---- what was decided
 module _ (d : After-taken_in-sent) where
-
-
   abbrev known_then : List ℕ
   known_then = d.decide_sums-decided.new.known
 

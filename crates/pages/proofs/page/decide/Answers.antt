@@ -21,7 +21,6 @@ use Rattle.pages.proofs.Stops.{sendable_ranges}
 use Rattle.pages.proofs.Chosen.{queued_from, queued_one, queued_each, queued_none}
 use Rattle.pages.proofs.Weighing.{weighs_row}
 use Rattle.pages.proofs.UnderWay.{Under, under_start, spelled_most, under_same, under_end, price_most, under_stop, under_take}
-use borrow.Author.Rules.{rules}
 use Rattle.pages.proofs.page.decide.Goals as goal
 use Rattle.pages.proofs.page.decide.Goals.{After-price_of-q}
 

@@ -2,7 +2,6 @@
 -- Assumes nothing.
 use borrow.Author.Tests.{eq-eqb, ne_eqb}
 use Rattle.pages.specs.Tables.{whole_of}
-use borrow.Author.Rules.{rules}
 use Rattle.pages.proofs.page.whole_of.Goals as goal
 
 pub returns-then-ranges-eq0 : goal.returns-then-ranges-eq0

@@ -2,7 +2,6 @@
 -- Assumes nothing.
 use native.Mathlib.Omega.{arith}
 use Rattle.pages.proofs.Pricing.{bytes_parts, rows_most, price_law}
-use borrow.Author.Rules.{rules}
 use Rattle.pages.proofs.price.price_of.Goals as goal
 
 pub overflow_sub-left : goal.overflow_sub-left

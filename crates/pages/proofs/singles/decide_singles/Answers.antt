@@ -17,15 +17,12 @@ use Rattle.order.proofs.Queueing.{queue_most, queue_stands, queue_each, queue_el
 use Rattle.pages.specs.Weighed.{length_column, weighed_in}
 use Rattle.pages.specs.Tables.{ToWeigh, DecidesPage}
 use Rattle.pages.specs.declared.weighed.Column.{Column}
-use borrow.Author.Rules.{rules}
 use Rattle.pages.proofs.Weighing.{weighed_queue, weighed_elements, length_inside, weighs_itself}
 use Rattle.pages.proofs.singles.decide_singles.Goals as goal
 use Rattle.pages.proofs.singles.decide_singles.Goals.{After-queue_rows-wanted}
 
 -- ---- where the wanted are queued
 module _ (y : After-queue_rows-wanted) where
-
-
   abbrev queue_then : List ℕ
   queue_then = y.queue_rows-wanted.new.queue
 

@@ -1,10 +1,8 @@
 -- `tables::copy_ranges` meets its contract. The invariant: the first k rows stand in front of the table's own numbers.
 -- Assumes nothing.
 use mathlib.Core.Path.{◌≡◌, refl}
-use Prim.Native.Nat.{◌-◌, ◌≤◌}
 use native.Mathlib.Omega.{arith}
-use lib.ListN.{length}
-use Rattle.pages.proofs.Copying.{copied, copied_none, copied_more}
+use Rattle.pages.proofs.Copying.{copied_none, copied_more}
 use Rattle.pages.proofs.tables.copy_ranges.Goals as goal
 
 pub loop-k-init : goal.loop-k-init

@@ -1,10 +1,9 @@
 -- `tables::copy_ranges` meets its contract. The invariant: the first k rows stand in front of the table's own numbers.
 -- Assumes nothing.
-use mathlib.Core.Path.{◌≡◌, refl}
+use mathlib.Core.Path.{◌≡◌}
 use Prim.Native.Nat.{◌-◌, ◌≤◌}
-use native.Mathlib.Omega.{arith}
 use lib.ListN.{length}
-use Rattle.pages.proofs.Copying.{copied, copied_none, copied_more}
+use Rattle.pages.proofs.Copying.{copied}
 use Rattle.pages.proofs.tables.copy_ranges.Given as goal
 
 abbrev pub invariant-loop-k : goal.invariant-loop-k

@@ -5,7 +5,6 @@ use native.Mathlib.Omega.{arith}
 use lib.ListN.{length-set}
 use Rattle.store.specs.KnowledgeWritten.{range_guid}
 use Rattle.ranges.proofs.Four.{put_four}
-use borrow.Author.Rules.{rules}
 use Rattle.pages.proofs.tables.put_range_row.Goals as goal
 
 pub bounds-to-at-2 : goal.bounds-to-at-2

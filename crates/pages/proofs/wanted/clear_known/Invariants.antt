@@ -1,16 +1,12 @@
 -- `wanted::clear_known` meets its contract. The invariant: the flags that are told are those set from here on.
 -- Assumes nothing.
-use mathlib.Core.Path.{◌≡◌, refl, sym, ap, ◌∙◌}
-use mathlib.Core.Logic.{⊎_elim}
+use mathlib.Core.Path.{◌≡◌}
 use Prim.Native.Nat.{◌-◌}
-use native.Mathlib.Omega.{arith}
-use lib.ListN.{length, length-set}
-use borrow.Author.Rules.{rules}
+use lib.ListN.{length}
 use Rattle.ranges.specs.RangeTable.{ranges_at}
 use Rattle.store.specs.Tables.{elements_in}
-use Rattle.store.proofs.Elements.{rows_up_to}
 use Rattle.request.specs.Choice.{set_flags}
-use Rattle.request.proofs.Setting.{Setting, setting_start, setting_matched, setting_passed, setting_end}
+use Rattle.request.proofs.Setting.{Setting}
 use Rattle.pages.specs.Choice.{is_known}
 use Rattle.pages.proofs.wanted.clear_known.Given as goal
 

@@ -1,7 +1,6 @@
 -- `wanted::knows_element` meets its contract.
 -- Assumes nothing.
 use Rattle.pages.specs.Choice.{is_known}
-use borrow.Author.Rules.{rules}
 use Rattle.pages.proofs.wanted.knows_element.Goals as goal
 
 pub returns : goal.returns

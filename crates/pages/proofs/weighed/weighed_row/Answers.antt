@@ -1,6 +1,5 @@
 -- `weighed::weighed_row` meets its contract.
 -- Assumes nothing.
-use borrow.Author.Rules.{rules}
 use Rattle.pages.specs.Weighed.{weighed}
 use Rattle.pages.proofs.weighed.weighed_row.Goals as goal
 

@@ -16,7 +16,6 @@ use Rattle.order.specs.Queue.{chosen}
 use Rattle.pages.specs.Weighed.{weighed, weighed_in, weighed_rows}
 use Rattle.order.proofs.Rearranged.{rearranged_each, rearranged_back}
 use Rattle.pages.specs.Tables.{ToDecide, Decides, DecidesPage, takes_all, Gathered}
-use borrow.Author.Rules.{rules}
 use Rattle.pages.proofs.AnyOrder.{one_by_one, all_at_once, all_tried}
 use Rattle.pages.proofs.Weighing.{chosen_row}
 use Rattle.pages.proofs.whole.decide_queued.Goals as goal
@@ -35,8 +34,6 @@ flagged_light s i h z =
     (rearranged_each (λ (x : Element). x.length ≤ 2 ^ 32) (rearranged_back s.requires.0.same) s.requires.0.short) i h z)
 
 module _ (f : After-flagged_rows-all) where
-
-
   abbrev queued_then : List Element
   queued_then = weighed_in f.args.rows.now f.args.ids.now f.args.lengths.now f.args.c f.args.wanted f.args.queue.now
 

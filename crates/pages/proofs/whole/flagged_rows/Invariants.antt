@@ -1,13 +1,9 @@
 -- `whole::flagged_rows` meets its contract. The invariant is `Gathering`.
 -- Assumes nothing.
-use mathlib.Core.Path.{◌≡◌, refl, ◌∙◌}
-use Prim.Native.Nat.{◌-◌, ◌^◌, ◌≤◌}
-use native.Mathlib.Omega.{arith}
-use lib.ListN.{length, length-set}
-use Rattle.store.specs.Tables.{most_elements}
-use Rattle.store.proofs.Elements.{rows_up_to}
-use Rattle.pages.specs.Weighed.{weighed}
-use Rattle.pages.proofs.Gathering.{Gathering, gathering_start, gathering_passed, gathering_taken, gathering_end}
+use mathlib.Core.Path.{◌≡◌}
+use Prim.Native.Nat.{◌-◌}
+use lib.ListN.{length}
+use Rattle.pages.proofs.Gathering.{Gathering}
 use Rattle.pages.proofs.whole.flagged_rows.Given as goal
 
 abbrev pub invariant-loop-i : goal.invariant-loop-i

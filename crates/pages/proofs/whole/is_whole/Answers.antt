@@ -1,6 +1,5 @@
 -- `whole::is_whole` meets its contract.
 -- Assumes nothing.
-use borrow.Author.Rules.{rules}
 use Rattle.pages.specs.Tables.{is_whole}
 use Rattle.pages.proofs.whole.is_whole.Goals as goal
 

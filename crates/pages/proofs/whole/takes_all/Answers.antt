@@ -1,6 +1,5 @@
 -- `whole::takes_all` meets its contract.
 -- Assumes nothing.
-use borrow.Author.Rules.{rules}
 use borrow.Author.Tests.{eq-eqb, ne_eqb, le-leb, lt-leb}
 use Rattle.pages.specs.Tables.{takes_all}
 use Rattle.pages.proofs.whole.takes_all.Goals as goal

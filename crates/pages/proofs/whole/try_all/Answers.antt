@@ -9,7 +9,6 @@ use Rattle.ranges.specs.RangeTable.{ranges_at}
 use Rattle.pages.specs.Weighed.{weighed_in}
 use Rattle.pages.proofs.AnyOrder.{one_by_one, tried}
 use Rattle.pages.proofs.Weighing.{length_weighed_lem}
-use borrow.Author.Rules.{rules}
 use Rattle.pages.proofs.whole.try_all.Goals as goal
 use Rattle.pages.proofs.whole.try_all.Goals.{After-decide-first}
 

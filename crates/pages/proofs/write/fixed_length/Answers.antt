@@ -2,7 +2,6 @@
 -- Assumes nothing.
 use native.Mathlib.Omega.{arith}
 use Rattle.pages.specs.Tables.{fixed_length}
-use borrow.Author.Rules.{rules}
 use Rattle.pages.proofs.write.fixed_length.Goals as goal
 
 pub returns : goal.returns

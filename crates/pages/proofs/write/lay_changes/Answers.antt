@@ -12,7 +12,6 @@ use Rattle.laws.specs.Placed.{Lays}
 use Rattle.laws.proofs.Placing.{lays_then}
 use Rattle.pages.specs.Written.{changes_data, changes_bytes, partial_byte}
 use Rattle.pages.proofs.Lengths.{length_changes_data, length_changes_start, length_changes}
-use borrow.Author.Rules.{rules}
 use Rattle.pages.proofs.write.lay_changes.Goals as goal
 
 pub lay_start-behind_start-requires : goal.lay_start-behind_start-requires

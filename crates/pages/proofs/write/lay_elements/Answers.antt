@@ -1,15 +1,13 @@
 -- `write::lay_elements` meets its contract. The invariant: with the elements still to come laid at p, out is what it is to be.
 -- Assumes nothing.
 use mathlib.Core.Path.{◌≡◌, refl}
-use Prim.Native.Nat.{◌+◌, ◌-◌}
 use native.Mathlib.Omega.{arith}
-use lib.ListN.{length, get_or}
-use Rattle.laws.specs.Placed.{laid, Lays}
+use lib.ListN.{get_or}
+use Rattle.laws.specs.Placed.{Lays}
 use Rattle.store.specs.Tables.{element_in_row}
-use Rattle.store.specs.Held.{stored_bytes, elements_bytes}
+use Rattle.store.specs.Held.{stored_bytes}
 use Rattle.order.proofs.Queueing.{queued_row}
-use Rattle.order.specs.Queue.{queued_in}
-use Rattle.pages.proofs.Laying.{Laying, laying_start, laying_fits, laying_taken, laying_end}
+use Rattle.pages.proofs.Laying.{laying_start, laying_fits, laying_taken, laying_end}
 use Rattle.pages.proofs.write.lay_elements.Goals as goal
 
 pub loop-i-init : goal.loop-i-init

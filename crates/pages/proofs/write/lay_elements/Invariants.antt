@@ -1,15 +1,12 @@
 -- `write::lay_elements` meets its contract. The invariant: with the elements still to come laid at p, out is what it is to be.
 -- Assumes nothing.
-use mathlib.Core.Path.{◌≡◌, refl}
+use mathlib.Core.Path.{◌≡◌}
 use Prim.Native.Nat.{◌+◌, ◌-◌}
-use native.Mathlib.Omega.{arith}
-use lib.ListN.{length, get_or}
-use Rattle.laws.specs.Placed.{laid, Lays}
-use Rattle.store.specs.Tables.{element_in_row}
-use Rattle.store.specs.Held.{stored_bytes, elements_bytes}
-use Rattle.order.proofs.Queueing.{queued_row}
+use lib.ListN.{length}
+use Rattle.laws.specs.Placed.{laid}
+use Rattle.store.specs.Held.{elements_bytes}
 use Rattle.order.specs.Queue.{queued_in}
-use Rattle.pages.proofs.Laying.{Laying, laying_start, laying_fits, laying_taken, laying_end}
+use Rattle.pages.proofs.Laying.{Laying}
 use Rattle.pages.proofs.write.lay_elements.Given as goal
 
 abbrev pub invariant-loop-i : goal.invariant-loop-i

@@ -12,7 +12,6 @@ use Rattle.pages.specs.Written.{changes_bytes}
 use Rattle.pages.specs.Tables.{answer_middle}
 use Rattle.request.proofs.ResponseLengths.{length_back}
 use Rattle.pages.proofs.Lengths.{length_middle}
-use borrow.Author.Rules.{rules}
 use Rattle.pages.proofs.write.lay_middle.Goals as goal
 
 pub lay_end-behind_package-requires : goal.lay_end-behind_package-requires

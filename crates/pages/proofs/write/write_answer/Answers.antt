@@ -12,7 +12,6 @@ use Rattle.order.specs.Queue.{queued_in}
 use Rattle.pages.specs.Tables.{answer_middle}
 use Rattle.request.proofs.ResponseLengths.{length_front, length_back}
 use Rattle.pages.proofs.Lengths.{answer_parts, answer_room}
-use borrow.Author.Rules.{rules}
 use Rattle.pages.proofs.write.write_answer.Goals as goal
 
 pub lay_front-behind_front-requires : goal.lay_front-behind_front-requires

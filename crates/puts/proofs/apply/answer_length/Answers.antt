@@ -3,7 +3,6 @@
 use native.Mathlib.Omega.{arith}
 use Rattle.ranges.specs.RangeTable.{ranges_at}
 use Rattle.puts.proofs.NewLengths.{length_put_answer}
-use borrow.Author.Rules.{rules}
 use Rattle.puts.proofs.apply.answer_length.Goals as goal
 
 pub returns : goal.returns

@@ -9,7 +9,6 @@ use Rattle.store.specs.Tables.{id_width, most_elements, row_numbers}
 use Rattle.puts.specs.Applied.{on_put}
 use Rattle.puts.proofs.Outcomes.{refused_gives}
 use Rattle.puts.proofs.PutHeld.{put_held, put_long}
-use borrow.Author.Rules.{rules}
 use Rattle.puts.proofs.apply.apply_handed.Goals as goal
 
 pub slice_bounds-expect-end : goal.slice_bounds-expect-end

@@ -4,7 +4,6 @@ use mathlib.Core.List.{[]}
 use Rattle.puts.specs.Applied.{on_put}
 use Rattle.puts.proofs.Outcomes.{refused_gives}
 use Rattle.puts.proofs.PutWhole.{over_long_put}
-use borrow.Author.Rules.{rules}
 use Rattle.puts.proofs.apply.apply_put.Goals as goal
 
 pub returns-then-request-gt-LONGEST_INPUT : goal.returns-then-request-gt-LONGEST_INPUT

@@ -7,7 +7,6 @@ use Rattle.puts.specs.NewStore.{new_elements}
 use Rattle.puts.specs.Put.{put_walk}
 use Rattle.puts.proofs.Applying.{planned_count, planned_store, planned_known, plan_taken, plan_made}
 use Rattle.puts.proofs.Outcomes.{refused_gives, counted_over, counted_fits}
-use borrow.Author.Rules.{rules}
 use Rattle.puts.proofs.apply.count.Goals as goal
 
 pub returns-then-planned-gt-MOST_ELEMENTS : goal.returns-then-planned-gt-MOST_ELEMENTS

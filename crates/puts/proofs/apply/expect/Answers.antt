@@ -7,7 +7,6 @@ use Rattle.store.specs.Store.{store_walk}
 use Rattle.store.proofs.StoreHeld.{id_row_lem}
 use Rattle.puts.specs.Applied.{same_id}
 use Rattle.puts.proofs.Outcomes.{refused_gives, expecting_other, expecting_same}
-use borrow.Author.Rules.{rules}
 use Rattle.puts.proofs.apply.expect.Goals as goal
 
 pub storage_index-requires : goal.storage_index-requires

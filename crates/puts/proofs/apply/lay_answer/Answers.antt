@@ -13,7 +13,6 @@ use Rattle.request.specs.Response.{answer_front, sub_response_bytes, ends_bytes}
 use Rattle.request.proofs.ResponseLengths.{length_front, length_back, length_sub}
 use Rattle.puts.specs.Applied.{put_answer_bytes}
 use Rattle.puts.proofs.NewLengths.{length_five, length_put_answer}
-use borrow.Author.Rules.{rules}
 use Rattle.puts.proofs.apply.lay_answer.Goals as goal
 
 pub lay_front-behind_front-requires : goal.lay_front-behind_front-requires

@@ -2,7 +2,6 @@
 -- Assumes nothing.
 use mathlib.Core.Bool.{true}
 use mathlib.Core.List.{[], ◌∷◌, ◌++◌}
-use Prim.Native.Nat.{◌+◌}
 use native.Mathlib.Omega.{arith}
 use lib.ListN.{take, length-append}
 use Rattle.laws.specs.Placed.{Lays}
@@ -11,7 +10,6 @@ use Rattle.objects.specs.Header.{start_bytes, end_bytes}
 use Rattle.store.specs.Written.{package_front}
 use Rattle.puts.specs.Plan.{sides, planned_bytes}
 use Rattle.enter.proofs.PackageLengths.{length_package_front, length_framed}
-use borrow.Author.Rules.{rules}
 use Rattle.puts.proofs.apply.lay_new_store.Goals as goal
 
 pub lay_start-behind_start-requires : goal.lay_start-behind_start-requires

@@ -7,7 +7,6 @@ use Rattle.store.specs.Store.{store_walk}
 use Rattle.puts.specs.NewStore.{highest_under}
 use Rattle.puts.proofs.Applying.{handed_many}
 use Rattle.puts.proofs.Outcomes.{refused_gives, numbered_out, numbered_left}
-use borrow.Author.Rules.{rules}
 use Rattle.puts.proofs.apply.number.Goals as goal
 
 pub returns-then-highest-m : goal.returns-then-highest-m

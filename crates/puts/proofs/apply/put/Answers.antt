@@ -8,7 +8,6 @@ use Rattle.laws.specs.Bytes.{AllBytes}
 use Rattle.store.specs.Tables.{id_width, most_elements, row_numbers}
 use Rattle.store.proofs.StoreHeld.{store_held, store_long}
 use Rattle.puts.proofs.Outcomes.{refused_gives, store_faulty, store_fine}
-use borrow.Author.Rules.{rules}
 use Rattle.puts.proofs.apply.put.Goals as goal
 
 pub slice_bounds-apply_put-end : goal.slice_bounds-apply_put-end

@@ -1,7 +1,6 @@
 -- `apply::same_id` meets its contract.
 -- Assumes nothing.
 use Rattle.puts.specs.Applied.{same_id}
-use borrow.Author.Rules.{rules}
 use Rattle.puts.proofs.apply.same_id.Goals as goal
 
 pub returns-in-Null-b : goal.returns-in-Null-b

@@ -10,7 +10,6 @@ use Rattle.store.specs.Written.{framed}
 use Rattle.puts.specs.Plan.{sides, planned_bytes, planned_ranges}
 use Rattle.puts.specs.Applied.{put_answer_bytes}
 use Rattle.puts.proofs.Outcomes.{refused_gives, answered_short, answered_sent}
-use borrow.Author.Rules.{rules}
 use Rattle.puts.proofs.apply.send.Goals as goal
 
 pub planned_ranges-held-requires : goal.planned_ranges-held-requires

@@ -10,7 +10,6 @@ use Rattle.puts.specs.Plan.{sides, planned_bytes, planned_ranges}
 use Rattle.enter.proofs.PackageLengths.{length_framed}
 use Rattle.puts.proofs.NewLengths.{length_planned}
 use Rattle.puts.proofs.Outcomes.{refused_gives, sized_long, sized_short, sized_fits}
-use borrow.Author.Rules.{rules}
 use Rattle.puts.proofs.apply.size.Goals as goal
 
 pub planned_length-whole-requires : goal.planned_length-whole-requires

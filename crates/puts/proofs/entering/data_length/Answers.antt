@@ -5,7 +5,6 @@ use lib.ListN.{length}
 use Rattle.numbers.specs.ExtendedGuid.{extended_guid_bytes}
 use Rattle.numbers.specs.declared.extended_guid.ExtendedGuid.{ExtendedGuid}
 use native.Mathlib.Omega.{arith}
-use borrow.Author.Rules.{rules}
 use Rattle.puts.specs.Plan.{data_length}
 use Rattle.puts.proofs.entering.data_length.Goals as goal
 

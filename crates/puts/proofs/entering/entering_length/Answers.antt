@@ -6,7 +6,6 @@ use Prim.Native.Nat.{ℕ}
 use lib.ListN.{length}
 use Rattle.objects.specs.Header.{start_bytes}
 use native.Mathlib.Omega.{arith}
-use borrow.Author.Rules.{rules}
 use Rattle.puts.specs.Plan.{entering_length}
 use Rattle.puts.proofs.entering.entering_length.Goals as goal
 

@@ -1,6 +1,5 @@
 -- `entering::inside_from` meets its contract.
 -- Assumes nothing.
-use borrow.Author.Rules.{rules}
 use Rattle.puts.specs.Plan.{inside_from}
 use Rattle.puts.proofs.entering.inside_from.Goals as goal
 

@@ -2,7 +2,6 @@
 -- Assumes nothing.
 use mathlib.Core.Path.{ap}
 use mathlib.Core.List.{◌++◌}
-use Prim.Native.Nat.{◌+◌}
 use native.Mathlib.Omega.{arith}
 use lib.ListN.{length, length-append}
 use Rattle.laws.specs.Placed.{Lays}
@@ -16,7 +15,6 @@ use Rattle.numbers.specs.declared.serial.Serial.TheVariants.{Numbered}
 use Rattle.store.specs.Written.{key_guid}
 use Rattle.puts.specs.Plan.{entering_data, data_length}
 use Rattle.puts.proofs.Lengths.{length_serial, length_data}
-use borrow.Author.Rules.{rules}
 use Rattle.puts.proofs.entering.lay_data.Goals as goal
 
 pub lay_extended_guid-behind_id-requires : goal.lay_extended_guid-behind_id-requires

@@ -3,7 +3,7 @@
 use mathlib.Core.Path.{◌≡◌, sym, ap, ◌∙◌}
 use mathlib.Core.Bool.{true}
 use mathlib.Core.List.{◌++◌}
-use Prim.Native.Nat.{ℕ, ◌+◌}
+use Prim.Native.Nat.{ℕ}
 use native.Mathlib.Omega.{arith}
 use lib.ListN.{length, length-append}
 use Rattle.laws.specs.Placed.{Lays}
@@ -12,7 +12,6 @@ use Rattle.objects.specs.Header.{start_bytes}
 use Rattle.store.specs.Written.{inside_of}
 use Rattle.puts.specs.Plan.{entering_data, data_length}
 use Rattle.puts.proofs.Lengths.{length_data, length_parts, entering_parts}
-use borrow.Author.Rules.{rules}
 use Rattle.puts.proofs.entering.lay_entering.Goals as goal
 
 pub lay_start-behind_start-requires : goal.lay_start-behind_start-requires

@@ -6,7 +6,6 @@ use Rattle.numbers.specs.Serial.{serial_bytes}
 use Rattle.numbers.specs.declared.serial.Serial.TheVariants.{Numbered}
 use Rattle.store.specs.Written.{key_guid}
 use Rattle.puts.proofs.Lengths.{length_serial}
-use borrow.Author.Rules.{rules}
 use Rattle.puts.proofs.entering.lay_serial.Goals as goal
 
 pub returns : goal.returns

@@ -2,7 +2,6 @@
 -- Assumes nothing.
 use mathlib.Core.Path.{sym, ◌∙◌}
 use Rattle.puts.proofs.Ranging.{serial_added, never_full}
-use borrow.Author.Rules.{rules}
 use Rattle.puts.proofs.new_store.add_serial.Goals as goal
 
 pub returns-in-Rows : goal.returns-in-Rows

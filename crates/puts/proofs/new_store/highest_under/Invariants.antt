@@ -1,16 +1,9 @@
 -- `new_store::highest_under` meets its contract. The invariant: the number is the highest of the elements from row i on.
 -- Assumes nothing.
-use mathlib.Core.Path.{◌≡◌, ◌∙◌}
-use mathlib.Core.List.{List}
-use Prim.Native.Nat.{ℕ, ◌+◌, ◌-◌, ◌≤◌, ◌<◌, max}
-use native.Mathlib.Omega.{arith}
-use native.Mathlib.Numerals.{add-one}
-use Rattle.laws.specs.Pick.{pick}
-use Rattle.numbers.specs.declared.guid.Guid.{Guid}
-use Rattle.store.specs.Tables.{element_in_row, elements_in_rows, elements_in}
-use Rattle.store.specs.declared.element.Element.{Element}
-use Rattle.store.proofs.Elements.{rows_up_to, elements_turn, elements_end}
-use Rattle.puts.specs.NewStore.{under_guid, highest_under}
+use mathlib.Core.Path.{◌≡◌}
+use Prim.Native.Nat.{◌-◌, ◌≤◌}
+use Rattle.store.specs.Tables.{elements_in_rows}
+use Rattle.puts.specs.NewStore.{highest_under}
 use Rattle.puts.proofs.new_store.highest_under.Given as goal
 
 -- ---- the answers

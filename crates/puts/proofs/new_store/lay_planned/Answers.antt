@@ -2,9 +2,9 @@
 -- Assumes nothing.
 use mathlib.Core.Path.{◌≡◌, refl, sym, ap, ◌∙◌}
 use mathlib.Core.List.{List, ◌++◌}
-use Prim.Native.Nat.{ℕ, ◌+◌, ◌-◌, ◌≤◌}
+use Prim.Native.Nat.{ℕ, ◌+◌}
 use native.Mathlib.Omega.{arith}
-use lib.ListN.{length, take, get_or, length-append}
+use lib.ListN.{length, get_or, length-append}
 use Rattle.laws.specs.Placed.{laid}
 use Rattle.laws.proofs.Placing.{laid_nothing, lays_first}
 use Rattle.puts.specs.Plan.{sides, source_bytes, planned_bytes}

@@ -1,15 +1,11 @@
 -- `new_store::lay_planned` meets its contract. The invariant: with the elements still to come laid at p, out is what it is to be.
 -- Assumes nothing.
-use mathlib.Core.Path.{◌≡◌, refl, sym, ap, ◌∙◌}
-use mathlib.Core.List.{List, ◌++◌}
-use Prim.Native.Nat.{ℕ, ◌+◌, ◌-◌, ◌≤◌}
-use native.Mathlib.Omega.{arith}
-use lib.ListN.{length, take, get_or, length-append}
+use mathlib.Core.Path.{◌≡◌}
+use Prim.Native.Nat.{◌+◌, ◌-◌, ◌≤◌}
+use lib.ListN.{length, take}
 use Rattle.laws.specs.Placed.{laid}
-use Rattle.laws.proofs.Placing.{laid_nothing, lays_first}
-use Rattle.puts.specs.Plan.{sides, source_bytes, planned_bytes}
+use Rattle.puts.specs.Plan.{sides, planned_bytes}
 use Rattle.enter.proofs.PlanTurns.{plan_from}
-use Rattle.puts.proofs.Plans.{bytes_turn, bytes_end}
 use Rattle.puts.proofs.new_store.lay_planned.Given as goal
 
 abbrev pub invariant-loop-k : goal.invariant-loop-k

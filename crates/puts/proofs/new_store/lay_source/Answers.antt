@@ -1,14 +1,12 @@
 -- `new_store::lay_source` meets its contract.
 -- Assumes nothing.
 use mathlib.Core.Path.{◌≡◌, sym, ap, ◌∙◌}
-use Prim.Native.Nat.{◌-◌}
 use native.Mathlib.Omega.{arith}
 use lib.ListN.{length}
 use Rattle.store.specs.Tables.{element_in_row}
 use Rattle.store.specs.Held.{stored_bytes}
 use Rattle.puts.specs.Plan.{sides}
 use Rattle.puts.proofs.Plans.{source_kept, source_handed}
-use borrow.Author.Rules.{rules}
 use Rattle.puts.proofs.new_store.lay_source.Goals as goal
 
 pub element_in_row-x-requires : goal.element_in_row-x-requires

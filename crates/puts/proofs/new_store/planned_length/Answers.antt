@@ -1,11 +1,9 @@
 -- `new_store::planned_length` meets its contract. The invariant: the whole is what was counted and what is still to come.
 -- Assumes nothing.
 use mathlib.Core.Path.{◌≡◌}
-use Prim.Native.Nat.{◌+◌, ◌-◌, ◌*◌, ◌^◌, ◌≤◌}
 use native.Mathlib.Omega.{arith}
-use lib.ListN.{take, get_or}
-use Rattle.puts.specs.Plan.{source_length, planned_length}
-use Rattle.enter.proofs.PlanTurns.{plan_from}
+use lib.ListN.{get_or}
+use Rattle.puts.specs.Plan.{source_length}
 use Rattle.puts.proofs.Plans.{length_turn, length_end}
 use Rattle.puts.proofs.new_store.planned_length.Goals as goal
 

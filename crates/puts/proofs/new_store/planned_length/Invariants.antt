@@ -2,11 +2,9 @@
 -- Assumes nothing.
 use mathlib.Core.Path.{◌≡◌}
 use Prim.Native.Nat.{◌+◌, ◌-◌, ◌*◌, ◌^◌, ◌≤◌}
-use native.Mathlib.Omega.{arith}
-use lib.ListN.{take, get_or}
-use Rattle.puts.specs.Plan.{source_length, planned_length}
+use lib.ListN.{take}
+use Rattle.puts.specs.Plan.{planned_length}
 use Rattle.enter.proofs.PlanTurns.{plan_from}
-use Rattle.puts.proofs.Plans.{length_turn, length_end}
 use Rattle.puts.proofs.new_store.planned_length.Given as goal
 
 abbrev pub invariant-loop-k : goal.invariant-loop-k

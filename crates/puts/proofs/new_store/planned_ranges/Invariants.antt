@@ -1,18 +1,13 @@
 -- `new_store::planned_ranges` meets its contract. The invariant: the ranges of all are those of the numbers still to come, put to those in the table.
 -- Assumes nothing.
-use mathlib.Core.Path.{◌≡◌, refl, sym, ap, ◌∙◌}
-use mathlib.Core.List.{List, []}
-use Prim.Native.Nat.{◌+◌, ◌-◌, ◌≤◌}
-use native.Mathlib.Omega.{arith}
-use lib.ListN.{length, take, get_or}
-use Rattle.talk.specs.Ranges.{insert, Normal}
-use Rattle.talk.specs.declared.range.Range.{Range}
+use mathlib.Core.Path.{◌≡◌}
+use mathlib.Core.List.{[]}
+use Prim.Native.Nat.{◌-◌, ◌≤◌}
+use lib.ListN.{length, take}
+use Rattle.talk.specs.Ranges.{Normal}
 use Rattle.ranges.specs.RangeTable.{ranges_at}
-use Rattle.store.specs.declared.element.Key.{Key}
-use Rattle.store.specs.Held.{key_range}
-use Rattle.puts.specs.Plan.{source_serial, planned_ranges}
+use Rattle.puts.specs.Plan.{planned_ranges}
 use Rattle.enter.proofs.PlanTurns.{plan_from}
-use Rattle.puts.proofs.Plans.{ranges_turn, ranges_end}
 use Rattle.puts.proofs.new_store.planned_ranges.Given as goal
 
 abbrev pub invariant-loop-k : goal.invariant-loop-k

@@ -5,7 +5,6 @@ use native.Mathlib.Omega.{arith}
 use borrow.Author.Tests.{lt-ltb, le-ltb}
 use Rattle.store.specs.declared.element.Element.{Element}
 use Rattle.puts.specs.Plan.{source_serial}
-use borrow.Author.Rules.{rules}
 use Rattle.puts.proofs.new_store.source_serial.Goals as goal
 
 pub element_in_row-requires : goal.element_in_row-requires

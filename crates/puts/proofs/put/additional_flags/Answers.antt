@@ -3,7 +3,6 @@
 use mathlib.Core.Path.{sym, ◌∙◌}
 use Rattle.puts.specs.Put.{additional_flags}
 use Rattle.puts.proofs.PutParts.{good_flag_fields}
-use borrow.Author.Rules.{rules}
 use Rattle.puts.proofs.put.additional_flags.Goals as goal
 
 pub closed-requires : goal.closed-requires

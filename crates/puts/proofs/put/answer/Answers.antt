@@ -1,7 +1,6 @@
 -- `put::answer` meets its contract.
 -- Assumes nothing.
 use Rattle.puts.specs.Put.{put_read}
-use borrow.Author.Rules.{rules}
 use Rattle.puts.proofs.put.answer.Goals as goal
 
 pub returns-in-At : goal.returns-in-At

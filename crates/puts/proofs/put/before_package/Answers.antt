@@ -1,7 +1,6 @@
 -- `put::before_package` meets its contract.
 -- Assumes nothing.
 use Rattle.puts.specs.Put.{before_package}
-use borrow.Author.Rules.{rules}
 use Rattle.puts.proofs.put.before_package.Goals as goal
 
 pub returns : goal.returns

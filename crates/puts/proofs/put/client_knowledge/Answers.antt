@@ -2,7 +2,6 @@
 -- Assumes nothing.
 use mathlib.Core.Path.{◌∙◌}
 use Rattle.puts.proofs.PutParts.{client_on}
-use borrow.Author.Rules.{rules}
 use Rattle.puts.proofs.put.client_knowledge.Goals as goal
 
 pub returns : goal.returns

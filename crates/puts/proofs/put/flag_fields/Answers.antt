@@ -1,7 +1,6 @@
 -- `put::flag_fields` meets its contract.
 -- Assumes nothing.
 use Rattle.puts.specs.Put.{flag_fields}
-use borrow.Author.Rules.{rules}
 use Rattle.puts.proofs.put.flag_fields.Goals as goal
 
 pub returns : goal.returns

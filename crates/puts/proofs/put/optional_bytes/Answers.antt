@@ -3,7 +3,6 @@
 use mathlib.Core.Path.{sym, ◌∙◌}
 use Rattle.puts.specs.Put.{undivided, optional_bytes}
 use Rattle.puts.proofs.PutParts.{good_undivided}
-use borrow.Author.Rules.{rules}
 use Rattle.puts.proofs.put.optional_bytes.Goals as goal
 
 pub closed-requires : goal.closed-requires

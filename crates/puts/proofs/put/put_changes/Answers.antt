@@ -2,7 +2,6 @@
 -- Assumes nothing.
 use Rattle.puts.specs.Put.{put_changes}
 use Rattle.puts.proofs.PutParts.{good_put_fields}
-use borrow.Author.Rules.{rules}
 use Rattle.puts.proofs.put.put_changes.Goals as goal
 
 pub closed-requires : goal.closed-requires

@@ -1,7 +1,6 @@
 -- `put::put_fields` meets its contract.
 -- Assumes nothing.
 use Rattle.puts.specs.Put.{put_fields}
-use borrow.Author.Rules.{rules}
 use Rattle.puts.proofs.put.put_fields.Goals as goal
 
 pub returns : goal.returns

@@ -4,7 +4,6 @@ use mathlib.Core.Path.{refl, sym, ◌∙◌}
 use Rattle.store.specs.Tables.{flat}
 use Rattle.store.specs.Store.{packaged_of}
 use Rattle.puts.specs.Put.{put_package}
-use borrow.Author.Rules.{rules}
 use Rattle.puts.proofs.put.put_package.Goals as goal
 
 pub returns-then-next_is : goal.returns-then-next_is

@@ -6,7 +6,6 @@ use Rattle.puts.specs.Put.{put_end, put_head}
 use Rattle.puts.specs.declared.put.PutHead.{PutHead}
 use Rattle.puts.proofs.PutParts.{good_front_put, good_before_package}
 use Rattle.puts.proofs.PutWhole.{behind_head, put_refused, put_holds}
-use borrow.Author.Rules.{rules}
 use Rattle.puts.proofs.put.read_put.Goals as goal
 
 pub put_package-requires : goal.put_package-requires

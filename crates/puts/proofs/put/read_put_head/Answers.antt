@@ -1,8 +1,6 @@
 -- `put::read_put_head` meets its contract.
 -- Assumes nothing.
-use mathlib.Core.Path.{refl}
 use Rattle.puts.specs.Put.{put_head}
-use borrow.Author.Rules.{rules}
 use Rattle.puts.proofs.put.read_put_head.Goals as goal
 
 pub returns : goal.returns

@@ -1,15 +1,12 @@
 -- `choice::choose` meets its contract. The invariant: what is told is what the filters still to come set.
 -- Assumes nothing.
-use mathlib.Core.Path.{◌≡◌, refl, ◌∙◌}
-use Prim.Native.Nat.{◌-◌, ◌≤◌}
+use mathlib.Core.Path.{refl, ◌∙◌}
+use Prim.Native.Nat.{◌≤◌}
 use native.Mathlib.Omega.{arith}
-use borrow.Author.Rules.{rules}
 use lib.ListN.{length, get_or-replicate}
-use Rattle.request.specs.Meaning.{filters_read}
 use Rattle.store.specs.Tables.{elements_in}
 use Rattle.request.specs.Index.{index_marks}
-use Rattle.request.proofs.Putting.{Putting, putting_start, putting_more, putting_end, putting_all}
-use Rattle.request.proofs.Choosing.{set_by_all}
+use Rattle.request.proofs.Putting.{putting_start, putting_more, putting_end, putting_all}
 use Rattle.request.proofs.Indexing.{indexed}
 use Rattle.request.proofs.choice.choose.Goals as goal
 

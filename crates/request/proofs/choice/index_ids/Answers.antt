@@ -1,10 +1,8 @@
 -- `choice::index_ids` meets its contract. The invariant: the rows so far are put into both tables.
 -- Assumes nothing.
-use mathlib.Core.Path.{◌≡◌, refl, ap, ◌∙◌}
-use Prim.Native.Nat.{◌-◌, ◌≤◌}
+use mathlib.Core.Path.{refl, ap, ◌∙◌}
 use native.Mathlib.Omega.{arith}
-use borrow.Author.Rules.{rules}
-use lib.ListN.{length, length-set}
+use lib.ListN.{length-set}
 use Rattle.store.specs.Tables.{mark_of}
 use Rattle.request.specs.Index.{index_marks, heads_with, links_with}
 use Rattle.request.proofs.Indexing.{index_none, heads_more, links_more, index_all}

@@ -1,7 +1,6 @@
 -- `choice::is_matched` meets its contract: by what is to be matched.
 -- Assumes nothing.
 use Rattle.request.specs.Choice.{matched_by}
-use borrow.Author.Rules.{rules}
 use Rattle.request.proofs.choice.is_matched.Goals as goal
 
 pub returns-in-All : goal.returns-in-All

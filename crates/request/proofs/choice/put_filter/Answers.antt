@@ -6,7 +6,6 @@ use Rattle.request.specs.Meaning.{filter_read}
 use Rattle.store.specs.Tables.{elements_in}
 use Rattle.request.proofs.Inside.{good_filter_fields}
 use Rattle.request.proofs.Putting.{filter_of_kind}
-use borrow.Author.Rules.{rules}
 use Rattle.request.proofs.choice.put_filter.Goals as goal
 
 pub closed-k-requires : goal.closed-k-requires

@@ -5,7 +5,6 @@ use Rattle.request.specs.Filter.{ids_part}
 use Rattle.store.specs.Tables.{elements_in}
 use Rattle.request.proofs.Inside.{good_ids_field}
 use Rattle.request.proofs.Putting.{kind_all, kind_type, kind_ids, kind_other}
-use borrow.Author.Rules.{rules}
 use Rattle.request.proofs.choice.put_kind.Goals as goal
 
 pub returns-then-kind-eq-ALL : goal.returns-then-kind-eq-ALL

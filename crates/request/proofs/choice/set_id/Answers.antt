@@ -3,7 +3,6 @@
 use mathlib.Core.Path.{◌∙◌}
 use Rattle.request.specs.Meaning.{key_in}
 use Rattle.request.proofs.Putting.{no_id, one_id}
-use borrow.Author.Rules.{rules}
 use Rattle.request.proofs.choice.set_id.Goals as goal
 
 pub returns-in-Refused : goal.returns-in-Refused

@@ -1,17 +1,12 @@
 -- `choice::set_key` meets its contract. The invariant: what is told is what the rows still to come set, and the last of them has
 -- the mark of the id.
 -- Assumes nothing.
-use mathlib.Core.Path.{◌≡◌, refl, sym, ap, ◌∙◌}
-use mathlib.Core.Logic.{⊎_elim}
+use mathlib.Core.Path.{refl, sym, ap, ◌∙◌}
 use Prim.Native.Nat.{◌-◌}
 use native.Mathlib.Omega.{arith}
-use borrow.Author.Rules.{rules}
 use lib.ListN.{length, length-set}
-use Rattle.store.specs.Tables.{elements_in}
-use Rattle.request.specs.Choice.{set_flags, matched_by}
-use Rattle.request.specs.declared.choice.Matched.TheVariants.{WithId}
 use Rattle.store.proofs.Elements.{rows_up_to}
-use Rattle.request.proofs.Following.{Following, following_start, following_matched, following_passed, following_less, following_end}
+use Rattle.request.proofs.Following.{following_start, following_matched, following_passed, following_less, following_end}
 use Rattle.request.proofs.choice.set_key.Goals as goal
 use Rattle.request.proofs.choice.set_key.Goals.{then-is_matched, else-is_matched}
 
@@ -51,10 +46,12 @@ loop-left-smaller c = following_less (c.requires.2.linked c.if-links-n.false) _ 
 pub loop-left-preserved : goal.loop-left-preserved
 loop-left-preserved c = let w = c.requires.2.linked c.if-links-n.false in
     let e = sym c.is_matched.ensures in
-    elim c.if-is_matched.branch [ then-is_matched x ↦
-    (ap length x.flags-is ∙ length-set c.loop-left.flags _ _ ∙ c.loop-left.invariant.0, rw x.flags-is (following_matched w _ _ _ c.loop-left.invariant.1 _ (omega arith) (e ∙ x.if-is_matched.true)))
-    | else-is_matched x ↦
-    (ap length x.flags-is ∙ c.loop-left.invariant.0, rw x.flags-is (following_passed w _ _ _ c.loop-left.invariant.1 _ (omega arith) (e ∙ x.if-is_matched.false))) ]
+    elim c.if-is_matched.branch [
+      | then-is_matched x ↦
+          (ap length x.flags-is ∙ length-set c.loop-left.flags _ _ ∙ c.loop-left.invariant.0, rw x.flags-is (following_matched w _ _ _ c.loop-left.invariant.1 _ (omega arith) (e ∙ x.if-is_matched.true)))
+      | else-is_matched x ↦
+          (ap length x.flags-is ∙ c.loop-left.invariant.0, rw x.flags-is (following_passed w _ _ _ c.loop-left.invariant.1 _ (omega arith) (e ∙ x.if-is_matched.false)))
+    ]
 
 pub shape_of-flags : goal.shape_of-flags
 shape_of-flags c = c.loop-left.invariant.0

@@ -1,17 +1,12 @@
 -- `choice::set_key` meets its contract. The invariant: what is told is what the rows still to come set, and the last of them has
 -- the mark of the id.
 -- Assumes nothing.
-use mathlib.Core.Path.{◌≡◌, refl, sym, ap, ◌∙◌}
-use mathlib.Core.Logic.{⊎_elim}
-use Prim.Native.Nat.{◌-◌}
-use native.Mathlib.Omega.{arith}
-use borrow.Author.Rules.{rules}
-use lib.ListN.{length, length-set}
+use mathlib.Core.Path.{◌≡◌}
+use lib.ListN.{length}
 use Rattle.store.specs.Tables.{elements_in}
 use Rattle.request.specs.Choice.{set_flags, matched_by}
 use Rattle.request.specs.declared.choice.Matched.TheVariants.{WithId}
-use Rattle.store.proofs.Elements.{rows_up_to}
-use Rattle.request.proofs.Following.{Following, following_start, following_matched, following_passed, following_less, following_end}
+use Rattle.request.proofs.Following.{Following}
 use Rattle.request.proofs.choice.set_key.Given as goal
 
 abbrev pub invariant-loop-left : goal.invariant-loop-left

@@ -1,14 +1,10 @@
 -- `choice::set_matched` meets its contract. The invariant: the flags that are told are those set from here on.
 -- Assumes nothing.
-use mathlib.Core.Path.{◌≡◌, refl, sym, ap, ◌∙◌}
-use mathlib.Core.Logic.{⊎_elim}
-use Prim.Native.Nat.{◌-◌}
+use mathlib.Core.Path.{refl, sym, ap, ◌∙◌}
 use native.Mathlib.Omega.{arith}
 use lib.ListN.{length, length-set}
-use Rattle.store.specs.Tables.{elements_in}
-use Rattle.request.specs.Choice.{set_flags, matched_by}
 use Rattle.store.proofs.Elements.{rows_up_to}
-use Rattle.request.proofs.Setting.{Setting, setting_start, setting_matched, setting_passed, setting_end}
+use Rattle.request.proofs.Setting.{setting_start, setting_matched, setting_passed, setting_end}
 use Rattle.request.proofs.choice.set_matched.Goals as goal
 use Rattle.request.proofs.choice.set_matched.Goals.{then-is_matched, else-is_matched}
 
@@ -21,10 +17,12 @@ is_matched-requires c = rows_up_to c.requires.0 _ (omega arith)
 pub loop-i-preserved : goal.loop-i-preserved
 loop-i-preserved c = let h = c.loop-i-test.true in
     let e = sym c.is_matched.ensures in
-    elim c.if-is_matched.branch [ then-is_matched w ↦
-    (ap length w.flags-is ∙ length-set c.loop-i.flags c.loop-i.i c.args.to ∙ c.loop-i.invariant.0, rw w.flags-is (setting_matched c.loop-i.invariant.1 h (e ∙ w.if-is_matched.true)))
-    | else-is_matched w ↦
-    (ap length w.flags-is ∙ c.loop-i.invariant.0, rw w.flags-is (setting_passed c.loop-i.invariant.1 h (e ∙ w.if-is_matched.false))) ]
+    elim c.if-is_matched.branch [
+      | then-is_matched w ↦
+          (ap length w.flags-is ∙ length-set c.loop-i.flags c.loop-i.i c.args.to ∙ c.loop-i.invariant.0, rw w.flags-is (setting_matched c.loop-i.invariant.1 h (e ∙ w.if-is_matched.true)))
+      | else-is_matched w ↦
+          (ap length w.flags-is ∙ c.loop-i.invariant.0, rw w.flags-is (setting_passed c.loop-i.invariant.1 h (e ∙ w.if-is_matched.false)))
+    ]
 
 pub shape_of-flags : goal.shape_of-flags
 shape_of-flags c = c.loop-i.invariant.0

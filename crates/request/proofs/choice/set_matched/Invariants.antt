@@ -1,14 +1,11 @@
 -- `choice::set_matched` meets its contract. The invariant: the flags that are told are those set from here on.
 -- Assumes nothing.
-use mathlib.Core.Path.{◌≡◌, refl, sym, ap, ◌∙◌}
-use mathlib.Core.Logic.{⊎_elim}
+use mathlib.Core.Path.{◌≡◌}
 use Prim.Native.Nat.{◌-◌}
-use native.Mathlib.Omega.{arith}
-use lib.ListN.{length, length-set}
+use lib.ListN.{length}
 use Rattle.store.specs.Tables.{elements_in}
 use Rattle.request.specs.Choice.{set_flags, matched_by}
-use Rattle.store.proofs.Elements.{rows_up_to}
-use Rattle.request.proofs.Setting.{Setting, setting_start, setting_matched, setting_passed, setting_end}
+use Rattle.request.proofs.Setting.{Setting}
 use Rattle.request.proofs.choice.set_matched.Given as goal
 
 abbrev pub invariant-loop-i : goal.invariant-loop-i

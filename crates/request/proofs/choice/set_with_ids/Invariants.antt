@@ -1,15 +1,13 @@
 -- `choice::set_with_ids` meets its contract. The invariant: what is told is what the ids still to come set, and they are read from
 -- here.
 -- Assumes nothing.
-use mathlib.Core.Path.{◌≡◌, refl, ◌∙◌}
+use mathlib.Core.Path.{◌≡◌}
 use Prim.Native.Nat.{◌-◌}
-use native.Mathlib.Omega.{arith}
-use borrow.Author.Rules.{rules}
 use lib.ListN.{length}
 use Rattle.request.specs.Meaning.{keys_in}
 use Rattle.store.specs.Tables.{elements_in}
 use Rattle.request.specs.Choice.{set_flags, with_ids}
-use Rattle.request.proofs.Putting.{SettingIds, ids_start, ids_more, ids_over, ids_end}
+use Rattle.request.proofs.Putting.{SettingIds}
 use Rattle.request.proofs.choice.set_with_ids.Given as goal
 
 abbrev pub invariant-loop-i : goal.invariant-loop-i

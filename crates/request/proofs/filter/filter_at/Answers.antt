@@ -2,7 +2,6 @@
 -- Assumes nothing.
 use Rattle.request.specs.Filter.{filter_at, filter_opened}
 use Rattle.request.proofs.Inside.{good_filter_fields}
-use borrow.Author.Rules.{rules}
 use Rattle.request.proofs.filter.filter_at.Goals as goal
 
 pub closed-k-requires : goal.closed-k-requires

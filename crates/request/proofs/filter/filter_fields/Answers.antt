@@ -1,7 +1,6 @@
 -- `filter::filter_fields` meets its contract.
 -- Assumes nothing.
 use Rattle.request.specs.Filter.{filter_fields}
-use borrow.Author.Rules.{rules}
 use Rattle.request.proofs.filter.filter_fields.Goals as goal
 
 pub returns : goal.returns

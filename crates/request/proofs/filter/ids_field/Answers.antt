@@ -1,7 +1,6 @@
 -- `filter::ids_field` meets its contract.
 -- Assumes nothing.
 use Rattle.request.specs.Filter.{ids_field}
-use borrow.Author.Rules.{rules}
 use Rattle.request.proofs.filter.ids_field.Goals as goal
 
 pub returns : goal.returns

@@ -1,10 +1,8 @@
 -- `filter::ids_from` meets its contract.
 -- Assumes nothing.
 use mathlib.Core.Path.{◌≡◌, sym, ◌∙◌}
-use Prim.Native.Nat.{◌-◌, ◌≤◌}
+use Prim.Native.Nat.{◌-◌}
 use native.Mathlib.Omega.{arith}
-use borrow.Author.Rules.{rules}
-use Rattle.request.specs.Filter.{ids_from}
 use Rattle.request.proofs.Turns.{ids_more, ids_over, ids_end}
 use Rattle.request.proofs.filter.ids_from.Goals as goal
 

@@ -1,11 +1,8 @@
 -- `filter::ids_from` meets its contract.
 -- Assumes nothing.
-use mathlib.Core.Path.{◌≡◌, sym, ◌∙◌}
+use mathlib.Core.Path.{◌≡◌}
 use Prim.Native.Nat.{◌-◌, ◌≤◌}
-use native.Mathlib.Omega.{arith}
-use borrow.Author.Rules.{rules}
 use Rattle.request.specs.Filter.{ids_from}
-use Rattle.request.proofs.Turns.{ids_more, ids_over, ids_end}
 use Rattle.request.proofs.filter.ids_from.Given as goal
 
 abbrev pub invariant-loop-i : goal.invariant-loop-i

@@ -2,7 +2,6 @@
 -- Assumes nothing.
 use Rattle.request.specs.Filter.{ids_part}
 use Rattle.request.proofs.Inside.{good_ids_field}
-use borrow.Author.Rules.{rules}
 use Rattle.request.proofs.filter.ids_part.Goals as goal
 
 pub closed-requires : goal.closed-requires

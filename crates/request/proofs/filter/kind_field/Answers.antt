@@ -1,6 +1,5 @@
 -- `filter::kind_field` meets its contract.
 -- Assumes nothing.
-use borrow.Author.Rules.{rules}
 use Rattle.request.proofs.filter.kind_field.Goals as goal
 
 pub returns : goal.returns

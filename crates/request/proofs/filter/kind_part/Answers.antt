@@ -2,7 +2,6 @@
 -- Assumes nothing.
 use borrow.Author.Tests.{lt-ltb, le-ltb, eq-eqb, ne_eqb}
 use Rattle.request.specs.Filter.{kind_part}
-use borrow.Author.Rules.{rules}
 use Rattle.request.proofs.filter.kind_part.Goals as goal
 
 pub returns-then-kind-eq-OF_TYPE : goal.returns-then-kind-eq-OF_TYPE

@@ -1,7 +1,6 @@
 -- `filter::one_number` meets its contract.
 -- Assumes nothing.
 use Rattle.request.specs.Filter.{one_number}
-use borrow.Author.Rules.{rules}
 use Rattle.request.proofs.filter.one_number.Goals as goal
 
 pub returns : goal.returns

@@ -6,7 +6,6 @@ use native.Mathlib.Omega.{arith}
 use lib.ListN.{length, drop, length-drop}
 use Rattle.laws.proofs.Parts.{tail_part}
 use Rattle.objects.specs.Steps.{id_here, on_id}
-use borrow.Author.Rules.{rules}
 use Rattle.request.proofs.ShortIds.{Seen, short_seen}
 use Rattle.request.proofs.filter.past_id.Goals as goal
 use Rattle.request.proofs.filter.past_id.Goals.{Else-n-eq0}

@@ -1,10 +1,7 @@
 -- `filter::read_filters` meets its contract.
 -- Assumes nothing.
-use mathlib.Core.Path.{◌≡◌, refl, sym, ◌∙◌}
-use Prim.Native.Nat.{◌-◌, ◌≤◌}
+use mathlib.Core.Path.{refl, sym, ◌∙◌}
 use native.Mathlib.Omega.{arith}
-use borrow.Author.Rules.{rules}
-use Rattle.request.specs.Filter.{filters_from}
 use Rattle.request.proofs.Turns.{filters_more, filters_over, filters_end}
 use Rattle.request.proofs.filter.read_filters.Goals as goal
 

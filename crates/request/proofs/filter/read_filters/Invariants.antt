@@ -1,11 +1,8 @@
 -- `filter::read_filters` meets its contract.
 -- Assumes nothing.
-use mathlib.Core.Path.{◌≡◌, refl, sym, ◌∙◌}
+use mathlib.Core.Path.{◌≡◌}
 use Prim.Native.Nat.{◌-◌, ◌≤◌}
-use native.Mathlib.Omega.{arith}
-use borrow.Author.Rules.{rules}
 use Rattle.request.specs.Filter.{filters_from}
-use Rattle.request.proofs.Turns.{filters_more, filters_over, filters_end}
 use Rattle.request.proofs.filter.read_filters.Given as goal
 
 abbrev pub invariant-loop-at : goal.invariant-loop-at

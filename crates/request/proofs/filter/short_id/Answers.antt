@@ -2,7 +2,6 @@
 -- Assumes nothing.
 use borrow.Author.Tests.{lt-ltb, le-ltb, eq-eqb, ne_eqb}
 use Rattle.request.specs.ShortId.{short_id}
-use borrow.Author.Rules.{rules}
 use Rattle.request.proofs.filter.short_id.Goals as goal
 
 pub returns-then-s-lt18 : goal.returns-then-s-lt18

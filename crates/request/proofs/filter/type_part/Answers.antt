@@ -2,7 +2,6 @@
 -- Assumes nothing.
 use Rattle.request.specs.Filter.{type_part}
 use Rattle.request.proofs.Inside.{good_one_number}
-use borrow.Author.Rules.{rules}
 use Rattle.request.proofs.filter.type_part.Goals as goal
 
 pub closed-requires : goal.closed-requires

@@ -2,7 +2,6 @@
 -- Assumes nothing.
 use borrow.Author.Tests.{lt-ltb, le-ltb, eq-eqb, ne_eqb}
 use Rattle.request.specs.Message.{request_answer}
-use borrow.Author.Rules.{rules}
 use Rattle.request.proofs.message.answer.Goals as goal
 
 pub returns-in-At : goal.returns-in-At

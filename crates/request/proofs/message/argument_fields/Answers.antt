@@ -1,7 +1,6 @@
 -- `message::argument_fields` meets its contract.
 -- Assumes nothing.
 use Rattle.request.specs.Message.{argument_fields}
-use borrow.Author.Rules.{rules}
 use Rattle.request.proofs.message.argument_fields.Goals as goal
 
 pub returns : goal.returns

@@ -2,7 +2,6 @@
 -- Assumes nothing.
 use Rattle.request.specs.Message.{arguments}
 use Rattle.request.proofs.Inside.{good_argument_fields}
-use borrow.Author.Rules.{rules}
 use Rattle.request.proofs.message.arguments.Goals as goal
 
 pub closed-requires : goal.closed-requires

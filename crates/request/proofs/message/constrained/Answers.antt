@@ -1,7 +1,6 @@
 -- `message::constrained` meets its contract.
 -- Assumes nothing.
 use Rattle.request.specs.Message.{constrained_from}
-use borrow.Author.Rules.{rules}
 use Rattle.request.proofs.message.constrained.Goals as goal
 
 pub returns : goal.returns

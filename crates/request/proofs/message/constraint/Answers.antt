@@ -3,7 +3,6 @@
 use Rattle.request.specs.Message.{constraint}
 use mathlib.Core.Path.{sym, ◌∙◌}
 use Rattle.request.proofs.Inside.{good_one_number}
-use borrow.Author.Rules.{rules}
 use Rattle.request.proofs.message.constraint.Goals as goal
 
 pub closed-requires : goal.closed-requires

@@ -1,7 +1,6 @@
 -- `message::id_in` meets its contract.
 -- Assumes nothing.
 use Rattle.request.specs.Message.{id_in}
-use borrow.Author.Rules.{rules}
 use Rattle.request.proofs.message.id_in.Goals as goal
 
 pub returns-in-At : goal.returns-in-At

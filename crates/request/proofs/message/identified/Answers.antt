@@ -1,7 +1,6 @@
 -- `message::identified` meets its contract.
 -- Assumes nothing.
 use Rattle.request.specs.Message.{identified}
-use borrow.Author.Rules.{rules}
 use Rattle.request.proofs.message.identified.Goals as goal
 
 pub returns : goal.returns

@@ -4,7 +4,6 @@ use mathlib.Core.Path.{refl, sym, ◌∙◌}
 use Rattle.talk.specs.Ranges.{Normal}
 use Rattle.ranges.specs.RangeTable.{ranges_at}
 use Rattle.request.specs.Message.{knowledge_part}
-use borrow.Author.Rules.{rules}
 use Rattle.request.proofs.message.knowledge_part.Goals as goal
 
 pub returns-then-next_is : goal.returns-then-next_is

@@ -2,7 +2,6 @@
 -- Assumes nothing.
 use borrow.Author.Tests.{lt-ltb, le-ltb, eq-eqb, ne_eqb}
 use Rattle.request.specs.Message.{on_knowledge}
-use borrow.Author.Rules.{rules}
 use Rattle.request.proofs.message.on_knowledge.Goals as goal
 
 pub returns-in-Holds : goal.returns-in-Holds

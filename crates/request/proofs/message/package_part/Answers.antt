@@ -2,7 +2,6 @@
 -- Assumes nothing.
 use Rattle.request.specs.Message.{package_part}
 use mathlib.Core.Path.{sym, ◌∙◌}
-use borrow.Author.Rules.{rules}
 use Rattle.request.proofs.message.package_part.Goals as goal
 
 pub returns-then-next_is : goal.returns-then-next_is

@@ -1,7 +1,6 @@
 -- `message::query_changes` meets its contract.
 -- Assumes nothing.
 use Rattle.request.specs.Message.{query_changes}
-use borrow.Author.Rules.{rules}
 use Rattle.request.proofs.message.query_changes.Goals as goal
 
 pub returns : goal.returns

@@ -2,7 +2,6 @@
 -- Assumes nothing.
 use mathlib.Core.Path.{◌∙◌}
 use Rattle.request.proofs.Whole.{over_long_read, whole_read}
-use borrow.Author.Rules.{rules}
 use Rattle.request.proofs.message.read_request.Goals as goal
 
 pub returns-then-s-gt-LONGEST_INPUT : goal.returns-then-s-gt-LONGEST_INPUT

@@ -1,7 +1,6 @@
 -- `message::request_end` meets its contract.
 -- Assumes nothing.
 use Rattle.request.specs.Message.{request_end}
-use borrow.Author.Rules.{rules}
 use Rattle.request.proofs.message.request_end.Goals as goal
 
 pub returns : goal.returns

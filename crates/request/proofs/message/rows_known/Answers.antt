@@ -2,7 +2,6 @@
 -- Assumes nothing.
 use borrow.Author.Tests.{lt-ltb, le-ltb, eq-eqb, ne_eqb}
 use Rattle.request.specs.Message.{rows_known}
-use borrow.Author.Rules.{rules}
 use Rattle.request.proofs.message.rows_known.Goals as goal
 
 pub returns-in-Holds : goal.returns-in-Holds

@@ -2,7 +2,6 @@
 -- Assumes nothing.
 use Rattle.request.specs.Message.{sub_request}
 use Rattle.request.proofs.Inside.{good_sub_request_fields}
-use borrow.Author.Rules.{rules}
 use Rattle.request.proofs.message.sub_request.Goals as goal
 
 pub closed-requires : goal.closed-requires

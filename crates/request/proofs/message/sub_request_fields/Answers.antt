@@ -1,7 +1,6 @@
 -- `message::sub_request_fields` meets its contract.
 -- Assumes nothing.
 use Rattle.request.specs.Message.{sub_request_fields}
-use borrow.Author.Rules.{rules}
 use Rattle.request.proofs.message.sub_request_fields.Goals as goal
 
 pub returns : goal.returns

@@ -1,7 +1,6 @@
 -- `message::user_agent` meets its contract.
 -- Assumes nothing.
 use Rattle.request.specs.Message.{user_agent}
-use borrow.Author.Rules.{rules}
 use Rattle.request.proofs.message.user_agent.Goals as goal
 
 pub returns : goal.returns

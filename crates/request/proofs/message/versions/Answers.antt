@@ -1,7 +1,6 @@
 -- `message::versions` meets its contract.
 -- Assumes nothing.
 use Rattle.request.specs.Message.{versions}
-use borrow.Author.Rules.{rules}
 use Rattle.request.proofs.message.versions.Goals as goal
 
 pub returns : goal.returns

@@ -7,7 +7,6 @@ use Rattle.objects.specs.Header.{end_bytes}
 use Rattle.laws.proofs.Placing.{lays_then}
 use Rattle.request.specs.Response.{ends_bytes}
 use Rattle.request.proofs.ResponseLengths.{length_back}
-use borrow.Author.Rules.{rules}
 use Rattle.request.proofs.response.lay_back.Goals as goal
 
 pub lay_end-behind_sub_response-requires : goal.lay_end-behind_sub_response-requires

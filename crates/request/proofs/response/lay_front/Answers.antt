@@ -10,7 +10,6 @@ use Rattle.store.specs.Written.{package_front}
 use Rattle.laws.proofs.Placing.{lays_then}
 use Rattle.request.specs.Response.{version_bytes, answer_signature, response_bytes, answer_front}
 use Rattle.request.proofs.ResponseLengths.{length_front}
-use borrow.Author.Rules.{rules}
 use Rattle.request.proofs.response.lay_front.Goals as goal
 
 pub lay_versions-behind_versions-requires : goal.lay_versions-behind_versions-requires

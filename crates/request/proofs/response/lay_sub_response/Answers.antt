@@ -12,7 +12,6 @@ use Rattle.laws.specs.Placed.{Lays}
 use Rattle.laws.proofs.Placing.{lays_then}
 use Rattle.request.specs.Response.{sub_response_data, sub_response_bytes}
 use Rattle.request.proofs.ResponseLengths.{length_sub_data, length_sub_start, length_sub}
-use borrow.Author.Rules.{rules}
 use Rattle.request.proofs.response.lay_sub_response.Goals as goal
 
 pub lay_start-behind_start-requires : goal.lay_start-behind_start-requires

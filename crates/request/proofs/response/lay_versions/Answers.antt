@@ -9,7 +9,6 @@ use Rattle.laws.proofs.Numbers.{length_bytes}
 use Rattle.laws.proofs.Placing.{lays_then}
 use Rattle.request.specs.Response.{version_bytes}
 use Rattle.request.proofs.ResponseLengths.{length_versions}
-use borrow.Author.Rules.{rules}
 use Rattle.request.proofs.response.lay_versions.Goals as goal
 
 pub lay_le-behind_version-requires : goal.lay_le-behind_version-requires

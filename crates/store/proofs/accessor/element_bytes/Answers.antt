@@ -4,7 +4,6 @@ use mathlib.Core.Path.{◌≡◌, sym, ◌∙◌}
 use Rattle.store.proofs.OneAnswers.{found_telling}
 use Rattle.store.specs.Accessor.{found_in, element_bytes}
 use Rattle.store.specs.declared.accessor.Found.TheVariants.{At, Refused}
-use borrow.Author.Rules.{rules}
 use Rattle.store.proofs.accessor.element_bytes.Goals as goal
 
 pub returns-in-At : goal.returns-in-At

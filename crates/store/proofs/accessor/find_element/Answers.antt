@@ -8,7 +8,6 @@ use Rattle.store.specs.Tables.{id_width, most_elements, row_numbers}
 use Rattle.store.specs.Store.{store_walk}
 use Rattle.store.specs.Accessor.{tell_found}
 use Rattle.store.proofs.Found.{found_row, found_none, store_most, laid_long, full_rows, store_holds, store_refused}
-use borrow.Author.Rules.{rules}
 use Rattle.store.proofs.accessor.find_element.Goals as goal
 use Rattle.store.proofs.accessor.find_element.Goals.{Else-n-position}
 

@@ -2,7 +2,6 @@
 -- Assumes nothing.
 use borrow.Author.Tests.{lt-ltb, le-ltb, eq-eqb, ne_eqb}
 use Rattle.store.specs.Element.{any_key}
-use borrow.Author.Rules.{rules}
 use Rattle.store.proofs.element.any_key.Goals as goal
 
 pub returns-in-Refused : goal.returns-in-Refused

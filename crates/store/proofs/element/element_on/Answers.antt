@@ -5,7 +5,6 @@ use Rattle.objects.specs.Steps.{Behind}
 use Rattle.objects.specs.declared.reading.Reading.TheVariants.{At}
 use borrow.Author.Tests.{lt-ltb, le-ltb, eq-eqb, ne_eqb}
 use Rattle.store.specs.Element.{element_on}
-use borrow.Author.Rules.{rules}
 use Rattle.store.proofs.element.element_on.Goals as goal
 
 pub overflow_sub-result : goal.overflow_sub-result

@@ -1,7 +1,6 @@
 -- `element::id_field` meets its contract.
 -- Assumes nothing.
 use Rattle.store.specs.Element.{id_field}
-use borrow.Author.Rules.{rules}
 use Rattle.store.proofs.element.id_field.Goals as goal
 
 pub returns : goal.returns

@@ -3,7 +3,6 @@
 use Rattle.objects.specs.Steps.{run_here}
 use Rattle.store.proofs.Fields.{good_fields, data_behind}
 use Rattle.store.specs.Element.{element_at, data_of}
-use borrow.Author.Rules.{rules}
 use Rattle.store.proofs.element.read_element.Goals as goal
 
 pub closed-k-requires : goal.closed-k-requires

@@ -1,7 +1,6 @@
 -- `element::read_fields` meets its contract.
 -- Assumes nothing.
 use Rattle.store.specs.Element.{fields_of}
-use borrow.Author.Rules.{rules}
 use Rattle.store.proofs.element.read_fields.Goals as goal
 
 pub returns : goal.returns

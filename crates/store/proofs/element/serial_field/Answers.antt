@@ -1,7 +1,6 @@
 -- `element::serial_field` meets its contract.
 -- Assumes nothing.
 use Rattle.store.specs.Element.{serial_field}
-use borrow.Author.Rules.{rules}
 use Rattle.store.proofs.element.serial_field.Goals as goal
 
 pub returns-then-strict : goal.returns-then-strict

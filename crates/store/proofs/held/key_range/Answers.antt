@@ -1,7 +1,6 @@
 -- `held::key_range` meets its contract.
 -- Assumes nothing.
 use Rattle.store.specs.Held.{key_range}
-use borrow.Author.Rules.{rules}
 use Rattle.store.proofs.held.key_range.Goals as goal
 
 pub returns : goal.returns

@@ -1,7 +1,6 @@
 -- `held::serial_range` meets its contract.
 -- Assumes nothing.
 use Rattle.store.specs.Held.{serial_range}
-use borrow.Author.Rules.{rules}
 use Rattle.store.proofs.held.serial_range.Goals as goal
 
 pub returns : goal.returns

@@ -1,18 +1,8 @@
 -- `held::storage_index` meets its contract. The invariant: the index of all is that of the elements from here on.
 -- Assumes nothing.
-use mathlib.Core.Path.{◌≡◌, sym, ◌∙◌}
-use mathlib.Core.List.{List}
-use Prim.Native.Nat.{ℕ, ◌+◌, ◌-◌, ◌≤◌, ◌<◌}
-use native.Mathlib.Omega.{arith}
-use native.Mathlib.Numerals.{add-one}
-use lib.Dec.{eqb}
-use borrow.Author.Tests.{eq-eqb, ne_eqb}
-use Rattle.laws.specs.Pick.{pick}
-use Rattle.numbers.specs.declared.extended_guid.ExtendedGuid.TheVariants.{Null, Named}
-use Rattle.store.specs.Tables.{element_in_row, elements_in_rows, elements_in}
-use Rattle.store.specs.Written.{key_guid}
-use Rattle.store.specs.declared.element.Element.{Element}
-use Rattle.store.proofs.Elements.{rows_up_to, elements_turn, elements_end}
+use mathlib.Core.Path.{◌≡◌}
+use Prim.Native.Nat.{◌-◌, ◌≤◌}
+use Rattle.store.specs.Tables.{elements_in_rows, elements_in}
 use Rattle.store.specs.Held.{storage_index}
 use Rattle.store.proofs.held.storage_index.Given as goal
 

@@ -2,7 +2,6 @@
 -- Assumes nothing.
 use Rattle.store.specs.Knowledge.{entry_item}
 use Rattle.store.proofs.Items.{good_entry_fields}
-use borrow.Author.Rules.{rules}
 use Rattle.store.proofs.item.entry_item.Goals as goal
 
 pub closed-requires : goal.closed-requires

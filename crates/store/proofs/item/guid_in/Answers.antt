@@ -2,7 +2,6 @@
 -- Assumes nothing.
 use borrow.Author.Tests.{lt-ltb, le-ltb, eq-eqb, ne_eqb}
 use Rattle.store.specs.Knowledge.{guid_in}
-use borrow.Author.Rules.{rules}
 use Rattle.store.proofs.item.guid_in.Goals as goal
 
 pub returns-in-At : goal.returns-in-At

@@ -2,7 +2,6 @@
 -- Assumes nothing.
 use borrow.Author.Tests.{lt-ltb, le-ltb, eq-eqb, ne_eqb}
 use Rattle.store.specs.Knowledge.{item_of}
-use borrow.Author.Rules.{rules}
 use Rattle.store.proofs.item.item_of.Goals as goal
 
 pub returns-in-At : goal.returns-in-At

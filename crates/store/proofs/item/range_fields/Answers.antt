@@ -1,7 +1,6 @@
 -- `item::range_fields` meets its contract.
 -- Assumes nothing.
 use Rattle.store.specs.Knowledge.{range_fields}
-use borrow.Author.Rules.{rules}
 use Rattle.store.proofs.item.range_fields.Goals as goal
 
 pub returns : goal.returns

@@ -2,7 +2,6 @@
 -- Assumes nothing.
 use Rattle.store.specs.Knowledge.{range_item}
 use Rattle.store.proofs.Items.{good_range_fields}
-use borrow.Author.Rules.{rules}
 use Rattle.store.proofs.item.range_item.Goals as goal
 
 pub closed-requires : goal.closed-requires

@@ -4,7 +4,6 @@ use mathlib.Core.Path.{sym}
 use native.Mathlib.Omega.{arith}
 use Rattle.objects.specs.Steps.{start_here}
 use Rattle.store.proofs.ShortRanges.{range_there, range_start_lem}
-use borrow.Author.Rules.{rules}
 use Rattle.store.proofs.item.range_start.Goals as goal
 
 pub overflow_add-result : goal.overflow_add-result

@@ -2,7 +2,6 @@
 -- Assumes nothing.
 use borrow.Author.Tests.{lt-ltb, le-ltb, eq-eqb, ne_eqb}
 use Rattle.store.specs.Knowledge.{is_cell}
-use borrow.Author.Rules.{rules}
 use Rattle.store.proofs.knowledge.is_cell.Goals as goal
 
 pub returns-then-g-ne-CELL_LOW : goal.returns-then-g-ne-CELL_LOW

@@ -3,7 +3,6 @@
 use mathlib.Core.Path.{refl, ◌∙◌}
 use Rattle.store.specs.Knowledge.{cell_from}
 use Rattle.store.proofs.Learning.{known_standing}
-use borrow.Author.Rules.{rules}
 use Rattle.store.proofs.knowledge.read_cell.Goals as goal
 
 pub returns : goal.returns

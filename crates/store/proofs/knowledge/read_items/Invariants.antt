@@ -1,12 +1,10 @@
 -- `knowledge::read_items` meets its contract.
 -- Assumes nothing.
-use mathlib.Core.Path.{◌≡◌, refl, sym, ◌∙◌}
-use native.Mathlib.Omega.{arith}
+use mathlib.Core.Path.{◌≡◌}
 use lib.ListN.{length}
-use borrow.Author.Rules.{rules}
 use Rattle.ranges.specs.RangeTable.{ranges_at}
 use Rattle.store.specs.Knowledge.{items_from}
-use Rattle.store.proofs.Uniting.{Uniting, uniting_end, uniting_over, uniting_long, uniting_more}
+use Rattle.store.proofs.Uniting.{Uniting}
 use Rattle.store.proofs.knowledge.read_items.Given as goal
 
 abbrev pub invariant-loop-last : goal.invariant-loop-last

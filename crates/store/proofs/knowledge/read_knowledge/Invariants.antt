@@ -1,13 +1,10 @@
 -- `knowledge::read_knowledge` meets its contract.
 -- Assumes nothing.
-use mathlib.Core.Path.{◌≡◌, refl, sym, ◌∙◌}
+use mathlib.Core.Path.{◌≡◌}
 use mathlib.Core.List.{[]}
-use native.Mathlib.Omega.{arith}
 use lib.ListN.{length}
-use borrow.Author.Rules.{rules}
-use Rattle.store.specs.Knowledge.{knowing, to_go, knowledge_from, knowledge_at}
-use Rattle.store.proofs.KnowledgeForward.{specialized_falls}
-use Rattle.store.proofs.Learning.{Learning, learning_start, learning_more, learning_end}
+use Rattle.store.specs.Knowledge.{knowing, to_go, knowledge_from}
+use Rattle.store.proofs.Learning.{Learning}
 use Rattle.store.proofs.knowledge.read_knowledge.Given as goal
 
 abbrev pub invariant-loop-table : goal.invariant-loop-table

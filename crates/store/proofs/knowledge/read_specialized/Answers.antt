@@ -4,7 +4,6 @@ use mathlib.Core.Path.{refl, sym, ap, ◌∙◌}
 use Rattle.store.specs.Knowledge.{is_cell, specialized_from, cell_from}
 use Rattle.store.proofs.Learning.{known_start}
 use Rattle.store.proofs.SpecializedRun.{run_good, run_closed, run_cell}
-use borrow.Author.Rules.{rules}
 use Rattle.store.proofs.knowledge.read_specialized.Goals as goal
 
 pub closed-behind-requires : goal.closed-behind-requires

@@ -6,7 +6,6 @@ use Rattle.laws.proofs.Cases.{impossible}
 use Rattle.store.specs.Knowledge.{united}
 use Rattle.ranges.specs.declared.Added.TheVariants.{Rows}
 use Rattle.store.proofs.Uniting.{added_fits, none_added}
-use borrow.Author.Rules.{rules}
 use Rattle.store.proofs.knowledge.unite.Goals as goal
 
 pub returns-in-Nothing : goal.returns-in-Nothing

@@ -5,7 +5,6 @@ use native.Mathlib.Omega.{arith}
 use lib.ListN.{length}
 use Rattle.store.specs.KnowledgeWritten.{ranges_bytes}
 use Rattle.store.proofs.KnowledgeLengths.{rows_front, length_none, length_some}
-use borrow.Author.Rules.{rules}
 use Rattle.store.proofs.knowledge_write.knowledge_length.Goals as goal
 
 pub returns-then-rows-eq0 : goal.returns-then-rows-eq0

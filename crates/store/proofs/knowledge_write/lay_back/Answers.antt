@@ -8,7 +8,6 @@ use Rattle.objects.specs.Header.{end_bytes}
 use Rattle.store.specs.KnowledgeWritten.{cell_back}
 use Rattle.laws.proofs.Placing.{lays_then}
 use Rattle.store.proofs.KnowledgeLengths.{length_back}
-use borrow.Author.Rules.{rules}
 use Rattle.store.proofs.knowledge_write.lay_back.Goals as goal
 
 pub lay_end-behind_cell-requires : goal.lay_end-behind_cell-requires

@@ -11,7 +11,6 @@ use Rattle.store.specs.KnowledgeWritten.{range_guid, range_data}
 use Rattle.laws.specs.Placed.{Lays}
 use Rattle.laws.proofs.Placing.{lays_then}
 use Rattle.store.proofs.KnowledgeLengths.{length_data}
-use borrow.Author.Rules.{rules}
 use Rattle.store.proofs.knowledge_write.lay_data.Goals as goal
 
 pub lay_guid-behind_guid-requires : goal.lay_guid-behind_guid-requires

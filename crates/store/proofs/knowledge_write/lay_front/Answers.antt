@@ -12,7 +12,6 @@ use Rattle.store.specs.Knowledge.{cell_guid}
 use Rattle.store.specs.KnowledgeWritten.{cell_front}
 use Rattle.laws.proofs.Placing.{lays_then}
 use Rattle.store.proofs.KnowledgeLengths.{length_front}
-use borrow.Author.Rules.{rules}
 use Rattle.store.proofs.knowledge_write.lay_front.Goals as goal
 
 pub lay_start-behind_knowledge-requires : goal.lay_start-behind_knowledge-requires

@@ -10,7 +10,6 @@ use Rattle.ranges.specs.RangeTable.{ranges_at}
 use Rattle.store.specs.KnowledgeWritten.{ranges_bytes, cell_front, cell_back}
 use Rattle.laws.proofs.Placing.{lays_then}
 use Rattle.store.proofs.KnowledgeLengths.{length_front, length_back, knowledge_none, knowledge_some, length_none, length_some}
-use borrow.Author.Rules.{rules}
 use Rattle.store.proofs.knowledge_write.lay_knowledge.Goals as goal
 
 pub lay_start-behind_start-requires : goal.lay_start-behind_start-requires

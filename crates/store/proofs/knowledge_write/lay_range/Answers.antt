@@ -10,7 +10,6 @@ use Rattle.store.specs.KnowledgeWritten.{range_data, range_bytes}
 use Rattle.laws.specs.Placed.{Lays}
 use Rattle.laws.proofs.Placing.{lays_then}
 use Rattle.store.proofs.KnowledgeLengths.{length_range_start, range_is}
-use borrow.Author.Rules.{rules}
 use Rattle.store.proofs.knowledge_write.lay_range.Goals as goal
 
 pub overflow_sub-n : goal.overflow_sub-n

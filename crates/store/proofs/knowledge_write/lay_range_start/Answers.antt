@@ -6,7 +6,6 @@ use native.Mathlib.Omega.{arith}
 use lib.ListN.{length}
 use Rattle.laws.proofs.Placing.{lays_then}
 use Rattle.store.proofs.ShortRanges.{range_start_bytes}
-use borrow.Author.Rules.{rules}
 use Rattle.store.proofs.knowledge_write.lay_range_start.Goals as goal
 
 pub returns : goal.returns

@@ -1,6 +1,6 @@
 -- `knowledge_write::lay_ranges` meets its contract. The invariant: with the rows still to come laid at p, out is what it is to be.
 -- Assumes nothing.
-use mathlib.Core.Path.{◌≡◌, refl, sym, ap, ◌∙◌}
+use mathlib.Core.Path.{refl, sym, ap, ◌∙◌}
 use mathlib.Core.List.{List}
 use Prim.Native.Nat.{ℕ, ◌+◌, ◌-◌, ◌≤◌, ◌<◌}
 use native.Mathlib.Omega.{arith}
@@ -11,7 +11,6 @@ use Rattle.store.specs.KnowledgeWritten.{range_bytes, ranges_bytes}
 use Rattle.laws.specs.Placed.{laid, Lays}
 use Rattle.laws.proofs.Placing.{laid_nothing, lays_first}
 use Rattle.store.proofs.KnowledgeLengths.{rows_front, bytes_turn, bytes_end, length_turn}
-use borrow.Author.Rules.{rules}
 use Rattle.store.proofs.knowledge_write.lay_ranges.Goals as goal
 
 pub loop-i-init : goal.loop-i-init

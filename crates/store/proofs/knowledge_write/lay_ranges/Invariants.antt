@@ -1,17 +1,11 @@
 -- `knowledge_write::lay_ranges` meets its contract. The invariant: with the rows still to come laid at p, out is what it is to be.
 -- Assumes nothing.
-use mathlib.Core.Path.{◌≡◌, refl, sym, ap, ◌∙◌}
-use mathlib.Core.List.{List}
-use Prim.Native.Nat.{ℕ, ◌+◌, ◌-◌, ◌≤◌, ◌<◌}
-use native.Mathlib.Omega.{arith}
+use mathlib.Core.Path.{◌≡◌}
+use Prim.Native.Nat.{◌+◌, ◌-◌, ◌≤◌}
 use lib.ListN.{length}
-use Rattle.talk.specs.declared.range.Range.{Range}
-use Rattle.ranges.specs.RangeTable.{range_at, ranges_at}
-use Rattle.store.specs.KnowledgeWritten.{range_bytes, ranges_bytes}
-use Rattle.laws.specs.Placed.{laid, Lays}
-use Rattle.laws.proofs.Placing.{laid_nothing, lays_first}
-use Rattle.store.proofs.KnowledgeLengths.{rows_front, bytes_turn, bytes_end, length_turn}
-use borrow.Author.Rules.{rules}
+use Rattle.ranges.specs.RangeTable.{ranges_at}
+use Rattle.store.specs.KnowledgeWritten.{ranges_bytes}
+use Rattle.laws.specs.Placed.{laid}
 use Rattle.store.proofs.knowledge_write.lay_ranges.Given as goal
 
 abbrev pub invariant-loop-i : goal.invariant-loop-i

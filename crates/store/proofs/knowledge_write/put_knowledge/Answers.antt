@@ -4,7 +4,6 @@ use mathlib.Core.Path.{◌∙◌}
 use Rattle.ranges.specs.RangeTable.{ranges_at}
 use Rattle.store.specs.KnowledgeWritten.{knowledge_bytes}
 use Rattle.laws.proofs.Placing.{laid_front}
-use borrow.Author.Rules.{rules}
 use Rattle.store.proofs.knowledge_write.put_knowledge.Goals as goal
 
 pub returns : goal.returns

@@ -1,7 +1,6 @@
 -- `knowledge_write::range_guid` meets its contract.
 -- Assumes nothing.
 use Rattle.store.specs.KnowledgeWritten.{range_guid}
-use borrow.Author.Rules.{rules}
 use Rattle.store.proofs.knowledge_write.range_guid.Goals as goal
 
 pub returns : goal.returns

@@ -2,7 +2,6 @@
 -- Assumes nothing.
 use native.Mathlib.Omega.{arith}
 use Rattle.store.proofs.KnowledgeLengths.{length_range}
-use borrow.Author.Rules.{rules}
 use Rattle.store.proofs.knowledge_write.range_length.Goals as goal
 
 pub returns : goal.returns

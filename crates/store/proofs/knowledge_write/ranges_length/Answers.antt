@@ -1,14 +1,13 @@
 -- `knowledge_write::ranges_length` meets its contract. The invariant: with the bytes of the rows still to come, n is the whole.
 -- Assumes nothing.
 use mathlib.Core.Path.{◌≡◌, ap, ◌∙◌}
-use Prim.Native.Nat.{◌+◌, ◌-◌, ◌*◌, ◌≤◌, ◌<◌}
+use Prim.Native.Nat.{◌≤◌, ◌<◌}
 use native.Mathlib.Omega.{arith}
 use lib.ListN.{length}
 use Rattle.talk.specs.declared.range.Range.{Range}
-use Rattle.ranges.specs.RangeTable.{range_at, ranges_at}
-use Rattle.store.specs.KnowledgeWritten.{range_bytes, ranges_bytes}
+use Rattle.ranges.specs.RangeTable.{range_at}
+use Rattle.store.specs.KnowledgeWritten.{range_bytes}
 use Rattle.store.proofs.KnowledgeLengths.{length_turn, length_end}
-use borrow.Author.Rules.{rules}
 use Rattle.store.proofs.knowledge_write.ranges_length.Goals as goal
 
 pub loop-i-init : goal.loop-i-init

@@ -1,14 +1,10 @@
 -- `knowledge_write::ranges_length` meets its contract. The invariant: with the bytes of the rows still to come, n is the whole.
 -- Assumes nothing.
-use mathlib.Core.Path.{◌≡◌, ap, ◌∙◌}
-use Prim.Native.Nat.{◌+◌, ◌-◌, ◌*◌, ◌≤◌, ◌<◌}
-use native.Mathlib.Omega.{arith}
+use mathlib.Core.Path.{◌≡◌}
+use Prim.Native.Nat.{◌+◌, ◌-◌, ◌*◌, ◌≤◌}
 use lib.ListN.{length}
-use Rattle.talk.specs.declared.range.Range.{Range}
-use Rattle.ranges.specs.RangeTable.{range_at, ranges_at}
-use Rattle.store.specs.KnowledgeWritten.{range_bytes, ranges_bytes}
-use Rattle.store.proofs.KnowledgeLengths.{length_turn, length_end}
-use borrow.Author.Rules.{rules}
+use Rattle.ranges.specs.RangeTable.{ranges_at}
+use Rattle.store.specs.KnowledgeWritten.{ranges_bytes}
 use Rattle.store.proofs.knowledge_write.ranges_length.Given as goal
 
 abbrev pub invariant-loop-i : goal.invariant-loop-i

@@ -7,7 +7,6 @@ use lib.ListN.{drop}
 use Rattle.numbers.proofs.Calls.{wrote_short, wrote_done}
 use Rattle.ranges.specs.RangeTable.{ranges_at}
 use Rattle.store.specs.KnowledgeWritten.{knowledge_bytes}
-use borrow.Author.Rules.{rules}
 use Rattle.store.proofs.knowledge_write.write_knowledge.Goals as goal
 
 pub returns-then-out-needed : goal.returns-then-out-needed

@@ -4,7 +4,6 @@ use mathlib.Core.Path.{refl}
 use native.Mathlib.Numerals.{add-one}
 use native.Mathlib.Omega.{arith}
 use lib.Seq.{set_split}
-use borrow.Author.Rules.{rules}
 use Rattle.store.proofs.lay.lay_byte.Goals as goal
 
 pub returns : goal.returns

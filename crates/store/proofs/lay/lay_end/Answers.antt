@@ -6,7 +6,6 @@ use native.Mathlib.Omega.{arith}
 use borrow.Author.Tests.{le-ltb}
 use Rattle.objects.specs.Header.{end_bytes}
 use Rattle.laws.proofs.Placing.{laid_part}
-use borrow.Author.Rules.{rules}
 use Rattle.store.proofs.lay.lay_end.Goals as goal
 
 pub returns : goal.returns

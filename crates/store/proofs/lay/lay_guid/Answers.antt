@@ -7,7 +7,6 @@ use Rattle.laws.proofs.Parts.{tail_length}
 use Rattle.numbers.specs.Guid.{guid_bytes}
 use Rattle.numbers.proofs.Guids.{length_guid}
 use Rattle.laws.proofs.Placing.{laid_put}
-use borrow.Author.Rules.{rules}
 use Rattle.store.proofs.lay.lay_guid.Goals as goal
 
 pub put_guid-requires : goal.put_guid-requires

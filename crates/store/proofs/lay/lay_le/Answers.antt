@@ -5,7 +5,6 @@ use Prim.Native.Nat.{ℕ, ◌+◌}
 use Rattle.laws.specs.Bytes.{bytes}
 use Rattle.laws.proofs.Numbers.{length_bytes}
 use Rattle.laws.proofs.Placing.{laid_put}
-use borrow.Author.Rules.{rules}
 use Rattle.store.proofs.lay.lay_le.Goals as goal
 
 pub returns : goal.returns

@@ -2,11 +2,11 @@
 -- Assumes nothing.
 use mathlib.Core.Path.{◌≡◌, refl, ◌∙◌}
 use mathlib.Core.List.{append_assoc}
-use Prim.Native.Nat.{◌+◌, ◌-◌, ◌≤◌}
+use Prim.Native.Nat.{◌+◌}
 use native.Mathlib.Numerals.{add-one}
 use native.Mathlib.Omega.{arith}
 use lib.ListN.{length, take, drop, length-set}
-use lib.Seq.{paste, paste-zero, paste-suc, take-length}
+use lib.Seq.{paste-zero, paste-suc, take-length}
 use Rattle.store.proofs.lay.lay_part.Goals as goal
 
 pub loop-i-init : goal.loop-i-init
@@ -14,10 +14,10 @@ loop-i-init c = let a = c.args in (omega arith, refl, paste-zero a.out.now a.at 
 
 pub loop-i-preserved : goal.loop-i-preserved
 loop-i-preserved c = let a = c.args in (
-      omega arith,
-      simp length-set c.loop-i.invariant.1,
-      rw (add-one, c.loop-i.invariant.2) (paste-suc a.out.now a.at a.part.now c.loop-i.i 0 (omega arith) (omega arith)),
-    )
+  omega arith,
+  simp length-set c.loop-i.invariant.1,
+  rw (add-one, c.loop-i.invariant.2) (paste-suc a.out.now a.at a.part.now c.loop-i.i 0 (omega arith) (omega arith)),
+)
 
 pub shape_of-out : goal.shape_of-out
 shape_of-out c = c.loop-i.invariant.1

@@ -7,7 +7,6 @@ use borrow.Author.Tests.{le-ltb}
 use Rattle.objects.specs.Header.{start_bytes}
 use Rattle.laws.proofs.Placing.{laid_part}
 use Rattle.store.proofs.KnowledgeLengths.{length_either}
-use borrow.Author.Rules.{rules}
 use Rattle.store.proofs.lay.lay_start.Goals as goal
 
 pub returns : goal.returns

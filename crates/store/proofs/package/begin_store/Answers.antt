@@ -4,7 +4,6 @@ use mathlib.Core.Path.{sym, ap, ◌∙◌}
 use borrow.Author.Tests.{lt-ltb, le-ltb}
 use Rattle.objects.specs.Steps.{finish}
 use Rattle.store.specs.Store.{nothing_of, beginning_of}
-use borrow.Author.Rules.{rules}
 use Rattle.store.proofs.package.begin_store.Goals as goal
 
 pub returns-then-s-gt-LONGEST_INPUT : goal.returns-then-s-gt-LONGEST_INPUT

@@ -1,7 +1,6 @@
 -- `package::nothing_if_fine` meets its contract.
 -- Assumes nothing.
 use Rattle.store.specs.Store.{nothing_of}
-use borrow.Author.Rules.{rules}
 use Rattle.store.proofs.package.nothing_if_fine.Goals as goal
 
 pub returns-in-At : goal.returns-in-At

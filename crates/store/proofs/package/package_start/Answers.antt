@@ -1,7 +1,6 @@
 -- `package::package_start` meets its contract.
 -- Assumes nothing.
 use Rattle.store.specs.Store.{package_start}
-use borrow.Author.Rules.{rules}
 use Rattle.store.proofs.package.package_start.Goals as goal
 
 pub returns : goal.returns

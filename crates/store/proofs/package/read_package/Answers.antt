@@ -1,6 +1,5 @@
 -- `package::read_package` meets its contract: the elements behind its start, and then its end.
 -- Assumes nothing.
-use borrow.Author.Rules.{rules}
 use Rattle.store.proofs.Walks.{good_package}
 use Rattle.store.proofs.Split.{package_refused, package_holds}
 use Rattle.store.proofs.package.read_package.Goals as goal

@@ -4,7 +4,6 @@ use mathlib.Core.Path.{refl, sym, ap, ◌∙◌}
 use borrow.Author.Tests.{lt-ltb, le-ltb}
 use Rattle.store.specs.Store.{store_walk, stored_of}
 use Rattle.store.specs.Tables.{flat}
-use borrow.Author.Rules.{rules}
 use Rattle.store.proofs.Walks.{finished_holds, finished_refused}
 use Rattle.store.proofs.package.read_store.Goals as goal
 

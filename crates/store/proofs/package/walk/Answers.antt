@@ -2,14 +2,13 @@
 -- the walk from here.
 -- Assumes nothing.
 use mathlib.Core.Path.{sym, ap, ◌∙◌}
-use Prim.Native.Nat.{◌-◌, ◌≤◌, ◌<◌}
+use Prim.Native.Nat.{◌≤◌, ◌<◌}
 use lib.ListN.{length}
 use native.Mathlib.Omega.{arith}
-use borrow.Author.Rules.{rules}
 use Rattle.store.specs.Tables.{most_elements, key_marks}
 use Rattle.store.specs.Store.{packaged_of}
 use Rattle.store.proofs.Fields.{element_within}
-use Rattle.store.proofs.Walks.{Held, held_start, held_lent, held_answer, held_over, held_refused, held_more, held_end, packaged_refused}
+use Rattle.store.proofs.Walks.{held_start, held_lent, held_answer, held_over, held_refused, held_more, held_end, packaged_refused}
 use Rattle.store.proofs.package.walk.Goals as goal
 use Rattle.store.proofs.package.walk.Goals.{Else-n-eq-MOST_ELEMENTS}
 

@@ -1,7 +1,6 @@
 -- `sharing::serials_once` meets its contract.
 -- Assumes nothing.
 use mathlib.Core.Path.{sym}
-use borrow.Author.Rules.{rules}
 use Rattle.store.proofs.SharedSerials.{few_once}
 use Rattle.store.proofs.sharing.serials_once.Goals as goal
 

@@ -1,7 +1,6 @@
 -- `table::element_in_row` meets its contract.
 -- Assumes nothing.
 use Rattle.store.specs.Tables.{element_in_row}
-use borrow.Author.Rules.{rules}
 use Rattle.store.proofs.table.element_in_row.Goals as goal
 
 pub returns : goal.returns

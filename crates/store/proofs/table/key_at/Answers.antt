@@ -2,7 +2,6 @@
 -- Assumes nothing.
 use borrow.Author.Tests.{lt-ltb, le-ltb, eq-eqb, ne_eqb}
 use Rattle.store.specs.Tables.{key_at}
-use borrow.Author.Rules.{rules}
 use Rattle.store.proofs.table.key_at.Goals as goal
 
 pub returns : goal.returns

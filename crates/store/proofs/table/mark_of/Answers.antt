@@ -3,7 +3,6 @@
 use mathlib.Core.Path.{refl}
 use native.Mathlib.Nat.{mod-lt}
 use native.Mathlib.Omega.{arith}
-use borrow.Author.Rules.{rules}
 use Rattle.store.specs.Tables.{mark_of}
 use Rattle.store.proofs.Rows.{mark_lt}
 use Rattle.store.proofs.table.mark_of.Goals as goal

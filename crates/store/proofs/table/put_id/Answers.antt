@@ -4,7 +4,6 @@ use native.Mathlib.Omega.{arith}
 use Prim.Native.Nat.{◌*◌}
 use lib.ListN.{length-set}
 use Rattle.store.proofs.Stores.{put_three}
-use borrow.Author.Rules.{rules}
 use Rattle.store.proofs.table.put_id.Goals as goal
 
 pub bounds-t-at-2 : goal.bounds-t-at-2

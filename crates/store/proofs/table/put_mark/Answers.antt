@@ -1,6 +1,5 @@
 -- `table::put_mark` meets its contract.
 -- Assumes nothing.
-use borrow.Author.Rules.{rules}
 use Rattle.store.proofs.table.put_mark.Goals as goal
 
 pub returns : goal.returns

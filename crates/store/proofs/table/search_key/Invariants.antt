@@ -1,15 +1,10 @@
 -- `table::search_key` meets its contract. The invariant: the key is among all keys as it is among those still to come.
 -- Assumes nothing.
-use mathlib.Core.Path.{◌≡◌, sym, ap, ◌∙◌}
-use native.Mathlib.Omega.{arith}
-use Prim.Native.Nat.{◌+◌, ◌-◌, ◌*◌, ◌≤◌, ◌<◌}
-use mathlib.Core.Bool.{true, false}
-use borrow.Author.Rules.{rules}
-use lib.ListN.{length}
+use mathlib.Core.Path.{◌≡◌}
+use Prim.Native.Nat.{◌+◌, ◌-◌, ◌*◌, ◌≤◌}
 use Rattle.laws.specs.Once.{seen}
 use Rattle.store.specs.Element.{same_key}
-use Rattle.store.specs.Tables.{key_at, keys_at}
-use Rattle.store.proofs.Rows.{keys_turn, keys_end, keys_front, key_room, seen_first, seen_later, seen_none}
+use Rattle.store.specs.Tables.{keys_at}
 use Rattle.store.proofs.table.search_key.Given as goal
 
 abbrev pub invariant-loop-i : goal.invariant-loop-i

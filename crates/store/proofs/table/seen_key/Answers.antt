@@ -1,7 +1,6 @@
 -- `table::seen_key` meets its contract: a key whose mark is not set was not seen.
 -- Assumes nothing.
 use mathlib.Core.Path.{sym}
-use borrow.Author.Rules.{rules}
 use Rattle.store.proofs.table.seen_key.Goals as goal
 
 pub returns-then-marks-at-eq0 : goal.returns-then-marks-at-eq0

@@ -5,7 +5,6 @@ use Prim.Native.Nat.{◌+◌, ◌-◌, ◌^◌, ◌<◌}
 use lib.ListN.{length}
 use Rattle.objects.specs.Steps.{closed_at, run_here}
 use Rattle.objects.proofs.ItemsAt.{part_fits}
-use borrow.Author.Rules.{rules}
 use Rattle.objects.proofs.reading.Reading.closed.Goals as goal
 
 pub closed_at-requires : goal.closed_at-requires

@@ -2,7 +2,6 @@
 -- Assumes nothing.
 use borrow.Author.Tests.{lt-ltb, le-ltb, eq-eqb, ne_eqb}
 use Rattle.objects.specs.Steps.{end_here}
-use borrow.Author.Rules.{rules}
 use Rattle.objects.proofs.reading.Reading.end.Goals as goal
 
 pub returns-in-Refused : goal.returns-in-Refused

@@ -6,7 +6,6 @@ use Rattle.objects.proofs.ItemsAt.{id_past, id_fits}
 use borrow.Author.Tests.{lt-ltb, le-ltb, eq-eqb, ne_eqb}
 use Rattle.laws.proofs.Parts.{tail_part}
 use Rattle.objects.specs.Steps.{id_here}
-use borrow.Author.Rules.{rules}
 use Rattle.objects.proofs.reading.Reading.extended_guid.Goals as goal
 
 pub returns-then-s-at : goal.returns-then-s-at

@@ -2,7 +2,6 @@
 -- Assumes nothing.
 use borrow.Author.Tests.{lt-ltb, le-ltb, eq-eqb, ne_eqb}
 use Rattle.objects.specs.Steps.{finish}
-use borrow.Author.Rules.{rules}
 use Rattle.objects.proofs.reading.Reading.finish.Goals as goal
 
 pub returns-then-at-s : goal.returns-then-at-s

@@ -2,7 +2,6 @@
 -- Assumes nothing.
 use borrow.Author.Tests.{lt-ltb, le-ltb}
 use Rattle.objects.specs.Steps.{fixed_in}
-use borrow.Author.Rules.{rules}
 use Rattle.objects.proofs.reading.Reading.fixed_in.Goals as goal
 
 pub returns-then-left-n : goal.returns-then-left-n

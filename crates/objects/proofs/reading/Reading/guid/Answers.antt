@@ -3,7 +3,6 @@
 use borrow.Author.Tests.{lt-ltb, le-ltb, eq-eqb, ne_eqb}
 use Rattle.laws.proofs.Parts.{tail_part}
 use Rattle.objects.specs.Steps.{guid_here}
-use borrow.Author.Rules.{rules}
 use Rattle.objects.proofs.reading.Reading.guid.Goals as goal
 
 pub returns-then-left-lt16 : goal.returns-then-left-lt16

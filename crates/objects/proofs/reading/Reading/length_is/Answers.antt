@@ -2,7 +2,6 @@
 -- Assumes nothing.
 use borrow.Author.Tests.{lt-ltb, le-ltb, eq-eqb, ne_eqb}
 use Rattle.objects.specs.Steps.{length_is}
-use borrow.Author.Rules.{rules}
 use Rattle.objects.proofs.reading.Reading.length_is.Goals as goal
 
 pub returns-then-v-n : goal.returns-then-v-n

@@ -2,7 +2,6 @@
 -- Assumes nothing.
 use borrow.Author.Tests.{lt-ltb, le-ltb, eq-eqb, ne_eqb}
 use Rattle.objects.specs.Steps.{need}
-use borrow.Author.Rules.{rules}
 use Rattle.objects.proofs.reading.Reading.need.Goals as goal
 
 pub returns-then-fine : goal.returns-then-fine

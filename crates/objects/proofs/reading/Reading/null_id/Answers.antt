@@ -2,7 +2,6 @@
 -- Assumes nothing.
 use Rattle.objects.proofs.NullId.{null_id_lem}
 use mathlib.Core.Path.{sym, ◌∙◌}
-use borrow.Author.Rules.{rules}
 use Rattle.objects.proofs.reading.Reading.null_id.Goals as goal
 
 pub returns-in-Refused : goal.returns-in-Refused

@@ -6,7 +6,6 @@ use Rattle.objects.proofs.HeaderLaws.{compact_past, compact_fits}
 use borrow.Author.Tests.{lt-ltb, le-ltb, eq-eqb, ne_eqb}
 use Rattle.laws.proofs.Parts.{tail_part}
 use Rattle.objects.specs.Steps.{number_is}
-use borrow.Author.Rules.{rules}
 use Rattle.objects.proofs.reading.Reading.number_is.Goals as goal
 
 pub returns-then-s-at : goal.returns-then-s-at

@@ -2,7 +2,6 @@
 -- Assumes nothing.
 use borrow.Author.Tests.{lt-ltb, le-ltb, eq-eqb, ne_eqb}
 use Rattle.objects.specs.Steps.{place_of}
-use borrow.Author.Rules.{rules}
 use Rattle.objects.proofs.reading.Reading.place.Goals as goal
 
 pub returns-in-At : goal.returns-in-At

@@ -1,7 +1,6 @@
 -- `reading::Reading::run` meets its contract.
 -- Assumes nothing.
 use Rattle.objects.specs.Steps.{run_here}
-use borrow.Author.Rules.{rules}
 use Rattle.objects.proofs.reading.Reading.run.Goals as goal
 
 pub returns-in-At : goal.returns-in-At

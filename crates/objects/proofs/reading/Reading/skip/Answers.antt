@@ -2,7 +2,6 @@
 -- Assumes nothing.
 use borrow.Author.Tests.{lt-ltb, le-ltb, eq-eqb, ne_eqb}
 use Rattle.objects.specs.Steps.{skip}
-use borrow.Author.Rules.{rules}
 use Rattle.objects.proofs.reading.Reading.skip.Goals as goal
 
 pub returns-then-left-n : goal.returns-then-left-n

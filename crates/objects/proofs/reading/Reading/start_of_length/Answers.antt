@@ -2,7 +2,6 @@
 -- Assumes nothing.
 use borrow.Author.Tests.{lt-ltb, le-ltb, eq-eqb, ne_eqb}
 use Rattle.objects.specs.Steps.{start_of_length}
-use borrow.Author.Rules.{rules}
 use Rattle.objects.proofs.reading.Reading.start_of_length.Goals as goal
 
 pub returns : goal.returns

@@ -2,7 +2,6 @@
 -- Assumes nothing.
 use borrow.Author.Tests.{lt-ltb, le-ltb, eq-eqb, ne_eqb}
 use Rattle.objects.specs.Steps.{on_guid}
-use borrow.Author.Rules.{rules}
 use Rattle.objects.proofs.reading.ReadingGuid.on.Goals as goal
 
 pub returns-in-At : goal.returns-in-At

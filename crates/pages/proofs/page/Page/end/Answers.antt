@@ -4,7 +4,6 @@ use mathlib.Core.Path.{◌≡◌}
 use native.Mathlib.Omega.{arith}
 use borrow.Author.Tests.{eq-eqb, ne_eqb, le-leb, lt-leb}
 use Rattle.pages.specs.Tables.{ended}
-use borrow.Author.Rules.{rules}
 use Rattle.pages.proofs.page.Page.end.Goals as goal
 
 pub returns-then-self-gt0 : goal.returns-then-self-gt0

@@ -2,7 +2,6 @@
 -- Assumes nothing.
 use borrow.Author.Tests.{eq-eqb, ne_eqb, le-leb, lt-leb}
 use Rattle.pages.specs.Tables.{stopped}
-use borrow.Author.Rules.{rules}
 use Rattle.pages.proofs.page.Page.stop.Goals as goal
 
 pub returns-then-b-ranges : goal.returns-then-b-ranges

@@ -3,7 +3,6 @@
 use mathlib.Core.Path.{refl}
 use Rattle.store.specs.Held.{serial_range}
 use Rattle.pages.proofs.Pricing.{laid_law}
-use borrow.Author.Rules.{rules}
 use Rattle.pages.proofs.page.Page.take.Goals as goal
 
 pub returns : goal.returns

@@ -2,7 +2,6 @@
 -- Assumes nothing.
 use borrow.Author.Tests.{lt-ltb, le-ltb, eq-eqb, ne_eqb}
 use Rattle.store.specs.Element.{fresh_key}
-use borrow.Author.Rules.{rules}
 use Rattle.store.proofs.element.ReadingKey.fresh.Goals as goal
 
 pub returns-then-was : goal.returns-then-was

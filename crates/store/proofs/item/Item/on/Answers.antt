@@ -2,7 +2,6 @@
 -- Assumes nothing.
 use borrow.Author.Tests.{lt-ltb, le-ltb, eq-eqb, ne_eqb}
 use Rattle.store.specs.Knowledge.{on_item}
-use borrow.Author.Rules.{rules}
 use Rattle.store.proofs.item.Item.on.Goals as goal
 
 pub returns-in-Adds : goal.returns-in-Adds
