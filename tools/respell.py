@@ -106,9 +106,9 @@ def rattle(text, table, plain):
     return "\n".join(lines)
 
 
-# Lemmas that would have the name of a definition, and a definition that would have that of a field.
+# Lemmas that would have the name of a definition, and fields and a definition whose names would fall together.
 CHOSEN = {it: it + "_lem" for it in "end_on inside_on kept_in length_to no_byte no_room nothing_known numbers_of on_null on_store one_number said_in same_bit same_id same_key some_of zeros_of".split()}
-CHOSEN["askOut"] = "asked_out"
+CHOSEN |= {"askOut": "asked_out", "ask-report": "report_of_ask", "length-report": "report_of_length", "read-report": "report_of_read", "length-is": "length_is", "most-carried": "most_carried"}
 
 # A token that is bound or cited by its bare name: no segment of a path, and not in a list of imports.
 BARE = re.compile(r"(?<![^\s(){}\[\],;`|])(" + WORD + r")(?!\.)")
@@ -148,7 +148,7 @@ def main():
         text = read(p)
         used[p], own[p] = set(TOKEN.findall(clauses(text))), of_source(text) | imported(text)
     table = {a: b for a, b in CHOSEN.items() if a in names}
-    taken = {b: a for a, b in table.items()}
+    taken = {b: a for a, b in table.items() if b not in ("length_is", "most_carried")}
     # Definitions first: of two that fall together the lemma gets the longer name.
     for name in sorted(declared, key=lambda it: ("-" in it, it)):
         new = snake(name)

@@ -191,14 +191,14 @@ module _ (s f first : List ℕ) (bs : AllBytes s) (bf : AllBytes f) (h : Stands 
     out' = asked_out c.id c.limit f k c.ask_out
 
     abbrev report' : List ℕ
-    report' = ask_report c.id c.limit f k c.ask_out c.ask_report_lem
+    report' = ask_report c.id c.limit f k c.ask_out c.report_of_ask
 
-    written : HubAsks c.id c.limit f k 0 c.ask_out out' c.ask_report_lem report'
+    written : HubAsks c.id c.limit f k 0 c.ask_out out' c.report_of_ask report'
     written =
         let m = ask_most c.id c.limit f k in
         let i = g.size in
         let o = ample.ask_out in
-        asks c.id c.limit f k c.ask_out c.ask_report_lem (length (ask_bytes c.id c.limit f k))
+        asks c.id c.limit f k c.ask_out c.report_of_ask (length (ask_bytes c.id c.limit f k))
         (ask_written c.id c.limit f k c.ask_out p n g.place g.value filters g.given (omega arith) (omega arith))
 
     abbrev request : List ℕ
@@ -206,7 +206,7 @@ module _ (s f first : List ℕ) (bs : AllBytes s) (bf : AllBytes f) (h : Stands 
 
     request_reads : AskReads c.id c.limit f k request
     request_reads =
-        asks_read c.id c.limit f k c.ask_out out' c.ask_report_lem report' ample.lends.id ample.lends.limit ample.lends.ask_report_lem written
+        asks_read c.id c.limit f k c.ask_out out' c.report_of_ask report' ample.lends.id ample.lends.limit ample.lends.report_of_ask written
 
     request_bytes : AllBytes request
     request_bytes = subst (λ (v : List ℕ). AllBytes v) (sym request_reads.bytes_are) (ask_bytes_lem c.id c.limit f k bf g.bytes)
@@ -216,10 +216,10 @@ module _ (s f first : List ℕ) (bs : AllBytes s) (bf : AllBytes f) (h : Stands 
 
     -- hub_length tells its length ..
     abbrev told_report : List ℕ
-    told_report = length_report s request c.offered c.length_report_lem
+    told_report = length_report s request c.offered c.report_of_length
 
-    length_told : HubTellsLength s request c.offered 0 c.length_report_lem told_report
-    length_told = tells s request c.offered c.length_report_lem is_answered.0 is_answered.1 is_answered.2 is_answered.3
+    length_told : HubTellsLength s request c.offered 0 c.report_of_length told_report
+    length_told = tells s request c.offered c.report_of_length is_answered.0 is_answered.1 is_answered.2 is_answered.3
 
     -- .. and of hub_write a block of exactly so many bytes is never refused
     abbrev out : List ℕ
@@ -233,20 +233,20 @@ module _ (s f first : List ℕ) (bs : AllBytes s) (bf : AllBytes f) (h : Stands 
 
     answer_written : HubWritesAnswer s request 0 out answer c.report given_report
     answer_written =
-        let z = exported_exact s request bs request_bytes c.offered c.length_report_lem told_report length_told ample.lends.length_report_lem out (ample.lends.block (report_number 2 told_report)) in
+        let z = exported_exact s request bs request_bytes c.offered c.report_of_length told_report length_told ample.lends.report_of_length out (ample.lends.block (report_number 2 told_report)) in
         writes s request out c.report z.0 z.1 z.2 z.5
 
-    abbrev read_report_lem : List ℕ
-    read_report_lem = report_after (answer_in answer) c.read_report_lem
+    abbrev report_of_read : List ℕ
+    report_of_read = report_after (answer_in answer) c.report_of_read
 
-    answer_reads : HubReads answer 0 c.read_report_lem read_report_lem
+    answer_reads : HubReads answer 0 c.report_of_read report_of_read
     answer_reads =
-        reads s request c.offered answer c.read_report_lem
+        reads s request c.offered answer c.report_of_read
         (demand_two s request bs request_bytes c.offered answer
-        (exported_pair c.length_report_lem told_report length_told ample.lends.length_report_lem 0 out answer c.report given_report (ample.lends.block (report_number 2 told_report)) answer_written refl))
+        (exported_pair c.report_of_length told_report length_told ample.lends.report_of_length 0 out answer c.report given_report (ample.lends.block (report_number 2 told_report)) answer_written refl))
 
     abbrev next_knowledge : List ℕ
-    next_knowledge = take (report_number 2 read_report_lem) (drop (report_number 1 read_report_lem) answer)
+    next_knowledge = take (report_number 2 report_of_read) (drop (report_number 1 report_of_read) answer)
 
     turn : Exchange s f k answer next_knowledge
     turn =
@@ -254,13 +254,13 @@ module _ (s f first : List ℕ) (bs : AllBytes s) (bf : AllBytes f) (h : Stands 
           choice = c;
           lends = ample.lends;
           ask_out = out';
-          ask_report_lem = report';
+          report_of_ask = report';
           asks = written;
-          length_report_lem = told_report;
+          report_of_length = told_report;
           tells = length_told;
           report = given_report;
           writes = answer_written;
-          read_report_lem = read_report_lem;
+          report_of_read = report_of_read;
           reads = answer_reads;
           next = refl;
         }

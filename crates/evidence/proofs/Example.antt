@@ -422,32 +422,32 @@ turn_with f limit k w k' h e = (
           id = 1;
           limit = limit;
           ask_out = output;
-          ask_report_lem = report;
+          report_of_ask = report;
           offered = offered_room;
-          length_report_lem = report;
+          report_of_length = report;
           block = block;
           report = report;
-          read_report_lem = report;
+          report_of_read = report;
         };
     lends =
         record {
           id = omega arith;
           limit = h;
           offered = omega arith;
-          ask_report_lem = omega arith;
-          length_report_lem = omega arith;
+          report_of_ask = omega arith;
+          report_of_length = omega arith;
           block = λ n. length-replicate {A = ℕ} n 0;
           report = omega arith;
-          read_report_lem = omega arith;
+          report_of_read = omega arith;
         };
     ask_out = asked_output f limit k;
-    ask_report_lem = ask_report f limit k;
+    report_of_ask = ask_report f limit k;
     asks = (sym (ap (λ (t : Returned). t.asked) e), refl, refl);
-    length_report_lem = length_report f limit k;
+    report_of_length = length_report f limit k;
     tells = (sym (ap (λ (t : Returned). t.told) e), refl);
     report = answer_report f limit k;
     writes = (sym (ap (λ (t : Returned). t.answered) e), sym (ap (λ (t : Returned). t.answer) e), refl);
-    read_report_lem = read_report w;
+    report_of_read = read_report w;
     reads = (sym (ap (λ (t : Returned). t.read) e), refl);
     next = sym (ap (λ (t : Returned). t.knowledge) e);
   },

@@ -77,7 +77,7 @@ result_of s q rows ranges room w all l h =
         bytes = w;
         ranges = l;
         sends = subst (λ (xs : List Element). Sends a.0 room w xs l) z.elements_are z;
-        length_is_lem = refl;
+        length_is = refl;
         rows_are = ap length z.elements_are;
         ranges_are = refl;
       },

@@ -110,12 +110,12 @@ pub turn_tells : (s f k w k' : List ℕ) → AllBytes s → AllBytes f → AllBy
 turn_tells s f k w k' bs bf bk t =
     let c = t.choice in
     let l = t.lends in
-    let q = take (report_number 2 t.ask_report_lem) t.ask_out in
-    let a = asks_read c.id c.limit f k c.ask_out t.ask_out c.ask_report_lem t.ask_report_lem l.id l.limit l.ask_report_lem t.asks in
+    let q = take (report_number 2 t.report_of_ask) t.ask_out in
+    let a = asks_read c.id c.limit f k c.ask_out t.ask_out c.report_of_ask t.report_of_ask l.id l.limit l.report_of_ask t.asks in
     let bq : AllBytes q = subst (λ (v : List ℕ). AllBytes v) (sym a.bytes_are) (ask_bytes_lem c.id c.limit f k bf bk) in
-    let out = c.block (report_number 2 t.length_report_lem) in
+    let out = c.block (report_number 2 t.report_of_length) in
     let gave : GivesAnswer s q c.offered w =
-    exported_pair c.length_report_lem t.length_report_lem t.tells l.length_report_lem 0 out w c.report t.report (l.block (report_number 2 t.length_report_lem)) t.writes refl in
+    exported_pair c.report_of_length t.report_of_length t.tells l.report_of_length 0 out w c.report t.report (l.block (report_number 2 t.report_of_length)) t.writes refl in
     let held : DemandTwo s q c.offered w = demand_two s q bs bq c.offered w gave in
     record {
       request = q;
@@ -125,7 +125,7 @@ turn_tells s f k w k' bs bf bk t =
       known = a.back.known;
       gave = gave;
       held = held;
-      next_is_lem = reads_knowledge s q c.offered w held c.read_report_lem t.read_report_lem k' l.read_report_lem t.reads t.next;
+      next_is_lem = reads_knowledge s q c.offered w held c.report_of_read t.report_of_read k' l.report_of_read t.reads t.next;
     }
 
 module _ (s f k w k' : List ℕ) (bs : AllBytes s) (bf : AllBytes f) (bk : AllBytes k) (t : Exchange s f k w k') where

@@ -148,7 +148,7 @@ LaterKept n rowCount rangeCount rows rows' ranges ranges' out out' =
 later_kept : (s q rows rows' ranges ranges' out out' : List ℕ) (n rowCount rangeCount : ℕ) (x : Result s q (length out) n rowCount rangeCount)
     → TablesHold x.asked.elements x.ranges rows rows' ranges ranges' → AnswerStands x.bytes out out' → LaterKept n rowCount rangeCount rows rows' ranges ranges' out out'
 later_kept s q rows rows' ranges ranges' out out' n rowCount rangeCount x t h =
-    rw (x.rows_are, x.ranges_are, x.length_is_lem, t.0, t.1, h) (
+    rw (x.rows_are, x.ranges_are, x.length_is, t.0, t.1, h) (
       drop_at (ranked_rows (ordered x.asked.elements)) _ _ (ranked_length x.asked.elements),
       drop_at (range_rows x.ranges) _ _ (length_range_rows x.ranges),
       drop_at x.bytes _ _ refl,
@@ -206,7 +206,7 @@ not_filled s q offered n rowCount rangeCount rows rows' ranges ranges' z (m, row
       bytes = x.bytes;
       ranges = x.ranges;
       sends = x.sends;
-      length_is_lem = a ∙ x.length_is_lem;
+      length_is = a ∙ x.length_is;
       rows_are = b ∙ x.rows_are;
       ranges_are = c ∙ x.ranges_are;
     } in

@@ -45,23 +45,23 @@ pub record Choice : Type 0 where
   pub id : ℕ
   pub limit : ℕ
   pub ask_out : List ℕ
-  pub ask_report_lem : List ℕ
+  pub report_of_ask : List ℕ
   pub offered : ℕ
-  pub length_report_lem : List ℕ
+  pub report_of_length : List ℕ
   pub block : ℕ → List ℕ
   pub report : List ℕ
-  pub read_report_lem : List ℕ
+  pub report_of_read : List ℕ
 
 -- numbers of 64 bits, reports of 24 bytes or more, a block of as many bytes as were asked for
 pub record Lends (c : Choice) : Type 0 where
   pub id : c.id < 2 ^ 64
   pub limit : c.limit < 2 ^ 64
   pub offered : c.offered < 2 ^ 64
-  pub ask_report_lem : 24 ≤ length c.ask_report_lem
-  pub length_report_lem : 24 ≤ length c.length_report_lem
+  pub report_of_ask : 24 ≤ length c.report_of_ask
+  pub report_of_length : 24 ≤ length c.report_of_length
   pub block : (n : ℕ) → length (c.block n) ≡ n
   pub report : 24 ≤ length c.report
-  pub read_report_lem : 24 ≤ length c.read_report_lem
+  pub report_of_read : 24 ≤ length c.report_of_read
 
 -- one turn on the store s with the filters f: the knowledge k is handed in, w is answered, and k' is the knowledge that stands in it
 pub record Exchange (s f k w k' : List ℕ) : Type 0 where
@@ -69,18 +69,18 @@ pub record Exchange (s f k w k' : List ℕ) : Type 0 where
   pub lends : Lends choice
   -- the request: as many bytes of the output as the report says
   pub ask_out : List ℕ
-  pub ask_report_lem : List ℕ
-  pub asks : HubAsks choice.id choice.limit f k 0 choice.ask_out ask_out choice.ask_report_lem ask_report_lem
+  pub report_of_ask : List ℕ
+  pub asks : HubAsks choice.id choice.limit f k 0 choice.ask_out ask_out choice.report_of_ask report_of_ask
   -- the answer's length
-  pub length_report_lem : List ℕ
-  pub tells : HubTellsLength s (take (report_number 2 ask_report_lem) ask_out) choice.offered 0 choice.length_report_lem length_report_lem
+  pub report_of_length : List ℕ
+  pub tells : HubTellsLength s (take (report_number 2 report_of_ask) ask_out) choice.offered 0 choice.report_of_length report_of_length
   -- the answer: all of the output
   pub report : List ℕ
-  pub writes : HubWritesAnswer s (take (report_number 2 ask_report_lem) ask_out) 0 (choice.block (report_number 2 length_report_lem)) w choice.report report
+  pub writes : HubWritesAnswer s (take (report_number 2 report_of_ask) ask_out) 0 (choice.block (report_number 2 report_of_length)) w choice.report report
   -- the knowledge in it: "place and length"
-  pub read_report_lem : List ℕ
-  pub reads : HubReads w 0 choice.read_report_lem read_report_lem
-  pub next : k' ≡ take (report_number 2 read_report_lem) (drop (report_number 1 read_report_lem) w)
+  pub report_of_read : List ℕ
+  pub reads : HubReads w 0 choice.report_of_read report_of_read
+  pub next : k' ≡ take (report_number 2 report_of_read) (drop (report_number 1 report_of_read) w)
 
 abbrev pub BenchTalk : List ℕ → List ℕ → List ℕ → List (List ℕ) → List ℕ → Type 0
 BenchTalk s f k answers k' = Chain (Exchange s f) k answers k'

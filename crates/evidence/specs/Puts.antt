@@ -21,9 +21,8 @@ use Rattle.store.specs.declared.element.Key.{Key}
 use Rattle.request.specs.Message.{put_changes_request, identified, in_request}
 use Rattle.pages.specs.Choice.{knows_key}
 use Rattle.puts.specs.Applied.{put_answer_bytes, last_number}
-use Rattle.enter.specs.Entering.{Kept}
-use Rattle.enter.specs.Package.{packed}
-use Rattle.puts.specs.NewStore.{under_guid, highest_under, new_elements, ranges_of}
+use Rattle.puts.specs.Entering.{Kept}
+use Rattle.puts.specs.NewStore.{under_guid, highest_under, new_elements, new_store, ranges_of}
 use Rattle.puts.specs.Put.{put_front, put_walk}
 use Rattle.client.specs.Back.{PutAnswerBack}
 use Rattle.client.specs.Read.{knowledge_in, package_end}
@@ -46,7 +45,7 @@ elements_behind s q g = new_elements s (elements_of s) q (handed_by q) g
 
 -- its bytes
 abbrev pub store_behind : List ℕ → List ℕ → Guid → List ℕ
-store_behind s q g = packed (elements_behind s q g)
+store_behind s q g = new_store (elements_behind s q g)
 
 -- "The answer is document 01's with no elements, type 5 and, from 0x5F on, only the knowledge of every serial now stored."
 abbrev pub answer_to : List ℕ → List ℕ → Guid → List ℕ

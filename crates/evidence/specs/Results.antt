@@ -31,7 +31,7 @@ pub record Result (s q : List ℕ) (room n rowCount rangeCount : ℕ) : Type 0 w
   pub bytes : List ℕ
   pub ranges : List Range
   pub sends : Sends asked room bytes asked.elements ranges
-  pub length_is_lem : n ≡ length bytes
+  pub length_is : n ≡ length bytes
   pub rows_are : rowCount ≡ length asked.elements
   pub ranges_are : rangeCount ≡ length ranges
 

@@ -94,7 +94,7 @@ taken_in (Short n) = 0
 -- the ranges that are known, and room for as many as a page may carry
 pub record ToCarry (t : List ℕ) (count most : ℕ) : Type 0 where
   pub said : count ≤ most_said
-  pub most_carried_lem : most ≤ most_said
+  pub most_carried : most ≤ most_said
   pub room : most * range_width ≤ length t
   pub ranges_stand : RangesStand t count
 

@@ -22,9 +22,8 @@ use Rattle.store.specs.Tables.{most_elements}
 use Rattle.store.specs.declared.element.Element.{Element}
 use Rattle.request.specs.Message.{put_changes_request}
 use Rattle.request.specs.Response.{answer_front, sub_response_bytes, ends_bytes}
-use Rattle.enter.specs.Entering.{Kept}
-use Rattle.enter.specs.Package.{packed}
-use Rattle.puts.specs.NewStore.{highest_under, new_elements, ranges_of}
+use Rattle.puts.specs.Entering.{Kept}
+use Rattle.puts.specs.NewStore.{highest_under, new_elements, new_store, ranges_of}
 use Rattle.puts.specs.Put.{put_walk, put_in}
 use Rattle.puts.specs.declared.put.Put.{Put}
 use Rattle.puts.specs.declared.put.Put.TheVariants as put
@@ -55,7 +54,7 @@ sized id new l storeRoom room =
 
 -- 9, "over 256 elements"
 unfoldable pub counted : ℕ → List Kept → ℕ → ℕ → Outcome
-counted id new storeRoom room = pick (ltb most_elements (length new)) (refused (fault_at 9 0)) (sized id (packed new) (ranges_of [] new) storeRoom room)
+counted id new storeRoom room = pick (ltb most_elements (length new)) (refused (fault_at 9 0)) (sized id (new_store new) (ranges_of [] new) storeRoom room)
 
 -- 2^64-1
 abbrev pub last_number : ℕ

@@ -1,4 +1,5 @@
 pub mod Put
+pub mod Entering
 pub mod NewStore
 pub mod Plan
 pub mod Applied

@@ -12,8 +12,14 @@ use Rattle.store.specs.Held.{key_range}
 use Rattle.store.specs.Written.{written_element, content_in}
 use Rattle.store.specs.declared.element.Key.{Key}
 use Rattle.store.specs.declared.element.Element.{Element}
-use Rattle.enter.specs.Entering.{Kept, enter}
-use Rattle.enter.specs.Package.{kept_in}
+use Rattle.enter.specs.Package.{kept_in, packed}
+use Rattle.puts.specs.Entering.{Kept, enter}
+unfoldable pub use Rattle.enter.specs.Package.{joined}
+
+-- ---- an element that stays: it keeps its stored bytes
+
+abbrev pub staying : List ℕ → Element → Kept
+staying = kept_in
 
 -- ---- an element that enters, from the put q: id, type, what is inside and its end as they came, behind the shortest start for its
 -- data with the new serial number. (In a put no number is padded and an id has one form, so that id and type are written as they came:
@@ -43,7 +49,12 @@ first_number g all = highest_under g all + 1
 -- ---- the elements of the new store: those of the store s, with those of the put q entered
 
 unfoldable pub new_elements : List ℕ → List Element → List ℕ → List Element → Guid → List Kept
-new_elements s all q handed g = enter (map (kept_in s) all) (entering_from q g (first_number g all) handed)
+new_elements s all q handed g = enter (map (staying s) all) (entering_from q g (first_number g all) handed)
+
+-- its bytes: a package whose start, zero byte and end are written anew, and nothing else, so that "the room of replaced ones is used
+-- again"
+abbrev pub new_store : List Kept → List ℕ
+new_store = packed
 
 -- ---- "the knowledge of every serial now stored"
 

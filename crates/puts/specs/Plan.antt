@@ -24,6 +24,10 @@ use Rattle.store.specs.declared.element.Key.{Key}
 use Rattle.store.specs.declared.element.Element.{Element}
 use Rattle.request.specs.Filter.{request_padding}
 use Rattle.puts.specs.Put.{put_walk}
+-- ---- which elements there are then, by the ids alone: it stands in enter, and is passed on here
+
+pub use Rattle.enter.specs.Plan.{is_among}
+unfoldable pub use Rattle.enter.specs.Plan.{place_among, kept_source, kept_sources, new_sources, sources}
 
 -- ---- where what is inside an element begins, and how long the element is as it enters
 

@@ -136,13 +136,13 @@ module _ (strict : Strictness) (ids : List Key) (s : List ℕ) (at u : ℕ) (c :
       ((reads_inside strict.padding c.kind strict.levels 0x01 c.inner f.nested).here s (at + length start + length (field_bytes c)) t
       (behind s (at + length start) (field_bytes c) (c.inner ++ t) data_stands))
 
-  length_is_lem : at + length start + length (field_bytes c) + length c.inner - at ≡ length (written_element c)
+  length_is : at + length start + length (field_bytes c) + length c.inner - at ≡ length (written_element c)
   unfolding written_element
-  length_is_lem =
+  length_is =
       let a = length-append start (field_bytes c ++ c.inner) in
       let b = length-append (field_bytes c) c.inner in
       omega arith
 
   pub element_written : element_at strict ids s (reading.At at u) ≡ Is (element_of at c)
   unfolding element_at element_on place_of value_of
-  element_written = rw (inside_is, run_is, fields_are strict c f ids h, data_is, length_is_lem)
+  element_written = rw (inside_is, run_is, fields_are strict c f ids h, data_is, length_is)

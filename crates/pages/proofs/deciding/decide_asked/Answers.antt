@@ -60,7 +60,7 @@ decide_page-chosen-requires c = let held = c.requires.0.1 in
       roomy = c.requires.2;
       carry = record {
         said = given.most;
-        most_carried_lem = given.carried;
+        most_carried = given.carried;
         room = omega (arith, given.carried, given.room);
         ranges_stand = (omega (arith, given.most, given.room), rw given.held given.normal);
       };

@@ -166,7 +166,7 @@ loop-p-preserved c = let a = c.args in
     let priced = priced_here (goal.at.loop-p-preserved c).After-price_of-q in
     let light : x.length ≤ 2 ^ 32 = light_here (goal.at.loop-p-preserved c).After-price_of-q in
     let f = rw c.whole_of-whole.ensures at (sym c.is_sendable.ensures ∙ not-false c.is_sendable.result c.if-not-is_sendable.false-raw) in
-    rw c.take-p.ensures.0 (omega arith, under_take v priced c.take-p.new.t c.requires.0.carry.most_carried_lem c.requires.0.carry.room light c.take-p.ensures.1 f)
+    rw c.take-p.ensures.0 (omega arith, under_take v priced c.take-p.new.t c.requires.0.carry.most_carried c.requires.0.carry.room light c.take-p.ensures.1 f)
 
 pub end-requires : goal.end-requires
 end-requires c = let a = c.args in

@@ -29,7 +29,7 @@ unfolding ranges_at Normal
 decide-requires c = let p = c.requires.0.then in
     let long = c.decide-first.auto.t in
     let room = p.carry.room in
-    (record { queued = p.queued; few = p.few; short = p.short; carry = record { said = p.carry.said; most_carried_lem = p.carry.most_carried_lem; room = omega arith; ranges_stand = (omega arith, tt) } }, c.requires.1)
+    (record { queued = p.queued; few = p.few; short = p.short; carry = record { said = p.carry.said; most_carried = p.carry.most_carried; room = omega arith; ranges_stand = (omega arith, tt) } }, c.requires.1)
 
 pub returns : goal.returns
 unfolding ranges_at
