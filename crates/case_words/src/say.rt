@@ -2,53 +2,54 @@
 ghost use Rattle.std.specs.Prelude.{true, ◌≡◌, ℕ, ◌*◌, ◌%◌, ◌≤◌, ◌<◌, length, get_or};
 
 use crate::words::wide;
-use libc::STDOUT_FILENO;
 use numbers::guid::{Guid, swap};
 use numbers::refusal::{Refusal, Wrote};
+use std::io;
+use std::io::Write;
 
 // What every byte of the output space holds before a case writes there.
 pub const UNTOUCHED: u8 = 0xA5;
 
-pub fn text(s: &[u8]) {
-    io::write_all(STDOUT_FILENO, s);
+pub fn text<W: Write>(to: &mut W, s: &[u8]) -> io::Result<()> {
+    to.write_all(s)
 }
 
 // The line is no case of this program.
-pub fn bad() {
-    text(b"bad");
+pub fn bad<W: Write>(to: &mut W) -> io::Result<()> {
+    text(to, b"bad")
 }
 
 // A call did as it should.
-pub fn ok() {
-    text(b"ok");
+pub fn ok<W: Write>(to: &mut W) -> io::Result<()> {
+    text(to, b"ok")
 }
 
 // A call changed what is not its own.
-pub fn touched() {
-    text(b"touched");
+pub fn touched<W: Write>(to: &mut W) -> io::Result<()> {
+    text(to, b"touched")
 }
 
 // Two calls that should agree do not.
-pub fn apart() {
-    text(b"apart");
+pub fn apart<W: Write>(to: &mut W) -> io::Result<()> {
+    text(to, b"apart")
 }
 
 // A number behind a mark.
-pub fn marked(mark: &[u8], n: u64) {
-    text(mark);
-    io::print_decimal(STDOUT_FILENO, n);
+pub fn marked<W: Write>(to: &mut W, mark: &[u8], n: u64) -> io::Result<()> {
+    text(to, mark)?;
+    decimal(to, n)
 }
 
-pub fn number(n: u64) {
-    marked(b" ", n);
+pub fn number<W: Write>(to: &mut W, n: u64) -> io::Result<()> {
+    marked(to, b" ", n)
 }
 
-pub fn refusal(r: Refusal) {
-    text(b"no");
-    number(wide(r.number));
-    number(wide(r.input));
-    number(r.place as u64);
-    number(r.needed as u64);
+pub fn refusal<W: Write>(to: &mut W, r: Refusal) -> io::Result<()> {
+    text(to, b"no")?;
+    number(to, wide(r.number))?;
+    number(to, wide(r.input))?;
+    number(to, r.place as u64)?;
+    number(to, r.needed as u64)
 }
 
 // A hex digit.
@@ -59,38 +60,32 @@ fn glyph(d: u8) -> u8
 }
 
 // The bytes of s in hex, written at once by way of spelled.
-fn piece(s: &[u8], spelled: &mut [u8])
+fn piece<W: Write>(to: &mut W, s: &[u8], spelled: &mut [u8]) -> io::Result<()>
     requires { length s.now * 2 ≤ length spelled.old }
 {
-    let mut i = 0;
-    while i < s.len() {
-        let b = s[i];
-        spelled[i * 2] = glyph(b / 16);
-        spelled[i * 2 + 1] = glyph(b % 16);
-        i += 1;
+    for (i, b) in s.iter().enumerate() {
+        spelled[i * 2] = glyph(*b / 16);
+        spelled[i * 2 + 1] = glyph(*b % 16);
     }
-    let end = i * 2;
-    text(&spelled[0..end]);
+    let end = s.len() * 2;
+    text(to, &spelled[0..end])
 }
 
 // The bytes of s in hex, in large pieces, so that a long item takes few calls of the system.
-fn hex(s: &[u8]) {
-    let mut spelled = io::buffer();
-    let mut at = 0;
-    while 2048 < s.len() - at {
-        let end = at + 2048;
-        piece(&s[at..end], &mut spelled);
-        at = end;
+fn hex<W: Write>(to: &mut W, s: &[u8]) -> io::Result<()> {
+    let mut spelled = [0u8; 4096];
+    for part in s.chunks(2048) {
+        piece(to, part, &mut spelled)?;
     }
-    piece(&s[at..], &mut spelled);
+    Ok(())
 }
 
-pub fn bytes(s: &[u8]) {
-    text(b" ");
+pub fn bytes<W: Write>(to: &mut W, s: &[u8]) -> io::Result<()> {
+    text(to, b" ")?;
     if s.len() == 0 {
-        return text(b"-");
+        return text(to, b"-");
     }
-    hex(s);
+    hex(to, s)
 }
 
 // The lowest byte of x.
@@ -101,7 +96,7 @@ fn low(x: u64) -> u8
 }
 
 // The eight bytes of x, the lowest first.
-fn half(x: u64) {
+fn half<W: Write>(to: &mut W, x: u64) -> io::Result<()> {
     let s = [
         low(x),
         low(x / 256),
@@ -112,44 +107,37 @@ fn half(x: u64) {
         low(x / 281474976710656),
         low(x / 72057594037927936),
     ];
-    hex(&s);
+    hex(to, &s)
 }
 
-pub fn guid(g: Guid) {
-    text(b" ");
-    half(g.low);
-    half(g.high);
+pub fn guid<W: Write>(to: &mut W, g: Guid) -> io::Result<()> {
+    text(to, b" ")?;
+    half(to, g.low)?;
+    half(to, g.high)
 }
 
 // Whether no byte was changed.
 pub fn untouched(s: &[u8]) -> bool
     ensures { result ≡ true → (k : ℕ) → k < length s.now → get_or s.now k 0 ≡ 0xA5 }
 {
-    let mut i = 0;
-    while i < s.len() {
-        if s[i] != UNTOUCHED {
-            return false;
-        }
-        i += 1;
-    }
-    true
+    s.iter().all(|b| *b == UNTOUCHED)
 }
 
-fn decimal(n: u64) {
-    io::print_decimal(STDOUT_FILENO, n);
+fn decimal<W: Write>(to: &mut W, n: u64) -> io::Result<()> {
+    write!(to, "{n}")
 }
 
 // What stands before number i of a table: a blank before the first, `;` before a row, `,` before any other.
-fn between(i: usize, width: usize)
+fn between<W: Write>(to: &mut W, i: usize, width: usize) -> io::Result<()>
     requires { 0 < width }
 {
     if i == 0 {
-        return text(b" ");
+        return text(to, b" ");
     }
     if i % width == 0 {
-        return text(b";");
+        return text(to, b";");
     }
-    text(b",")
+    text(to, b",")
 }
 
 // A number as it is told: turned round if its column is one of the first `turned`.
@@ -161,39 +149,44 @@ fn shown(column: usize, turned: usize, x: u64) -> u64 {
 }
 
 // The first `end` numbers of a table whose rows have `width` numbers.
-pub fn table(t: &[u64], end: usize, width: usize, turned: usize)
+pub fn table<W: Write>(
+    to: &mut W,
+    t: &[u64],
+    end: usize,
+    width: usize,
+    turned: usize,
+) -> io::Result<()>
     requires { (end ≤ length t.now) × (0 < width) }
 {
     if end == 0 {
-        return text(b" -");
+        return text(to, b" -");
     }
-    let mut i = 0;
-    while i < end {
-        between(i, width);
-        decimal(shown(i % width, turned, t[i]));
-        i += 1;
+    for i in 0..end {
+        between(to, i, width)?;
+        decimal(to, shown(i % width, turned, t[i]))?;
     }
+    Ok(())
 }
 
 // What a call that writes an item answered, and the item from out; or that the call changed bytes that are not the item's. An
 // item longer than out counts as that.
-pub fn written(wrote: Wrote, out: &[u8]) {
+pub fn written<W: Write>(to: &mut W, wrote: Wrote, out: &[u8]) -> io::Result<()> {
     match wrote {
         Wrote::Done(n) => {
             if out.len() < n {
-                return touched();
+                return touched(to);
             }
             if !untouched(&out[n..]) {
-                return touched();
+                return touched(to);
             }
-            ok();
-            bytes(&out[0..n])
+            ok(to)?;
+            bytes(to, &out[0..n])
         }
         Wrote::Refused(r) => {
             if !untouched(out) {
-                return touched();
+                return touched(to);
             }
-            refusal(r)
+            refusal(to, r)
         }
     }
 }

@@ -36,42 +36,30 @@ pub fn find(s: &[u8], from: usize, b: u8) -> usize
     ensures before { (k : ℕ) → k < result → from ≤ k → get_or s.now k 0 ≡ b → ⊥ }
     ensures found { result < length s.now → get_or s.now result 0 ≡ b }
 {
-    let mut i = from;
-    while i < s.len() {
+    for i in from..s.len() {
         if s[i] == b {
             return i;
         }
-        i += 1;
     }
-    i
+    s.len()
 }
 
 // How many words a line has: one more than blanks.
 pub fn count(line: &[u8]) -> usize
     ensures { (0 < result) × (result ≤ length line.now + 1) }
 {
-    let mut n = 1;
-    let mut at = 0;
-    while at < line.len() {
-        if line[at] == b' ' {
-            n += 1;
-        }
-        at += 1;
-    }
-    n
+    line.iter().filter(|b| **b == b' ').count() + 1
 }
 
 // Word k, counted from 0; an empty one if the line has fewer.
 pub fn word(line: &[u8], k: usize) -> &[u8] {
     let mut at = 0;
-    let mut left = k;
-    while 0 < left {
+    for _ in 0..k {
         let blank = find(line, at, b' ');
         if blank == line.len() {
             return &line[blank..];
         }
         at = blank + 1;
-        left -= 1;
     }
     let end = find(line, at, b' ');
     &line[at..end]
@@ -93,9 +81,8 @@ fn letter(b: u8) -> u8
 // 0 for an empty word, for any that has another byte, and for one that is too long. One number is compared where a word would be.
 fn code(text: &[u8]) -> u64 {
     let mut value: u64 = 0;
-    let mut i = 0;
-    while i < text.len() {
-        let d = wide(letter(text[i]));
+    for b in text {
+        let d = wide(letter(*b));
         if d == 0 {
             return 0;
         }
@@ -103,7 +90,6 @@ fn code(text: &[u8]) -> u64 {
             return 0;
         }
         value = value * 32 + d;
-        i += 1;
     }
     value
 }
@@ -139,9 +125,8 @@ fn digit(b: u8) -> u8
 // The decimal number that a word spells, if it fits.
 pub fn number(text: &[u8]) -> SpelledNumber {
     let mut value: u64 = 0;
-    let mut i = 0;
-    while i < text.len() {
-        let d = wide(digit(text[i]));
+    for b in text {
+        let d = wide(digit(*b));
         if 9 < d {
             return SpelledNumber {
                 good: false,
@@ -155,17 +140,18 @@ pub fn number(text: &[u8]) -> SpelledNumber {
             };
         }
         value = value * 10 + d;
-        i += 1;
     }
-    SpelledNumber { good: 0 < i, value }
+    SpelledNumber {
+        good: !text.is_empty(),
+        value,
+    }
 }
 
 // Puts the bytes that pairs of hex digits spell at the front of space, and answers whether all of them are digits.
 fn decode(text: &[u8], space: &mut [u8], n: usize) -> bool
     requires { (n * 2 ≤ length text.now) × (n ≤ length space.old) }
 {
-    let mut i = 0;
-    while i < n {
+    for i in 0..n {
         let high = digit(text[i * 2]);
         let low = digit(text[i * 2 + 1]);
         if 15 < high {
@@ -175,7 +161,6 @@ fn decode(text: &[u8], space: &mut [u8], n: usize) -> bool
             return false;
         }
         space[i] = high * 16 + low;
-        i += 1;
     }
     true
 }
@@ -184,7 +169,7 @@ fn decode(text: &[u8], space: &mut [u8], n: usize) -> bool
 pub fn bytes(text: &[u8], space: &mut [u8]) -> Front
     ensures { result.count ≤ length space.new }
 {
-    if check::same(text, b"-") {
+    if text == b"-".as_slice() {
         return Front {
             good: true,
             count: 0,
