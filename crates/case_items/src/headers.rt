@@ -1,53 +1,61 @@
 // The modes for a single stream object header, read and written.
 use case_words::{say, words};
 use objects::header::Header;
+use std::io;
+use std::io::Write;
 
 // A header's type, compound bit, true length and bytes used.
-fn fields(kind: u64, compound: bool, length: u64, used: usize) {
-    say::number(kind);
+fn fields<W: Write>(
+    to: &mut W,
+    kind: u64,
+    compound: bool,
+    length: u64,
+    used: usize,
+) -> io::Result<()> {
+    say::number(to, kind)?;
     if compound {
-        say::number(1);
+        say::number(to, 1)?;
     } else {
-        say::number(0);
+        say::number(to, 0)?;
     }
-    say::number(length);
-    say::number(used as u64)
+    say::number(to, length)?;
+    say::number(to, used as u64)
 }
 
 // `header HEX`. The bytes used tell how many bits the header itself has.
-pub fn header(s: &[u8]) {
+pub fn header<W: Write>(to: &mut W, s: &[u8]) -> io::Result<()> {
     match objects::header::read_header(s) {
         Header::Start(kind, compound, length, used) => {
             if used == 2 {
-                say::text(b"ok start16");
+                say::text(to, b"ok start16")?;
             } else {
-                say::text(b"ok start32");
+                say::text(to, b"ok start32")?;
             }
-            fields(kind, compound, length, used)
+            fields(to, kind, compound, length, used)
         }
         Header::End(kind, used) => {
             if used == 1 {
-                say::text(b"ok end8");
+                say::text(to, b"ok end8")?;
             } else {
-                say::text(b"ok end16");
+                say::text(to, b"ok end16")?;
             }
-            fields(kind, false, 0, used)
+            fields(to, kind, false, 0, used)
         }
-        Header::Refused(r) => say::refusal(r),
+        Header::Refused(r) => say::refusal(to, r),
     }
 }
 
 // `wstart TYPE COMPOUND LENGTH OUTLEN`
-pub fn wstart(line: &[u8], out: &mut [u8]) {
+pub fn wstart<W: Write>(to: &mut W, line: &[u8], out: &mut [u8]) -> io::Result<()> {
     let kind = words::number(words::word(line, 1));
     let compound = words::number(words::word(line, 2));
     let length = words::number(words::word(line, 3));
     let room = words::lent(words::word(line, 4), out);
     if !words::all(kind.good, compound.good, length.good, room.good) {
-        return say::bad();
+        return say::bad(to);
     }
     if 1 < compound.value {
-        return say::bad();
+        return say::bad(to);
     }
     let n = room.count;
     let wrote = objects::header_write::write_start(
@@ -56,17 +64,17 @@ pub fn wstart(line: &[u8], out: &mut [u8]) {
         compound.value == 1,
         length.value,
     );
-    say::written(wrote, out)
+    say::written(to, wrote, out)
 }
 
 // `wend TYPE OUTLEN`
-pub fn wend(line: &[u8], out: &mut [u8]) {
+pub fn wend<W: Write>(to: &mut W, line: &[u8], out: &mut [u8]) -> io::Result<()> {
     let kind = words::number(words::word(line, 1));
     let room = words::lent(words::word(line, 2), out);
     if !words::all(kind.good, room.good, true, true) {
-        return say::bad();
+        return say::bad(to);
     }
     let n = room.count;
     let wrote = objects::header_write::write_end(&mut out[0..n], kind.value);
-    say::written(wrote, out)
+    say::written(to, wrote, out)
 }

@@ -6,67 +6,69 @@ use numbers::compact::Compact;
 use numbers::extended_guid::{ExtendedGuid, ReadExtendedGuid};
 use numbers::guid::Guid;
 use numbers::serial::{ReadSerial, Serial};
+use std::io;
+use std::io::Write;
 
 // `compact HEX`
-pub fn compact(s: &[u8]) {
+pub fn compact<W: Write>(to: &mut W, s: &[u8]) -> io::Result<()> {
     match numbers::compact::read_compact(s) {
         Compact::Value(value, used, padded) => {
-            say::ok();
-            say::number(value);
-            say::number(used as u64);
+            say::ok(to)?;
+            say::number(to, value)?;
+            say::number(to, used as u64)?;
             if padded {
-                return say::number(1);
+                return say::number(to, 1);
             }
-            say::number(0)
+            say::number(to, 0)
         }
-        Compact::Refused(r) => say::refusal(r),
+        Compact::Refused(r) => say::refusal(to, r),
     }
 }
 
 // A GUID, a number and the bytes used; null is all zeros.
-fn named(g: Guid, number: u64, used: usize) {
-    say::ok();
-    say::guid(g);
-    say::number(number);
-    say::number(used as u64)
+fn named<W: Write>(to: &mut W, g: Guid, number: u64, used: usize) -> io::Result<()> {
+    say::ok(to)?;
+    say::guid(to, g)?;
+    say::number(to, number)?;
+    say::number(to, used as u64)
 }
 
-fn null(used: usize) {
-    named(Guid { low: 0, high: 0 }, 0, used)
+fn null<W: Write>(to: &mut W, used: usize) -> io::Result<()> {
+    named(to, Guid { low: 0, high: 0 }, 0, used)
 }
 
 // `exguid HEX`
-pub fn exguid(s: &[u8]) {
+pub fn exguid<W: Write>(to: &mut W, s: &[u8]) -> io::Result<()> {
     match numbers::extended_guid::read_extended_guid(s) {
         ReadExtendedGuid::Value(id, used) => match id {
-            ExtendedGuid::Null => null(used),
-            ExtendedGuid::Named(g, x) => named(g, x as u64, used),
+            ExtendedGuid::Null => null(to, used),
+            ExtendedGuid::Named(g, x) => named(to, g, x as u64, used),
         },
-        ReadExtendedGuid::Refused(r) => say::refusal(r),
+        ReadExtendedGuid::Refused(r) => say::refusal(to, r),
     }
 }
 
 // `serial HEX`
-pub fn serial(s: &[u8]) {
+pub fn serial<W: Write>(to: &mut W, s: &[u8]) -> io::Result<()> {
     match numbers::serial::read_serial(s) {
         ReadSerial::Value(id, used) => match id {
-            Serial::Null => null(used),
-            Serial::Numbered(g, x) => named(g, x, used),
+            Serial::Null => null(to, used),
+            Serial::Numbered(g, x) => named(to, g, x, used),
         },
-        ReadSerial::Refused(r) => say::refusal(r),
+        ReadSerial::Refused(r) => say::refusal(to, r),
     }
 }
 
 // `wcompact VALUE OUTLEN`
-pub fn wcompact(line: &[u8], out: &mut [u8]) {
+pub fn wcompact<W: Write>(to: &mut W, line: &[u8], out: &mut [u8]) -> io::Result<()> {
     let given = words::number(words::word(line, 1));
     let room = words::lent(words::word(line, 2), out);
     if !words::all(given.good, room.good, true, true) {
-        return say::bad();
+        return say::bad(to);
     }
     let n = room.count;
     let wrote = numbers::compact::write_compact(&mut out[0..n], given.value);
-    say::written(wrote, out)
+    say::written(to, wrote, out)
 }
 
 // What `wexguid` and `wserial` are given. Null is a zero GUID with the number 0.
@@ -96,13 +98,13 @@ fn given(line: &[u8], out: &[u8]) -> ToWrite
 }
 
 // `wexguid GUIDHEX NUMBER OUTLEN`; the number of an extended GUID has 32 bits.
-pub fn wexguid(line: &[u8], out: &mut [u8]) {
+pub fn wexguid<W: Write>(to: &mut W, line: &[u8], out: &mut [u8]) -> io::Result<()> {
     let g = given(line, out);
     if !g.good {
-        return say::bad();
+        return say::bad(to);
     }
     if 0xFFFFFFFF < g.number {
-        return say::bad();
+        return say::bad(to);
     }
     let n = g.room;
     let guid = g.guid;
@@ -111,14 +113,14 @@ pub fn wexguid(line: &[u8], out: &mut [u8]) {
         id = ExtendedGuid::Null;
     }
     let wrote = numbers::extended_guid::write_extended_guid(&mut out[0..n], id);
-    say::written(wrote, out)
+    say::written(to, wrote, out)
 }
 
 // `wserial GUIDHEX NUMBER OUTLEN`
-pub fn wserial(line: &[u8], out: &mut [u8]) {
+pub fn wserial<W: Write>(to: &mut W, line: &[u8], out: &mut [u8]) -> io::Result<()> {
     let g = given(line, out);
     if !g.good {
-        return say::bad();
+        return say::bad(to);
     }
     let n = g.room;
     let guid = g.guid;
@@ -127,5 +129,5 @@ pub fn wserial(line: &[u8], out: &mut [u8]) {
         id = Serial::Null;
     }
     let wrote = numbers::serial::write_serial(&mut out[0..n], id);
-    say::written(wrote, out)
+    say::written(to, wrote, out)
 }
