@@ -1,4 +1,5 @@
 // The modes of the test program for a store and for a knowledge.
 #![tactic(auto)]
+
 pub mod knowledges;
 pub mod stores;

@@ -5,6 +5,8 @@ ghost use Rattle.store.specs.Tables.{most_elements};
 use case_words::{say, words};
 use numbers::refusal::Refusal;
 use order::rows::{RANKED_NUMBERS, RANKED_WIDTH, put_rows};
+use std::io;
+use std::io::Write;
 use store::accessor::{Found, element_bytes, find_element};
 use store::package::{Stored, read_store};
 use store::table::{ID_NUMBERS, ID_WIDTH, MOST_ELEMENTS, ROW_NUMBERS, ROW_WIDTH};
@@ -16,14 +18,7 @@ pub const UNTOUCHED: u64 = 0xA5A5A5A5A5A5A5A5;
 pub fn untouched(t: &[u64]) -> bool
     ensures { result ≡ true → (k : ℕ) → k < length t.now → get_or t.now k 0 ≡ 0xA5A5A5A5A5A5A5A5 }
 {
-    let mut i = 0;
-    while i < t.len() {
-        if t[i] != UNTOUCHED {
-            return false;
-        }
-        i += 1;
-    }
-    true
+    t.iter().all(|x| *x == UNTOUCHED)
 }
 
 // An element takes at least so many bytes: its start two, its id 17, its serial number 25, its type one and its end one.
@@ -56,40 +51,51 @@ fn kept(n: usize, rows: &[u64; ROW_NUMBERS], ids: &[u64; ID_NUMBERS]) -> bool
 
 // How many elements, and their rows as a lent table holds them; or that numbers behind the rows or the ids were changed, of the
 // working tables or of the lent one. More elements than a store may hold count as that.
-fn held(n: usize, rows: &[u64; ROW_NUMBERS], ids: &[u64; ID_NUMBERS]) {
+fn held<W: Write>(
+    to: &mut W,
+    n: usize,
+    rows: &[u64; ROW_NUMBERS],
+    ids: &[u64; ID_NUMBERS],
+) -> io::Result<()> {
     if MOST_ELEMENTS < n {
-        return say::touched();
+        return say::touched(to);
     }
     if !kept(n, rows, ids) {
-        return say::touched();
+        return say::touched(to);
     }
     let mut lent = [UNTOUCHED; RANKED_NUMBERS];
     put_rows(&mut lent, rows, ids, n);
     let end = n * RANKED_WIDTH;
     if !untouched(&lent[end..]) {
-        return say::touched();
+        return say::touched(to);
     }
-    say::ok();
-    say::number(n as u64);
-    say::table(&lent, end, RANKED_WIDTH, 0)
+    say::ok(to)?;
+    say::number(to, n as u64)?;
+    say::table(to, &lent, end, RANKED_WIDTH, 0)
 }
 
 // A refusal; or that numbers were changed behind the rows and the ids of as many elements as the store's bytes have room for. Before
 // that the tables may hold those of the elements before the fault.
-fn refused(s: &[u8], r: Refusal, rows: &[u64; ROW_NUMBERS], ids: &[u64; ID_NUMBERS]) {
+fn refused<W: Write>(
+    to: &mut W,
+    s: &[u8],
+    r: Refusal,
+    rows: &[u64; ROW_NUMBERS],
+    ids: &[u64; ID_NUMBERS],
+) -> io::Result<()> {
     if !kept(elements_in(s), rows, ids) {
-        return say::touched();
+        return say::touched(to);
     }
-    say::refusal(r)
+    say::refusal(to, r)
 }
 
 // `store STOREHEX`
-pub fn rows(s: &[u8]) {
+pub fn rows<W: Write>(to: &mut W, s: &[u8]) -> io::Result<()> {
     let mut rows = [UNTOUCHED; ROW_NUMBERS];
     let mut ids = [UNTOUCHED; ID_NUMBERS];
     match read_store(s, &mut rows, &mut ids) {
-        Stored::Holds(n) => held(n, &rows, &ids),
-        Stored::Refused(r) => refused(s, r, &rows, &ids),
+        Stored::Holds(n) => held(to, n, &rows, &ids),
+        Stored::Refused(r) => refused(to, s, r, &rows, &ids),
     }
 }
 
@@ -102,36 +108,36 @@ pub fn stands_at(s: &[u8], at: usize, n: usize, part: &[u8]) -> bool {
         return false;
     }
     let end = at + n;
-    check::same(&s[at..end], part)
+    &s[at..end] == part
 }
 
 // The element at a position; or that its bytes are not those that stand where the call beside it says (on a refusal, none).
-fn at_position(s: &[u8], position: usize) {
+fn at_position<W: Write>(to: &mut W, s: &[u8], position: usize) -> io::Result<()> {
     let part = element_bytes(s, position);
     match find_element(s, position) {
         Found::At(at, n) => {
             if !stands_at(s, at, n, part) {
-                return say::apart();
+                return say::apart(to);
             }
-            say::ok();
-            say::bytes(part)
+            say::ok(to)?;
+            say::bytes(to, part)
         }
         Found::Refused(r) => {
             if part.len() != 0 {
-                return say::apart();
+                return say::apart(to);
             }
-            say::refusal(r)
+            say::refusal(to, r)
         }
     }
 }
 
 // `element STOREHEX POSITION`
-pub fn element(line: &[u8], space: &mut [u8]) {
+pub fn element<W: Write>(to: &mut W, line: &[u8], space: &mut [u8]) -> io::Result<()> {
     let given = words::bytes(words::word(line, 1), space);
     let position = words::number(words::word(line, 2));
     if !words::all(given.good, position.good, true, true) {
-        return say::bad();
+        return say::bad(to);
     }
     let n = given.count;
-    at_position(&space[0..n], position.value as usize)
+    at_position(to, &space[0..n], position.value as usize)
 }
