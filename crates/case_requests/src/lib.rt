@@ -1,3 +1,4 @@
 // The modes of the test program for a request.
 #![tactic(auto)]
+
 pub mod requests;
