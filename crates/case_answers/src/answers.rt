@@ -11,6 +11,8 @@ use case_words::{say, words};
 use numbers::refusal::Refusal;
 use pages::answer;
 use pages::answer::Answered;
+use std::io;
+use std::io::Write;
 
 // Room for the longest output that is lent. It comes from a call as the large arrays of main.rt do.
 fn output_space() -> [u8; 1048576] {
@@ -19,41 +21,56 @@ fn output_space() -> [u8; 1048576] {
 
 // The answer's bytes and the rows of both tables; or that something behind them was changed. Lengths that no answer has count as
 // that.
-fn sent(whole: usize, n: usize, count: usize, out: &[u8], rows: &[u64], ranges: &[u64])
+fn sent<W: Write>(
+    to: &mut W,
+    whole: usize,
+    n: usize,
+    count: usize,
+    out: &[u8],
+    rows: &[u64],
+    ranges: &[u64],
+) -> io::Result<()>
     requires { (ranked_numbers ≤ length rows.now) × (knowledge_numbers ≤ length ranges.now) }
 {
     if out.len() < whole {
-        return say::touched();
+        return say::touched(to);
     }
     if !say::untouched(&out[whole..]) {
-        return say::touched();
+        return say::touched(to);
     }
     let end = tables::filled(n, count);
     if !end.good {
-        return say::touched();
+        return say::touched(to);
     }
     if !tables::kept(rows, end.rows, ranges, end.ranges) {
-        return say::touched();
+        return say::touched(to);
     }
-    say::ok();
-    say::bytes(&out[0..whole]);
-    tables::tell(rows, end.rows, ranges, end.ranges)
+    say::ok(to)?;
+    say::bytes(to, &out[0..whole])?;
+    tables::tell(to, rows, end.rows, ranges, end.ranges)
 }
 
 // A refusal; or that something was changed.
-fn refused(r: Refusal, out: &[u8], rows: &[u64], ranges: &[u64]) {
+fn refused<W: Write>(
+    to: &mut W,
+    r: Refusal,
+    out: &[u8],
+    rows: &[u64],
+    ranges: &[u64],
+) -> io::Result<()> {
     if !say::untouched(out) {
-        return say::touched();
+        return say::touched(to);
     }
     if !tables::kept(rows, 0, ranges, 0) {
-        return say::touched();
+        return say::touched(to);
     }
-    say::refusal(r)
+    say::refusal(to, r)
 }
 
 // The call, lent as much as the case says, and what it answers. Output and tables are looked at whole, what is not lent of them
 // too.
-fn asked(
+fn asked<W: Write>(
+    to: &mut W,
     store: &[u8],
     request: &[u8],
     room: usize,
@@ -61,7 +78,7 @@ fn asked(
     out: &mut [u8],
     rows: &mut [u64],
     ranges: &mut [u64],
-)
+) -> io::Result<()>
     requires { (room ≤ length out.old) × (l.rows ≤ length rows.old) × (l.ranges ≤ length ranges.old) × (ranked_numbers ≤ length rows.old) × (knowledge_numbers ≤ length ranges.old) }
 {
     let m = l.rows;
@@ -73,40 +90,47 @@ fn asked(
         &mut ranges[0..k],
         &mut out[0..room],
     ) {
-        Answered::Sent(whole, n, count) => sent(whole, n, count, out, rows, ranges),
-        Answered::Refused(r) => refused(r, out, rows, ranges),
+        Answered::Sent(whole, n, count) => sent(to, whole, n, count, out, rows, ranges),
+        Answered::Refused(r) => refused(to, r, out, rows, ranges),
     }
 }
 
 // The tables, new for each case.
-fn tables_lent(store: &[u8], request: &[u8], room: usize, l: Tables, out: &mut [u8])
+fn tables_lent<W: Write>(
+    to: &mut W,
+    store: &[u8],
+    request: &[u8],
+    room: usize,
+    l: Tables,
+    out: &mut [u8],
+) -> io::Result<()>
     requires { (room ≤ length out.old) × (l.rows ≤ 5120) × (l.ranges ≤ 5120) }
 {
     let mut rows = [UNTOUCHED; 5120];
     let mut ranges = [UNTOUCHED; 5120];
-    asked(store, request, room, l, out, &mut rows, &mut ranges)
+    asked(to, store, request, room, l, out, &mut rows, &mut ranges)
 }
 
 // The output, new for each case.
-fn output_lent(line: &[u8], store: &[u8], request: &[u8]) {
+fn output_lent<W: Write>(to: &mut W, line: &[u8], store: &[u8], request: &[u8]) -> io::Result<()> {
     let mut out = output_space();
     let room = words::lent(words::word(line, 3), &out);
     let l = tables::lent(line);
     if !words::all(room.good, l.good, true, true) {
-        return say::bad();
+        return say::bad(to);
     }
-    tables_lent(store, request, room.count, l, &mut out)
+    tables_lent(to, store, request, room.count, l, &mut out)
 }
 
 // `write STOREHEX REQUESTHEX OUTLEN STORETABLELEN KNOWTABLELEN`: the bytes of both inputs stand in one space, the request's
 // behind the store's.
-pub fn written(line: &[u8], space: &mut [u8]) {
+pub fn written<W: Write>(to: &mut W, line: &[u8], space: &mut [u8]) -> io::Result<()> {
     let first = words::bytes(words::word(line, 1), space);
     let n = first.count;
     let second = words::bytes(words::word(line, 2), &mut space[n..]);
     if !words::all(first.good, second.good, true, true) {
-        return say::bad();
+        return say::bad(to);
     }
     let end = n + second.count;
-    output_lent(line, &space[0..n], &space[n..end])
+    output_lent(to, line, &space[0..n], &space[n..end])
 }

@@ -9,6 +9,8 @@ use case_words::{say, words};
 use order::rows::RANKED_WIDTH;
 use pages::deciding::MOST_CARRIED;
 use ranges::RANGE_WIDTH;
+use std::io;
+use std::io::Write;
 use store::table::MOST_ELEMENTS;
 
 // How many numbers a table has that parts are lent of: more than the calls need.
@@ -72,9 +74,15 @@ pub fn kept(rows: &[u64], row: usize, ranges: &[u64], range: usize) -> bool
 
 // The rows of both tables, which end at a number of each. The GUIDs of ranges are little-endian numbers, which are told as they
 // stand.
-pub fn tell(rows: &[u64], row: usize, ranges: &[u64], range: usize)
+pub fn tell<W: Write>(
+    to: &mut W,
+    rows: &[u64],
+    row: usize,
+    ranges: &[u64],
+    range: usize,
+) -> io::Result<()>
     requires { (row ≤ length rows.now) × (range ≤ length ranges.now) }
 {
-    say::table(rows, row, RANKED_WIDTH, 0);
-    say::table(ranges, range, RANGE_WIDTH, 0)
+    say::table(to, rows, row, RANKED_WIDTH, 0)?;
+    say::table(to, ranges, range, RANGE_WIDTH, 0)
 }
