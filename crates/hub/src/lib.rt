@@ -1,4 +1,4 @@
-// The calls as they are exported to C: "takes byte slices and numbers; it returns the refusal number or 0". Each adds nothing to the
+// The calls as `hub_c` exports them to C: "takes byte slices and numbers; it returns the refusal number or 0". Each adds nothing to the
 // call that it makes but the report; the answering calls have the working tables besides, whose rows nobody is told, and for a store
 // without elements none of these but for the ranges: to clear them is most of what such a call costs.
 #![tactic(auto)]
@@ -76,8 +76,7 @@ fn length_of_elements(store: &[u8], request: &[u8], offered: usize, report: &mut
 
 // How long the answer to a request is in an output of the offered length: 0 if there is one, else the refusal's number. The report
 // tells the rest. Ruled out (proofs/WrongAnswers), of no store and no request: 0; a report of one byte that is written to.
-#[unsafe(no_mangle)]
-pub extern "C" fn hub_length(store: &[u8], request: &[u8], offered: u64, report: &mut [u8]) -> u64
+pub fn hub_length(store: &[u8], request: &[u8], offered: u64, report: &mut [u8]) -> u64
     ensures { HubTellsLength store.now request.now offered result report.old report.new }
 {
     match begin_store(store) {
@@ -131,8 +130,7 @@ fn write_of_elements(store: &[u8], request: &[u8], out: &mut [u8], report: &mut 
 
 // One answer to one request, decided again: 0 if the output has it, else the refusal's number. The report tells the rest. Ruled out
 // (proofs/WrongAnswers), of no store and no request: 0; a report of one byte that is written to.
-#[unsafe(no_mangle)]
-pub extern "C" fn hub_write(store: &[u8], request: &[u8], out: &mut [u8], report: &mut [u8]) -> u64
+pub fn hub_write(store: &[u8], request: &[u8], out: &mut [u8], report: &mut [u8]) -> u64
     ensures { HubWritesAnswer store.now request.now result out.old out.new report.old report.new }
 {
     match begin_store(store) {
@@ -153,8 +151,7 @@ fn put_entered(report: &mut [u8], n: usize, m: usize)
 // A put applied to a store, under the hub's GUID as two little-endian numbers: 0 if the new store and the output have what they are to
 // hold, else the refusal's number. The report tells the rest. Ruled out (proofs/WrongAnswers), of no store and no put: 0; a new store
 // that is written to. And of a put that enters: the new store's length in place of the answer's.
-#[unsafe(no_mangle)]
-pub extern "C" fn hub_put(
+pub fn hub_put(
     store: &[u8],
     request: &[u8],
     guidlow: u64,
@@ -180,8 +177,7 @@ pub extern "C" fn hub_put(
 
 // The request that a bench sends; the limit 2^64-1 is no constraint. Ruled out (proofs/WrongAnswers): 0 for a knowledge of one byte;
 // an output with no room for the request that is written to.
-#[unsafe(no_mangle)]
-pub extern "C" fn hub_ask(
+pub fn hub_ask(
     id: u64,
     limit: u64,
     filters: &[u8],
@@ -259,8 +255,7 @@ fn put_received(report: &mut [u8], x: Received)
 }
 
 // An answer, read. Ruled out (proofs/WrongAnswers), of no bytes: 0; a report of one byte that is written to.
-#[unsafe(no_mangle)]
-pub extern "C" fn hub_read(answer: &[u8], report: &mut [u8]) -> u64
+pub fn hub_read(answer: &[u8], report: &mut [u8]) -> u64
     ensures { HubReads answer.now result report.old report.new }
 {
     match read_answer(answer) {
@@ -300,8 +295,7 @@ fn ask_put(
 // The put that a bench sends, of elements that stand one behind the other. It expects no storage index if `named` is 0, else the one
 // with this GUID and number. Ruled out (proofs/WrongAnswers), of no elements: 14 for a number over 32 bits, which is 3 first; 3 for it
 // where no storage index is named.
-#[unsafe(no_mangle)]
-pub extern "C" fn hub_ask_put(
+pub fn hub_ask_put(
     id: u64,
     named: u64,
     guid_low: u64,
@@ -329,8 +323,7 @@ fn put_handed(report: &mut [u8], x: ReceivedPut)
 }
 
 // The answer to a put, read. Ruled out (proofs/WrongAnswers), of no bytes: 0; a report of one byte that is written to.
-#[unsafe(no_mangle)]
-pub extern "C" fn hub_read_put(answer: &[u8], report: &mut [u8]) -> u64
+pub fn hub_read_put(answer: &[u8], report: &mut [u8]) -> u64
     ensures { HubReadsPut answer.now result report.old report.new }
 {
     match read_put_answer(answer) {
@@ -354,8 +347,7 @@ fn find_in(kind: u64, bytes: &[u8], position: usize) -> Found
 
 // One element by its position, in a store (kind 0) or in an answer (another kind). Ruled out (proofs/WrongAnswers), of no bytes: an
 // element of the store; 9 for the answer, whose own fault comes first.
-#[unsafe(no_mangle)]
-pub extern "C" fn hub_element(kind: u64, bytes: &[u8], position: u64, report: &mut [u8]) -> u64
+pub fn hub_element(kind: u64, bytes: &[u8], position: u64, report: &mut [u8]) -> u64
     ensures { HubFinds kind bytes.now position result report.old report.new }
 {
     match find_in(kind, bytes, position as usize) {
@@ -367,8 +359,7 @@ pub extern "C" fn hub_element(kind: u64, bytes: &[u8], position: u64, report: &m
 // An answer kept in a book: 0 if the new book's buffer has it, else the refusal's number. The report tells the rest. Ruled out
 // (proofs/WrongAnswers), of no book and no answer: 0; a new book that is written to. And of an answer that is kept: the book's length in
 // place of the new one's.
-#[unsafe(no_mangle)]
-pub extern "C" fn hub_keep(book: &[u8], answer: &[u8], newbook: &mut [u8], report: &mut [u8]) -> u64
+pub fn hub_keep(book: &[u8], answer: &[u8], newbook: &mut [u8], report: &mut [u8]) -> u64
     ensures { HubKeeps book.now answer.now result newbook.old newbook.new report.old report.new }
 {
     match keep(book, answer, newbook) {
