@@ -2,7 +2,7 @@
 # make install puts the header, the archive and hub.pc under DESTDIR and PREFIX, and make uninstall takes them away again.
 # What a rule that fails has written is taken away.
 .DELETE_ON_ERROR:
-.PHONY: test archive shared install uninstall run replay speed expected
+.PHONY: test archive cases shared install uninstall run replay speed expected
 
 PREFIX = /usr/local
 INCLUDEDIR = $(PREFIX)/include
@@ -10,7 +10,7 @@ LIBDIR = $(PREFIX)/lib
 DESTDIR =
 
 archive_file = target/staticlib/libhub.a
-sources = crates.txt toolchain $(shell find crates -name '*.rt' -o -name '*.antt')
+sources = crates.txt toolchain $(shell find crates -name out -prune -o \( -name '*.rt' -o -name '*.antt' \) -print)
 version = $(shell sed -n 's/^\#define HUB_VERSION "\(.*\)"$$/\1/p' include/hub.h)
 
 test:
@@ -21,8 +21,14 @@ archive: $(archive_file)
 # Whoever installs need not be who proved: nothing is made again while no source is newer.
 $(archive_file): $(sources)
 	@sh tools/toolchain
-	@sh tools/proving target/log/archive staticlib hub
-	@touch $@
+	@sh tools/archive
+
+# The program through which make replay and the tests compare lent tables.
+cases: target/bin/cases
+
+target/bin/cases: $(sources) crates/cases/stdin crates/cases/stdout
+	@sh tools/toolchain
+	@sh tools/cases
 
 # On x86-64 it is one line of cc, which README.md has.
 shared: $(archive_file)
@@ -48,7 +54,7 @@ run: target/player
 
 # Looks into a fault from the field: CASE is a file of cases, as player/sample/sample.cases is one. Every call in it is made by
 # library and peer, and a difference is a failure. If cases in it lend tables, these are compared through target/bin/cases, which
-# rt check cases makes.
+# make cases makes.
 replay: $(archive_file)
 	@test -n '$(CASE)' || { echo 'make replay CASE=FILE: a file of cases, such as player/sample/sample.cases'; exit 2; }
 	@sh peer/replay.sh '$(CASE)'

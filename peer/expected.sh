@@ -1,5 +1,5 @@
 #!/bin/sh
-# make expected: writes the stored lines of the tests by the peer, and shows what moved. It needs no archive and no proof. rt check
+# make expected: writes the stored lines of the tests by the peer, and shows what moved. It needs no archive and no proof. rt ci
 # holds crates/cases/stdout to what the proved program prints, and tests/c.sh and tests/player.sh the others to the library; so a
 # difference between library and peer stays one. Nothing is written if the peer does not come to its end on all cases, or touches
 # what it has no right to touch. The last line is 'nothing moved', or how many lines did.

@@ -43,7 +43,7 @@ if [ -n "$saved" ]; then
     [ "$cases" -gt 0 ] && [ "$cases" = "$count" ] || fail "the driver writes $cases cases, not $count"
 fi
 [ "$files" = 0 ] || [ -s "$root/$library" ] ||
-    fail "the tables are not compared: there is no $library (rt check cases makes it, and so does make test)"
+    fail "the tables are not compared: there is no $library (make cases makes it, and so does make test)"
 
 # ---- the same by the library
 # The lines that differ, or are missing; one too many is found when they are counted.

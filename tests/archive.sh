@@ -1,5 +1,5 @@
 #!/bin/sh
-# The archive for C: the crate hub is proved and its archive made, and what that has and what it needs is looked at. The other tests
+# The archive for C: the crate hub_c is proved and its archive made, and what that has and what it needs is looked at. The other tests
 # in C go on with it. The last line is 'N passed, 0 failed'.
 set -u
 cd "$(dirname "$0")/.." || exit 1
@@ -17,12 +17,12 @@ trap 'exit 1' HUP INT TERM
 # ---- the archive
 archive=target/staticlib/libhub.a
 rm -f "$archive"
-rt staticlib hub >"$room/log" 2>&1 || { cat "$room/log"; fail 'rt staticlib hub fails'; }
-[ -s "$archive" ] || fail "rt staticlib hub leaves no $archive"
+sh tools/archive >"$room/log" 2>&1 || { cat "$room/log"; fail 'tools/archive fails'; }
+[ -s "$archive" ] || fail "tools/archive leaves no $archive"
 
 # ---- what it has and what it needs, as the toolchain's linker sees it: the nine calls, and memset and memcpy of the C library
 guide=$(rt doc) || fail 'rt doc fails'
-linker=$(dirname "$(dirname "$guide")")/on/$(uname -m)/toolchain/bin/ld.lld
+linker=$(dirname "$guide")/toolchain/bin/ld.lld
 "$linker" -shared --cref --whole-archive "$archive" -o "$room/whole.so" >"$room/names" 2>&1 ||
     { cat "$room/names"; fail "the toolchain's linker cannot read $archive"; }
 calls=$(awk '$2 ~ /libhub\.a\(/ { print $1 }' "$room/names" | sort | tr '\n' ' ')

@@ -16,7 +16,7 @@ trap 'exit 1' HUP INT TERM
 
 headers=$(sh tools/headers) || fail 'there are no C headers'
 guide=$(rt doc) || fail 'the Rattle toolchain is needed, whose command is rt'
-own=$(dirname "$(dirname "$guide")")/on/$(uname -m)/toolchain/bin/clang
+own=$(dirname "$guide")/toolchain/bin/clang
 warnings='-Wall -Wextra -Werror -pedantic -Wconversion -Wsign-conversion -Wshadow -Wundef'
 
 # A file that has the header alone shows whether what is unused in it warns.

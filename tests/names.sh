@@ -3,7 +3,7 @@
 # row of docs/PROMISES.md names behind a crate ('objects: ..') stands in that crate. A name of the C side need only occur there,
 # as these words of the language do here: u32 u64 self requires ensures omega. Notes of landings, docs/requests/, may name anything.
 cd "$(dirname "$0")/.." || exit 1
-list() { find . \( -path ./target -o -path ./.git \) -prune -o -print | sed 's|^\./||' | grep -E "$1"; }
+list() { find . \( -path ./target -o -path ./.git -o -path './crates/*/out' \) -prune -o -print | sed 's|^\./||' | grep -E "$1"; }
 # shellcheck disable=SC2046
 list . | awk '
     function put(name) { there[crate, name]; there["any crate", name] }

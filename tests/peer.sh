@@ -3,7 +3,7 @@
 # the book itself, written in C by itself (peer/): stored cases by the peer, generated cases, books and answers that are kept in them,
 # whole talks and benches that are killed in theirs by both, and the tables that the calls for C have for themselves.
 # peer/spoiled.sh holds the comparison itself to what it is for, and peer/sanitize.sh runs the peer under the sanitizers.
-# tests/archive.sh makes the archive, and rt check cases the program `cases`, through which the tables are compared; make test does
+# tests/archive.sh makes the archive, and make cases the program `cases`, through which the tables are compared; make test does
 # both before. What is generated is determined by a seed, which is printed; PEER_CASES, PEER_KEEPS, PEER_TALKS, PEER_KEPT_TALKS, PEER_TABLES
 # and PEER_SEED choose other numbers. The last line is 'N passed, 0 failed'.
 set -u
@@ -23,7 +23,7 @@ trap 'exit 1' HUP INT TERM
 
 archive=target/staticlib/libhub.a saved=target/peer/difference.case saved_tables=target/peer/tables.case
 [ -s "$archive" ] || fail "there is no $archive: make archive writes it"
-[ -s target/bin/cases ] || fail 'there is no target/bin/cases: rt check cases makes it, and so does make test'
+[ -s target/bin/cases ] || fail 'there is no target/bin/cases: make cases makes it, and so does make test'
 mkdir -p target/peer || fail 'there is no room for a case'
 rm -f "$saved" "$saved_tables"
 
@@ -34,7 +34,7 @@ compile() { # NAME WORDS..
 }
 
 # ---- stored cases: make expected writes what the peer makes of them. It is run in a tree of links in which some of the stored lines
-# are others, and has to write those that are stored here, and to show what moved. The library is held to the same lines: rt check
+# are others, and has to write those that are stored here, and to show what moved. The library is held to the same lines: rt ci
 # compares crates/cases/stdout with what the program `cases` prints, and tests/c.sh the others with the calls for C.
 mkdir -p "$room/stored/crates/cases" "$room/stored/tests" || fail 'there is no room for a tree'
 cp Makefile "$room/stored/"
@@ -314,7 +314,7 @@ cp "$room/log" "$room/before"
 # Without the program; what lends no tables does not need it.
 rm "$room/tree/target/bin"
 replays_tables 2 6 lent
-says 'the tables are not compared: there is no target/bin/cases (rt check cases makes it, and so does make test)'
+says 'the tables are not compared: there is no target/bin/cases (make cases makes it, and so does make test)'
 replays_tables 0 2 plain
 cmp "$room/before" "$room/log" || fail 'a replay that lends no tables is another one without the program cases'
 ln -s "$PWD/target/bin" "$room/tree/target/bin" || fail 'there is no room for a link'

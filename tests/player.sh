@@ -16,7 +16,7 @@ trap 'rm -rf "$room"' EXIT
 trap 'exit 1' HUP INT TERM
 archive=target/staticlib/libhub.a
 if [ ! -s "$archive" ]; then
-    rt staticlib hub >"$room/log" 2>&1 || { cat "$room/log"; fail 'rt staticlib hub fails'; }
+    sh tools/archive >"$room/log" 2>&1 || { cat "$room/log"; fail 'tools/archive fails'; }
 fi
 sh tools/cc "$room/player" player/*.c "$archive" || fail 'player/ is not compiled and linked'
 talks=0 faults=0
