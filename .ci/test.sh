@@ -56,6 +56,10 @@ passes tests/names.sh "$room/log" "$(seconds_since "$since")"
 # ---- the proofs, the must-fail edits and the programs
 log=target/log/gate
 since=$(date +%s)
+# rt ci proves from what it has kept itself, and gives back what earlier checks left here. Where they left nothing, the libraries that
+# stand here behind it are those that it has made, and the archive can be made over them.
+unset HUB_BELOW
+stood=$(ls -d crates/*/out/rlib 2>/dev/null)
 sh tools/proving "$log" ci
 status=$?
 [ "$status" = 0 ] || { echo 'test: FAILED: rt ci'; exit "$status"; }
@@ -68,6 +72,7 @@ printf '%s\n' "$told" | grep -Eq ", [1-9][0-9]* bad" && fail 'rt ci finds must-f
 printf '%s\n' "$told" | grep -Eq "; must-fail edits: $edits refused[,;]" || fail "rt ci does not say that the $edits must-fail edits are refused"
 # The program through which the tests compare tables is the one that rt ci has just proved and built.
 mkdir -p target/bin && cp crates/cases/out/cases target/bin/cases || fail 'rt ci leaves no program cases'
+[ -n "$stood" ] || export HUB_BELOW=proved
 
 # ---- the tests in C, two at a time, as each keeps one processor busy. The first makes the archive, with which the others go on, and
 # the long ones come before the short ones, so that the lanes end together.
