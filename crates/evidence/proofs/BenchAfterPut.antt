@@ -37,8 +37,7 @@ use Rattle.request.specs.Meaning.{Filter, left_in}
 use Rattle.pages.specs.Choice.{knows_key}
 use Rattle.puts.specs.Applied.{entered, put_outcome}
 use Rattle.enter.specs.Entering.{Kept}
-use Rattle.enter.specs.Package.{kept_in}
-use Rattle.puts.specs.NewStore.{entering_from, first_number}
+use Rattle.puts.specs.NewStore.{entering_from, first_number, staying}
 use Rattle.enter.proofs.Keys.{seen_member, member_seen, once_other}
 use Rattle.enter.proofs.Members.{of_each}
 use Rattle.enter.proofs.KeptIn.{kept_serial, kept_in_serial}
@@ -111,7 +110,7 @@ module _ (s q : List ℕ) (g : Guid) (b : AllBytes s) (c : AllBytes q) (f : Guid
   abbrev come : List Kept
   come = entering_from q g (first_number g (elements_of s)) (handed_by q)
 
-  came_in : (y : Element) → In y (elements_of w) → has_entered s g y ≡ true → In (kept_in w y) come
+  came_in : (y : Element) → In y (elements_of w) → has_entered s g y ≡ true → In (staying w y) come
   came_in y m e =
       ⊎_elim (λ n. let r = (behind.stayed_old s q g storeRoom room a w b c f h y n.0).1 in impossible (cc)) (λ n. n)
       (behind.stayed_or_entered s q g storeRoom room a w b c f h y m)

@@ -21,8 +21,7 @@ use Rattle.store.specs.declared.element.Element.{Element}
 use Rattle.store.specs.declared.element.Key.{Key}
 use Rattle.store.proofs.Found.{store_most}
 use Rattle.enter.specs.Entering.{Kept, kept_id, replaced_by, new_to, enter}
-use Rattle.enter.specs.Package.{kept_in}
-use Rattle.puts.specs.NewStore.{entering_from, first_number, new_elements}
+use Rattle.puts.specs.NewStore.{entering_from, first_number, new_elements, staying}
 use Rattle.enter.proofs.KeptIn.{kept_in_parts}
 use Rattle.puts.proofs.AfterPut.{entering_parts}
 use Rattle.enter.proofs.Keys.{seen_member}
@@ -40,15 +39,15 @@ none_new there (y ∷ come) h = rw (h y (here refl)) (none_new there come (λ z 
 
 -- what was handed in is there, by its id
 id_there : (q w : List ℕ) (g : Guid) (n : ℕ) (handed : List Element) → EnterFrom q w g n handed → (x : Element) → In x handed
-    → seen same_key x.id (map kept_id (map (kept_in w) (elements_of w))) ≡ true
+    → seen same_key x.id (map kept_id (map (staying w) (elements_of w))) ≡ true
 id_there q w g n [] e x m = absurd (none_in m)
 id_there q w g n (y ∷ handed) e x m =
     ⊎_elim
     (λ i.
     let t = e.0 in
-    let k : kept_id (kept_in w t.element) ≡ x.id = (kept_in_parts w t.element).0 ∙ t.id_is ∙ ap (λ (z : Element). z.id) (sym i) in
-    subst (λ (j : Key). seen same_key j (map kept_id (map (kept_in w) (elements_of w))) ≡ true) k
-    (seen_member kept_id (map (kept_in w) (elements_of w)) (in_map (kept_in w) t.among)))
+    let k : kept_id (staying w t.element) ≡ x.id = (kept_in_parts w t.element).0 ∙ t.id_is ∙ ap (λ (z : Element). z.id) (sym i) in
+    subst (λ (j : Key). seen same_key j (map kept_id (map (staying w) (elements_of w))) ≡ true) k
+    (seen_member kept_id (map (staying w) (elements_of w)) (in_map (staying w) t.among)))
     (λ r. id_there q w g (suc n) handed e.1 x r)
     (first-or-later m)
 
@@ -57,7 +56,7 @@ pub put_again : (s q : List ℕ) (g : Guid) (a w : List ℕ) → PutDemandTwo s 
     → BothRead w q × (length (elements_behind w q h) ≡ length (elements_of w))
 unfolding new_elements enter
 put_again s q g a w two h =
-    let there = map (kept_in w) (elements_of w) in
+    let there = map (staying w) (elements_of w) in
     let come = entering_from q h (first_number h (elements_of w)) (handed_by q) in
     let none : new_to there come ≡ [] =
     none_new there come
@@ -69,7 +68,7 @@ put_again s q g a w two h =
       ap (λ (l : List Kept). length (map (replaced_by come) there ++ l)) none
           ∙ ap length (append-nil (map (replaced_by come) there))
           ∙ length-map there (replaced_by come)
-          ∙ length-map (elements_of w) (kept_in w),
+          ∙ length-map (elements_of w) (staying w),
     )
 
 -- so the call does not refuse with 9

@@ -34,8 +34,7 @@ use Rattle.puts.specs.Applied.{entered, put_outcome, last_number}
 use Rattle.enter.specs.Entering.{Kept, replaced_by, new_to, enter}
 use Rattle.puts.specs.Put.{put_front, put_walk, put_read, put_in}
 use Rattle.puts.specs.declared.put.Put.TheVariants as handed
-use Rattle.enter.specs.Package.{kept_in}
-use Rattle.puts.specs.NewStore.{entering_from, first_number, new_elements}
+use Rattle.puts.specs.NewStore.{entering_from, first_number, new_elements, staying}
 use Rattle.client.specs.Back.{PutBack}
 use Rattle.client.specs.PutWritten.{put_bytes}
 use Rattle.client.proofs.PutRead.{put_read_lem}
@@ -148,7 +147,7 @@ pub record PutDemandTwo (s q : List ℕ) (g : Guid) (a w : List ℕ) : Type 0 wh
   -- the new store is a store
   pub reads : Stands (store_walk w).last
   -- "an id already held is replaced, new ones follow at the end": its elements, in order, are exactly those of the definition
-  pub elements : map (kept_in w) (elements_of w) ≡ elements_behind s q g
+  pub elements : map (staying w) (elements_of w) ≡ elements_behind s q g
   -- "and the room of replaced ones is used again": its bytes are those elements in a package, and nothing else
   pub written : w ≡ store_behind s q g
   -- what the put does not name stays, byte for byte
@@ -221,10 +220,10 @@ unfolding replaced_by
 none_replaced [] = refl
 none_replaced (x ∷ l) = ap (λ (t : List Kept). x ∷ t) (none_replaced l)
 
-none_enter : (s q : List ℕ) (all : List Element) (g : Guid) (handed : List Element) → handed ≡ [] → new_elements s all q handed g ≡ map (kept_in s) all
+none_enter : (s q : List ℕ) (all : List Element) (g : Guid) (handed : List Element) → handed ≡ [] → new_elements s all q handed g ≡ map (staying s) all
 unfolding new_elements entering_from enter new_to
-none_enter s q all g handed e = rw (e, append-nil) (none_replaced (map (kept_in s) all))
+none_enter s q all g handed e = rw (e, append-nil) (none_replaced (map (staying s) all))
 
 -- it changes no element: ids, serial numbers and bytes are those of the store, in order
-pub put_of_nothing : (s q : List ℕ) (g : Guid) (a w : List ℕ) → PutDemandTwo s q g a w → handed_by q ≡ [] → map (kept_in w) (elements_of w) ≡ map (kept_in s) (elements_of s)
+pub put_of_nothing : (s q : List ℕ) (g : Guid) (a w : List ℕ) → PutDemandTwo s q g a w → handed_by q ≡ [] → map (staying w) (elements_of w) ≡ map (staying s) (elements_of s)
 put_of_nothing s q g a w two e = two.elements ∙ none_enter s q (elements_of s) g (handed_by q) e

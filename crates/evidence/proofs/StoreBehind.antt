@@ -36,8 +36,7 @@ use Rattle.pages.specs.Choice.{knows_key}
 use Rattle.puts.specs.Applied.{entered, last_number, put_outcome}
 use Rattle.enter.specs.Entering.{Kept, kept_id}
 use Rattle.puts.specs.Put.{put_strictness}
-use Rattle.enter.specs.Package.{kept_in}
-use Rattle.puts.specs.NewStore.{entering, entering_from, under_guid, highest_under, first_number, new_elements, ranges_of}
+use Rattle.puts.specs.NewStore.{entering, entering_from, under_guid, highest_under, first_number, new_elements, ranges_of, staying}
 use Rattle.enter.proofs.KeptIn.{kept_in_parts}
 use Rattle.puts.proofs.AfterPut.{AfterPut, after_put, both_read, entering_parts}
 use Rattle.enter.proofs.EnteringLaws.{named, all_come, nothing_else}
@@ -82,7 +81,7 @@ module _ (s q : List ℕ) (g : Guid) (storeRoom room : ℕ) (a w : List ℕ) (st
   all = elements_of s
 
   abbrev before : List Kept
-  before = map (kept_in s) all
+  before = map (staying s) all
 
   abbrev come : List Kept
   come = entering_from q g (first_number g all) (handed_by q)
@@ -104,37 +103,37 @@ module _ (s q : List ℕ) (g : Guid) (storeRoom room : ℕ) (a w : List ℕ) (st
 
   -- ---- each stayed or entered
 
-  kept_in_lem : (y : Element) → In y (elements_of w) → In (kept_in w y) (elements_behind s q g)
-  kept_in_lem y m = subst (In (kept_in w y)) after.elements (in_map (kept_in w) m)
+  kept_in_lem : (y : Element) → In y (elements_of w) → In (staying w y) (elements_behind s q g)
+  kept_in_lem y m = subst (In (staying w y)) after.elements (in_map (staying w) m)
 
-  pub stayed_or_entered : (y : Element) → In y (elements_of w) → (In (kept_in w y) before × (named come (kept_in w y) ≡ false)) ⊎ In (kept_in w y) come
+  pub stayed_or_entered : (y : Element) → In y (elements_of w) → (In (staying w y) before × (named come (staying w y) ≡ false)) ⊎ In (staying w y) come
   unfolding new_elements
-  stayed_or_entered y m = nothing_else before come (kept_in w y) (kept_in_lem y m)
+  stayed_or_entered y m = nothing_else before come (staying w y) (kept_in_lem y m)
 
   -- what stayed has the serial number of an element of the store
-  pub stayed_from : (y : Element) → In (kept_in w y) before → (x : Element) × In x all × (x.serial ≡ y.serial)
+  pub stayed_from : (y : Element) → In (staying w y) before → (x : Element) × In x all × (x.serial ≡ y.serial)
   stayed_from y n =
-      let r = of_map (kept_in s) all n in (r.0, r.1, sym (kept_in_serial s r.0) ∙ ap kept_serial r.2 ∙ kept_in_serial w y)
+      let r = of_map (staying s) all n in (r.0, r.1, sym (kept_in_serial s r.0) ∙ ap kept_serial r.2 ∙ kept_in_serial w y)
 
-  pub stayed_old : (y : Element) → In (kept_in w y) before → (knows_store s y.serial ≡ true) × (has_entered s g y ≡ false)
+  pub stayed_old : (y : Element) → In (staying w y) before → (knows_store s y.serial ≡ true) × (has_entered s g y ≡ false)
   stayed_old y n =
       let (x, m, e) = stayed_from y n in
       (ap (knows_store s) (sym e) ∙ seen_member serial_of all m, ap (is_new s g) (sym e) ∙ stored_not_new s g x m)
 
   -- what entered has one that no element of the store has
-  pub none_had : (x y : Element) → In x all → In (kept_in w y) come → x.serial ≡ y.serial → ⊥
-  none_had x y m n e = new_serial_differs q g all (handed_by q) x (kept_in w y) m n (e ∙ sym (kept_in_serial w y))
+  pub none_had : (x y : Element) → In x all → In (staying w y) come → x.serial ≡ y.serial → ⊥
+  none_had x y m n e = new_serial_differs q g all (handed_by q) x (staying w y) m n (e ∙ sym (kept_in_serial w y))
 
-  pub entered_new : (y : Element) → In (kept_in w y) come → (knows_store s y.serial ≡ false) × (has_entered s g y ≡ true)
+  pub entered_new : (y : Element) → In (staying w y) come → (knows_store s y.serial ≡ false) × (has_entered s g y ≡ true)
   entered_new y n =
-      let r = came q g (first_number g all) (handed_by q) (kept_in w y) n in
+      let r = came q g (first_number g all) (handed_by q) (staying w y) n in
       let known : knows_store s y.serial ≡ false =
       by_bool (knows_store s y.serial) (λ t. let (x, m, e) = member_seen serial_of y.serial all t in absurd (none_had x y m n e)) (λ t. t) in
       (known, ap (is_new s g) (sym (kept_in_serial w y) ∙ came_serial r) ∙ above_new s g r.number r.from)
 
   -- ---- by the ids
 
-  named_as : (y : Element) → named come (kept_in w y) ≡ is_named q y.id
+  named_as : (y : Element) → named come (staying w y) ≡ is_named q y.id
   named_as y =
       ap (λ (k : Key). seen same_key k (map kept_id come)) (kept_in_parts w y).0
       ∙ ap (seen same_key y.id) (entering_ids q g (first_number g all) (handed_by q))
@@ -151,7 +150,7 @@ module _ (s q : List ℕ) (g : Guid) (storeRoom room : ℕ) (a w : List ℕ) (st
 
   -- ---- the serial numbers
 
-  entered_came : (y : Element) → In y (elements_of w) → is_named q y.id ≡ true → In (kept_in w y) come
+  entered_came : (y : Element) → In y (elements_of w) → is_named q y.id ≡ true → In (staying w y) come
   entered_came y m i = ⊎_elim (λ p. let z = p.1 in let u = named_as y in impossible (cc)) (λ p. p) (stayed_or_entered y m)
 
   -- what entered shares its serial number with no other: nothing that stayed has it, and of those that entered each has another
@@ -160,7 +159,7 @@ module _ (s q : List ℕ) (g : Guid) (storeRoom room : ℕ) (a w : List ℕ) (st
       let c = entered_came y n i in
       ⊎_elim (λ p. let (z, k, j) = stayed_from x p.0 in absurd (named_new z y k n i (j ∙ e)))
       (λ p.
-      let same : kept_in w x ≡ kept_in w y =
+      let same : staying w x ≡ staying w y =
       once_one kept_serial come (new_serials_once q g (first_number g all) (handed_by q)) p c (kept_in_serial w x ∙ e ∙ sym (kept_in_serial w y)) in
       once_one id_of (elements_of w) (ids_once w (store_read w after.reads)) m n (sym (kept_in_parts w x).0 ∙ ap kept_id same ∙ (kept_in_parts w y).0))
       (stayed_or_entered x m)
@@ -187,11 +186,11 @@ module _ (s q : List ℕ) (g : Guid) (storeRoom room : ℕ) (a w : List ℕ) (st
 
   -- ---- what was handed in, in order
 
-  pub come_there : (y : Kept) → In y come → (x : Element) × In x (elements_of w) × (kept_in w x ≡ y)
+  pub come_there : (y : Kept) → In y come → (x : Element) × In x (elements_of w) × (staying w x ≡ y)
   unfolding new_elements
   come_there y m =
       let o : once same_key (map kept_id come) ≡ true = rw (entering_ids q g (first_number g all) (handed_by q)) (put_ids_once q reads.1) in
-      of_map (kept_in w) (elements_of w) (subst (In y) (sym after.elements) (all_come before come o y m))
+      of_map (staying w) (elements_of w) (subst (In y) (sym after.elements) (all_come before come o y m))
 
   enters_as : (n : ℕ) (x : Element) → In x (handed_by q) → In (entering q (key_of g n) x) come → EntersAs q w g n x
   enters_as n x m i =
@@ -227,7 +226,7 @@ module _ (s q : List ℕ) (g : Guid) (storeRoom room : ℕ) (a w : List ℕ) (st
   pub serial_fits : (y : Element) → In y (elements_of w) → KeyFits y.serial
   serial_fits y m =
       subst KeyFits (kept_in_serial w y)
-      (of_each SerialFits (elements_behind s q g) (serials_fit s q g (handed_by q) store_Bytes reads.0 fits left) (kept_in w y) (kept_in_lem y m)).0
+      (of_each SerialFits (elements_behind s q g) (serials_fit s q g (handed_by q) store_Bytes reads.0 fits left) (staying w y) (kept_in_lem y m)).0
 
   told_ranges : (k : Key) → KeyFits k → knows_key (ranges_of [] (elements_behind s q g)) k ≡ knows_store w k
   told_ranges k f =

@@ -29,8 +29,7 @@ use Rattle.store.specs.declared.element.Element.{Element}
 use Rattle.store.proofs.Chains.{store_read, ids_once}
 use Rattle.puts.specs.Applied.{entered, last_number, on_put, on_store, put_outcome}
 use Rattle.enter.specs.Entering.{Kept, kept_id}
-use Rattle.enter.specs.Package.{kept_in}
-use Rattle.puts.specs.NewStore.{entering, entering_from, highest_under, first_number, new_elements, ranges_of}
+use Rattle.puts.specs.NewStore.{entering, entering_from, highest_under, first_number, new_elements, ranges_of, staying}
 use Rattle.puts.specs.Put.{put_walk, put_read, put_in}
 use Rattle.enter.proofs.EnteringLaws.{named, unnamed_stays, all_come}
 use Rattle.enter.proofs.Keys.{unseen_member, once_one}
@@ -90,7 +89,7 @@ pub record Entered (q w : List ℕ) (g : Guid) (x : Element) : Type 0 where
 
 pub record AfterPut (s q : List ℕ) (g : Guid) (a w : List ℕ) : Type 0 where
   pub reads : Stands (store_walk w).last
-  pub elements : map (kept_in w) (store_walk w).elements ≡ elements_after s q g
+  pub elements : map (staying w) (store_walk w).elements ≡ elements_after s q g
   pub stayed : (x : Element) → In x (store_walk s).elements → seen same_key x.id (ids_in (put_walk q).elements) ≡ false → Stayed s w x
   pub handed : (x : Element) → In x (put_walk q).elements → Entered q w g x
   pub no_other : Each (λ (x : Element). ComesFrom (store_walk s).elements (put_walk q).elements x.id x.kind) (store_walk w).elements
@@ -127,7 +126,7 @@ module _ (s q : List ℕ) (g : Guid) (store_Bytes : AllBytes s) (store_reads : S
   new = elements_after s q g
 
   abbrev before : List Kept
-  before = map (kept_in s) all
+  before = map (staying s) all
 
   abbrev come : List Kept
   come = entering_from q g (first_number g all) put
@@ -135,21 +134,21 @@ module _ (s q : List ℕ) (g : Guid) (store_Bytes : AllBytes s) (store_reads : S
   abbrev after : List ℕ
   after = store_bytes s q g
 
-  read_there : (k : Kept) → In k new → (y : Element) × In y (store_walk after).elements × (kept_in after y ≡ k)
-  read_there k m = of_map (kept_in after) (store_walk after).elements (subst (In k) (sym r.elements) m)
+  read_there : (k : Kept) → In k new → (y : Element) × In y (store_walk after).elements × (staying after y ≡ k)
+  read_there k m = of_map (staying after) (store_walk after).elements (subst (In k) (sym r.elements) m)
 
   source : (y : Element) → In y (store_walk after).elements → ComesFrom all put y.id y.kind
   source y m = of_each (λ (x : Element). ComesFrom all put x.id x.kind) (store_walk after).elements r.types y m
 
-  stayed_in : (x : Element) → In x all → seen same_key x.id (ids_in put) ≡ false → In (kept_in s x) new
+  stayed_in : (x : Element) → In x all → seen same_key x.id (ids_in put) ≡ false → In (staying s x) new
   unfolding new_elements
   stayed_in x m h =
-      let e : named come (kept_in s x) ≡ false = ap (λ (k : Key). seen same_key k (map kept_id come)) (kept_in_parts s x).0 ∙ ap (seen same_key x.id) (entering_ids q g (first_number g all) put) ∙ h in
-      unnamed_stays before come (kept_in s x) (in_map (kept_in s) m) e
+      let e : named come (staying s x) ≡ false = ap (λ (k : Key). seen same_key k (map kept_id come)) (kept_in_parts s x).0 ∙ ap (seen same_key x.id) (entering_ids q g (first_number g all) put) ∙ h in
+      unnamed_stays before come (staying s x) (in_map (staying s) m) e
 
   stayed_there : (x : Element) → In x all → seen same_key x.id (ids_in put) ≡ false → Stayed s after x
   stayed_there x m h =
-      let (y, n, e) = read_there (kept_in s x) (stayed_in x m h) in
+      let (y, n, e) = read_there (staying s x) (stayed_in x m h) in
       let p = kept_in_parts after y in
       let o = kept_in_parts s x in
       let i : y.id ≡ x.id = sym p.0 ∙ ap kept_id e ∙ o.0 in
@@ -197,7 +196,7 @@ module _ (s q : List ℕ) (g : Guid) (store_Bytes : AllBytes s) (store_reads : S
 
   every_stored : (h : Guid) (n : ℕ) → GuidFits h → ((x : Element) × In x (store_walk after).elements × (x.serial ≡ key_of h n)) → knows (ranges_of [] new) h n ≡ true
   every_stored h n f (y, m, e) =
-      tells.known h n f (kept_in after y) (subst (In (kept_in after y)) r.elements (in_map (kept_in after) m)) ((kept_in_parts after y).1 ∙ e)
+      tells.known h n f (staying after y) (subst (In (staying after y)) r.elements (in_map (staying after) m)) ((kept_in_parts after y).1 ∙ e)
 
   all_after : AfterPut s q g (answer s q g) after
   all_after =

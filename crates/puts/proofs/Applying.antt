@@ -14,8 +14,8 @@ use Rattle.store.specs.Tables.{id_width, most_elements, id_keys, elements_in}
 use Rattle.store.proofs.Elements.{rows_up_to, length_elements}
 use Rattle.store.proofs.StoreHeld.{fits_row, short_row}
 use Rattle.store.specs.Written.{framed}
-use Rattle.enter.specs.Package.{kept_in, packed, joined}
-use Rattle.puts.specs.NewStore.{entering_from, highest_under, new_elements, ranges_of}
+use Rattle.enter.specs.Package.{packed, joined}
+use Rattle.puts.specs.NewStore.{entering_from, highest_under, new_elements, ranges_of, new_store, staying}
 use Rattle.enter.specs.Entering.{Kept, enter}
 use Rattle.puts.specs.Put.{put_walk}
 use Rattle.enter.specs.Plan.{sources}
@@ -38,14 +38,14 @@ module _ (s rows ids q handed_rows handed_ids : List ℕ) (g : Guid) (n m highes
   abbrev planned : List ℕ
   planned = sources (id_keys ids n) (id_keys handed_ids m)
 
-  new_is : enter (map (kept_in s) (elements_in rows ids n)) (entering_from q g (highest + 1) (elements_in handed_rows handed_ids m)) ≡ new
+  new_is : enter (map (staying s) (elements_in rows ids n)) (entering_from q g (highest + 1) (elements_in handed_rows handed_ids m)) ≡ new
   unfolding new_elements
   new_is = rw (h.held, p.held, top)
 
   pub planned_count : length planned ≡ length new
   planned_count = plan_count (sides s rows ids q handed_rows handed_ids g highest) n m h.most ∙ ap length new_is
 
-  pub planned_store : framed (planned_bytes (sides s rows ids q handed_rows handed_ids g highest) planned) ≡ packed new
+  pub planned_store : framed (planned_bytes (sides s rows ids q handed_rows handed_ids g highest) planned) ≡ new_store new
   unfolding packed
   planned_store = ap framed (plan_bytes (sides s rows ids q handed_rows handed_ids g highest) n m h.most ∙ ap joined new_is)
 

@@ -37,8 +37,7 @@ use Rattle.store.proofs.KnowledgeFits.{range_fits}
 use Rattle.store.specs.Held.{key_range}
 use Rattle.puts.specs.Applied.{last_number}
 use Rattle.enter.specs.Entering.{Kept, enter}
-use Rattle.enter.specs.Package.{kept_in}
-use Rattle.puts.specs.NewStore.{entering_from, highest_under, first_number, new_elements, ranges_of}
+use Rattle.puts.specs.NewStore.{entering_from, highest_under, first_number, new_elements, ranges_of, staying}
 use Rattle.enter.proofs.EnteringLaws.{nothing_else}
 use Rattle.enter.proofs.Keys.{seen_member, member_seen}
 use Rattle.enter.proofs.Members.{each_of, of_each}
@@ -146,9 +145,9 @@ module _ (s q : List ℕ) (g : Guid) (handed : List Element) (bytes : AllBytes s
   abbrev all : List Element
   all = (store_walk s).elements
 
-  stays_fits : (x : Kept) → In x (map (kept_in s) all) → SerialFits x
+  stays_fits : (x : Kept) → In x (map (staying s) all) → SerialFits x
   stays_fits x m =
-      let r = of_map (kept_in s) all m in
+      let r = of_map (staying s) all m in
       let k = of_each KeysFit all (keys_fit s bytes (store_read s store_reads)) r.0 r.1 in
       subst NumberedFits (sym (kept_in_serial s r.0) ∙ ap kept_serial r.2) k.1
 
@@ -161,7 +160,7 @@ module _ (s q : List ℕ) (g : Guid) (handed : List Element) (bytes : AllBytes s
   pub serials_fit : Each SerialFits (new_elements s (store_walk s).elements q handed g)
   unfolding new_elements
   serials_fit =
-      let before = map (kept_in s) all in
+      let before = map (staying s) all in
       let come = entering_from q g (first_number g all) handed in
       each_of SerialFits (enter before come) (λ x m. ⊎_elim (λ h. stays_fits x h.0) (λ n. comes_fits x n) (nothing_else before come x m))
 

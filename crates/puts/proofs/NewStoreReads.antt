@@ -30,10 +30,9 @@ use Rattle.store.proofs.ElementFits.{NumberedFits}
 use Rattle.store.proofs.ElementWritten.{element_written}
 use Rattle.request.specs.Filter.{request_padding}
 use Rattle.enter.specs.Entering.{Kept, kept_id}
-use Rattle.enter.specs.Package.{packed}
 use Rattle.enter.proofs.PackageReads.{Readable, Piece, enters, ReadsAs, entered_reads}
 use Rattle.puts.specs.Applied.{last_number}
-use Rattle.puts.specs.NewStore.{entering, entering_from, highest_under, first_number, new_elements}
+use Rattle.puts.specs.NewStore.{entering, entering_from, highest_under, first_number, new_elements, new_store}
 use Rattle.puts.specs.Put.{put_strictness, put_walk}
 use Rattle.puts.proofs.PutChain.{put_chain, put_ids_once}
 use Rattle.puts.proofs.Serials.{came, entering_ids}
@@ -91,7 +90,7 @@ module _ (s q : List ℕ) (g : Guid) (bytes : AllBytes q) (store_reads : Stands 
       }
 
   pub new_store_reads : length (new_elements s (store_walk s).elements q (put_walk q).elements g) ≤ most_elements
-      → length (packed (new_elements s (store_walk s).elements q (put_walk q).elements g)) ≤ longest_input
+      → length (new_store (new_elements s (store_walk s).elements q (put_walk q).elements g)) ≤ longest_input
       → ReadsAs (store_walk s).elements (put_walk q).elements (new_elements s (store_walk s).elements q (put_walk q).elements g)
   unfolding new_elements
   new_store_reads few short =

@@ -23,8 +23,7 @@ use Rattle.store.specs.Tables.{most_elements}
 use Rattle.store.specs.declared.element.Element.{Element}
 use Rattle.store.specs.declared.package.Stored.TheVariants as stored
 use Rattle.enter.specs.Entering.{Kept}
-use Rattle.enter.specs.Package.{packed}
-use Rattle.puts.specs.NewStore.{highest_under, new_elements, ranges_of}
+use Rattle.puts.specs.NewStore.{highest_under, new_elements, ranges_of, new_store}
 use Rattle.puts.specs.Put.{put_walk, put_in}
 use Rattle.puts.specs.Applied.{refused, entered, put_answer_bytes, answered, sized, counted, last_number, numbered, same_id, expecting, on_put, on_store, put_outcome, applied_told, store_after, output_after, GivesPut}
 use Rattle.puts.specs.declared.apply.Applied.TheVariants as applied
@@ -77,7 +76,7 @@ module _ (id : ℕ) (new : List Kept) (storeRoom room n : ℕ) (many : n ≡ len
   unfolding counted
   counted_over h = let e : most_elements < length new = omega arith in rw (lt-ltb _ _ e)
 
-  pub counted_fits : n ≤ most_elements → counted id new storeRoom room ≡ sized id (packed new) (ranges_of [] new) storeRoom room
+  pub counted_fits : n ≤ most_elements → counted id new storeRoom room ≡ sized id (new_store new) (ranges_of [] new) storeRoom room
   unfolding counted
   counted_fits h = let e : length new ≤ most_elements = omega arith in rw (le-ltb _ _ e)
 

@@ -27,8 +27,7 @@ use Rattle.store.specs.declared.element.Key.{Key}
 use Rattle.request.specs.Message.{put_changes_request, identified}
 use Rattle.puts.specs.Applied.{Outcome, refused, entered, put_answer_bytes, answered, sized, counted, last_number, numbered, same_id, expecting, on_put, on_store, put_outcome}
 use Rattle.enter.specs.Entering.{Kept}
-use Rattle.enter.specs.Package.{packed}
-use Rattle.puts.specs.NewStore.{highest_under, new_elements, ranges_of}
+use Rattle.puts.specs.NewStore.{highest_under, new_elements, ranges_of, new_store}
 use Rattle.puts.specs.Put.{put_front, put_walk, put_read, put_in}
 use Rattle.store.proofs.Rows.{same_itself, same_equal}
 use Rattle.puts.proofs.Outcomes.{answered_short, answered_fits, sized_long, sized_short, sized_fits, counted_over, counted_fits, numbered_out, numbered_left, expecting_other, expecting_same}
@@ -40,7 +39,7 @@ module _ (s q : List ℕ) (g : Guid) where
   elements_after = new_elements s (store_walk s).elements q (put_walk q).elements g
 
   abbrev pub store_bytes : List ℕ
-  store_bytes = packed elements_after
+  store_bytes = new_store elements_after
 
   abbrev pub answer : List ℕ
   answer = put_answer_bytes (value_of (identified put_changes_request q)) (ranges_of [] elements_after)
@@ -156,23 +155,23 @@ module _ (s q : List ℕ) (g : Guid) (storeRoom room : ℕ) (store_reads : Stand
   too_many : TooMany s q g → outcome ≡ refused (fault_at 9 0)
   too_many h = on_count h.0 ∙ counted_over id new storeRoom room (length new) refl h.1
 
-  on_size : NotTooMany s q g → outcome ≡ sized id (packed new) (ranges_of [] new) storeRoom room
+  on_size : NotTooMany s q g → outcome ≡ sized id (new_store new) (ranges_of [] new) storeRoom room
   on_size h = on_count h.0 ∙ counted_fits id new storeRoom room (length new) refl h.1
 
   too_long : TooLong s q g → outcome ≡ refused (fault_at 1 0)
-  too_long h = on_size h.0 ∙ sized_long id (packed new) (ranges_of [] new) storeRoom room (length (packed new)) refl h.1
+  too_long h = on_size h.0 ∙ sized_long id (new_store new) (ranges_of [] new) storeRoom room (length (new_store new)) refl h.1
 
   buffer_short : BufferShort s q g storeRoom → outcome ≡ refused (too_short (length (store_bytes s q g)))
-  buffer_short h = on_size h.0.0 ∙ sized_short id (packed new) (ranges_of [] new) storeRoom room (length (packed new)) refl h.0.1 h.1
+  buffer_short h = on_size h.0.0 ∙ sized_short id (new_store new) (ranges_of [] new) storeRoom room (length (new_store new)) refl h.0.1 h.1
 
-  on_answer_lem : BufferFits s q g storeRoom → outcome ≡ answered id (packed new) (ranges_of [] new) room
-  on_answer_lem h = on_size h.0.0 ∙ sized_fits id (packed new) (ranges_of [] new) storeRoom room (length (packed new)) refl h.0.1 h.1
+  on_answer_lem : BufferFits s q g storeRoom → outcome ≡ answered id (new_store new) (ranges_of [] new) room
+  on_answer_lem h = on_size h.0.0 ∙ sized_fits id (new_store new) (ranges_of [] new) storeRoom room (length (new_store new)) refl h.0.1 h.1
 
   output_short : OutputShort s q g storeRoom room → outcome ≡ refused (too_short (length (answer s q g)))
-  output_short h = on_answer_lem h.0 ∙ answered_short id (packed new) (ranges_of [] new) room (length (answer s q g)) refl h.1
+  output_short h = on_answer_lem h.0 ∙ answered_short id (new_store new) (ranges_of [] new) room (length (answer s q g)) refl h.1
 
   output_fits : OutputFits s q g storeRoom room → outcome ≡ entered (answer s q g) (store_bytes s q g)
-  output_fits h = on_answer_lem h.0 ∙ answered_fits id (packed new) (ranges_of [] new) room (length (answer s q g)) refl h.1
+  output_fits h = on_answer_lem h.0 ∙ answered_fits id (new_store new) (ranges_of [] new) room (length (answer s q g)) refl h.1
 
   -- ---- what an outcome means: the number tells the test
 

@@ -22,8 +22,7 @@ use Rattle.store.specs.Element.{key_of, same_key, ids_in}
 use Rattle.store.specs.declared.element.Key.{Key}
 use Rattle.store.specs.declared.element.Element.{Element}
 use Rattle.enter.specs.Entering.{Kept, kept_id, enter}
-use Rattle.enter.specs.Package.{kept_in}
-use Rattle.puts.specs.NewStore.{entering, entering_from, under_guid, highest_under, first_number, new_elements}
+use Rattle.puts.specs.NewStore.{entering, entering_from, under_guid, highest_under, first_number, new_elements, staying}
 use Rattle.enter.proofs.KeptIn.{kept_serial, serials_of, kept_in_ids, kept_in_serial, kept_in_serials}
 use Rattle.enter.proofs.Keys.{member_seen, once_one, once_other}
 use Rattle.enter.proofs.EnteringLaws.{ids_once, nothing_else}
@@ -145,7 +144,7 @@ entering_ids q g number (x ∷ handed) = rw (entering_ids q g (suc number) hande
 
 module _ (s : List ℕ) (all : List Element) (q : List ℕ) (handed : List Element) (g : Guid) (ids : once same_key (ids_in all) ≡ true) (handed-ids : once same_key (ids_in handed) ≡ true) where
   abbrev before : List Kept
-  before = map (kept_in s) all
+  before = map (staying s) all
 
   abbrev come : List Kept
   come = entering_from q g (first_number g all) handed
@@ -156,7 +155,7 @@ module _ (s : List ℕ) (all : List Element) (q : List ℕ) (handed : List Eleme
 
   apart : (x y : Kept) → In x before → In y come → x.serial ≡ y.serial → ⊥
   apart x y m n e =
-      let r = of_map (kept_in s) all m in
+      let r = of_map (staying s) all m in
       new_serial_differs q g all handed r.0 y r.1 n (sym (kept_in_serial s r.0) ∙ ap kept_serial r.2 ∙ e)
 
   one_of_each : once same_key (serials_of all) ≡ true → (x y : Kept) → In x (enter before come) → In y (enter before come) → x.serial ≡ y.serial → x.id ≡ y.id
