@@ -66,7 +66,8 @@ status=$?
 count 'rt ci' "$log"
 took 'rt ci' "$(seconds_since "$since")"
 # An edit whose text no longer stands, or that cannot be read, shows nothing: rt ci counts it as bad, and passes all the same.
-edits=$(ls crates/*/must-fail/ | grep -c '\.edit$')
+set -- crates/*/must-fail/*.edit
+edits=$#
 told=$(grep '^rt: ok' "$log") || fail "rt ci ended with status 0, and no line of it begins with 'rt: ok'"
 printf '%s\n' "$told" | grep -Eq ", [1-9][0-9]* bad" && fail 'rt ci finds must-fail edits that cannot be tried'
 printf '%s\n' "$told" | grep -Eq "; must-fail edits: $edits refused[,;]" || fail "rt ci does not say that the $edits must-fail edits are refused"
