@@ -107,14 +107,32 @@ int book_has_same(const struct book *b, const uint8_t *bytes, const struct eleme
     return mine != NULL && same(b->package.at + mine->place, mine->length, bytes + e->place, e->length);
 }
 
+/* The first element of an answer for which the book has no more room, once those before it are in. */
+static int say_full(const struct book *b, const uint8_t *answer, const struct elements *page) {
+    size_t count = b->all.count, length = b->package.length;
+    for (size_t i = 0; i < page->count; i++) {
+        const struct element *came = &page->row[i], *mine = book_find(b, answer, came);
+        if (mine != NULL) {
+            count--;
+            length -= mine->length;
+        }
+        if (count == MOST_ELEMENTS || came->length > HUB_LONGEST_INPUT - length) {
+            fprintf(stderr, "player: %s: the book is full: it has %zu elements in %zu bytes, and one of %zu bytes came\n", b->name, count,
+                    length, came->length);
+            return FULL;
+        }
+        count++;
+        length += came->length;
+    }
+    fprintf(stderr, "player: %s: the book is full: it has %zu elements in %zu bytes\n", b->name, count, length);
+    return FULL;
+}
+
 /* The answer does not go into the book. It is full if that falls on no item: 9 or 1 with input 0 and place 0. */
-static int not_kept(const struct book *b, const struct elements *page, uint64_t number, const uint8_t *report) {
+static int not_kept(const struct book *b, const uint8_t *answer, const struct elements *page, uint64_t number, const uint8_t *report) {
     int on_none = hub_report_number(report, HUB_AT_INPUT) == 0 && hub_report_number(report, HUB_AT_PLACE) == 0;
     if (on_none && (number == HUB_TOO_MANY || number == HUB_INPUT_TOO_LONG)) {
-        fprintf(stderr, "player: %s: the book is full: it has %zu elements in %zu bytes, and %zu elements came: hub_keep refuses: ",
-                b->name, b->all.count, b->package.length, page->count);
-        fprintf(stderr, "%llu\n", (unsigned long long)number);
-        return FULL;
+        return say_full(b, answer, page);
     }
     fprintf(stderr, "player: %s: hub_keep refuses: %llu, input %llu, place %llu (%s)\n", b->name, (unsigned long long)number,
             told(report, HUB_AT_INPUT), told(report, HUB_AT_PLACE), hub_refusal_text(number));
@@ -131,7 +149,7 @@ int book_keep(struct book *b, const struct bytes *answer, const struct elements 
                                sizeof report);
     if (number != HUB_DONE) {
         bytes_free(&kept);
-        return not_kept(b, page, number, report);
+        return not_kept(b, answer->at, page, number, report);
     }
     kept.length = told_size(report, HUB_AT_LENGTH);
     for (size_t i = 0; i < page->count; i++) {

@@ -147,7 +147,7 @@ static const struct known *find_option(const char *word) {
 /* There is one mode, which is asked for once; but who asks for help gets it, whatever else is asked for. */
 static int take_mode(struct options *o, enum mode mode, const char *name) {
     if (o->mode != TALK && o->mode != HELP && mode != HELP) {
-        return wrong("only one of --put, --hostile, --check, --dump and --replay can be asked for, and once", name);
+        return wrong("only one of --put, --hostile, --dump and --replay can be asked for, and once, and --check beside none", name);
     }
     o->mode = o->mode == HELP ? HELP : mode;
     return ENDED_WELL;

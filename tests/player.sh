@@ -276,6 +276,7 @@ for place in 90 24; do # inside an object's data; in the serial number's GUID
     changed "$ordered" "$place" 252 >"$room/changed"
     put "$room/changed" "$room/late.knowledge"
     player 0 'new 1; book: elements 11, bytes 1756,' "$whole" "$book"
+    same_elements "$whole" "$book"
     cmp "$ordered" "$book" || fail 'an element that comes again does not take the place of the damaged one'
     talks=$((talks + 1))
 done
@@ -340,8 +341,8 @@ fault 2 '--fast: there is no such option' '* ' --fast "$whole" "$book"
 fault 2 '--limit: a word is missing' '* ' "$whole" "$book" --limit
 fault 2 'a file too many' '* ' "$whole" "$book" "$book"
 fault 2 '--hostile: it needs a store, and no book' '* ' --hostile 1 "$whole" "$book"
-fault 2 'only one of --put, --hostile, --check, --dump and --replay' '* ' --dump "$whole" --replay $sample/sample.cases
-fault 2 'only one of --put, --hostile, --check, --dump and --replay' '* ' --hostile 1 --dump "$whole"
+fault 2 'only one of --put, --hostile, --dump and --replay' '* ' --dump "$whole" --replay $sample/sample.cases
+fault 2 'only one of --put, --hostile, --dump and --replay' '* ' --hostile 1 --dump "$whole"
 fault 2 '--times: it has no use with what else is asked for' '* ' --times 3 "$whole" "$book"
 fault 2 '--stop-after: it has no use with what else is asked for' '* ' --hostile 1 --stop-after 3 "$whole"
 fault 2 '--limit: it has no use with what else is asked for' '* ' --limit 3 --dump "$whole"

@@ -82,7 +82,7 @@ fault 2 '--check: it needs a book and a store' '* ' --check "$book"
 fault 2 'a file too many' '* ' --check "$book" "$whole" "$whole"
 fault 2 'a file too many' '* ' "$whole" "$book" --check "$book"
 fault 2 '--limit: it has no use with what else is asked for' '* ' --limit 3 --check "$book" "$whole"
-fault 2 'only one of --put, --hostile, --check, --dump and --replay' '* ' --check "$book" --dump "$whole"
+fault 2 'only one of --put, --hostile, --dump and --replay' '* ' --check "$book" --dump "$whole"
 cp "$whole" "$book"
 fault 3 "$room/absent: it cannot be opened: No such file" 'book ' --check "$book" "$room/absent"
 fault 5 'it is no store: refused 5 at place 0' 'book ' --check "$book" $sample/first.request

@@ -55,7 +55,7 @@ elements 255 32 1 >"$room/nearly"
 elements 2 300 300 2 >"$room/two"
 fresh
 talk 1 255 "$room/nearly" "$room/nearly" "$book" --quiet --answer-bytes 16842752
-fault 11 'the book is full: it has 255 elements in 11989 bytes, and 2 elements came: hub_keep refuses: 9' 'book book.knowledge ' "$room/two" "$book"
+fault 11 'the book is full: it has 256 elements' 'book book.knowledge ' "$room/two" "$book"
 cmp "$room/nearly" "$book" || fail 'of a group that does not fit into the book a part is taken'
 
 # ---- filters: who lets in one member gets the whole group, and what is left out comes without them

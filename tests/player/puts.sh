@@ -162,7 +162,7 @@ hand_in "$hub" 'new 2; book: elements 3,' --put "$room/changes" --guid fffffffff
 fresh
 cp "$whole" "$hub"
 fault 2 'a talk needs a store and a book' 'store ' --put "$room/changes" "$hub"
-fault 2 'only one of --put, --hostile, --check, --dump and --replay' 'store ' --put "$room/changes" --put "$room/changes" "$hub" "$book"
+fault 2 'only one of --put, --hostile, --dump and --replay' 'store ' --put "$room/changes" --put "$room/changes" "$hub" "$book"
 fault 2 '--stop-after: it has no use with what else is asked for' 'store ' --put "$room/changes" --stop-after 1 "$hub" "$book"
 fault 2 '--guid: it has no use with what else is asked for' 'store ' --guid 00112233445566778899aabbccddeeff "$hub" "$book"
 for word in '' 00112233445566778899aabbccddee 00112233445566778899aabbccddeeff00 0x112233445566778899aabbccddeeff; do
