@@ -14,7 +14,8 @@ use pages::answer::Answered;
 use std::io;
 use std::io::Write;
 
-// Room for the longest output that is lent. It comes from a call as the large arrays of main.rt do.
+// Room for the longest output that is lent. It comes from a call, so that the function that lends it has no array of this size
+// written out.
 fn output_space() -> [u8; 1048576] {
     [say::UNTOUCHED; 1048576]
 }

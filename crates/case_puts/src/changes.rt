@@ -8,7 +8,8 @@ use puts::apply::{Applied, put};
 use std::io;
 use std::io::Write;
 
-// Room for the longest buffer that is lent. It comes from a call as the large arrays of the program do.
+// Room for the longest buffer that is lent. It comes from a call, so that the function that lends it has no array of this size
+// written out.
 fn output_space() -> [u8; 1048576] {
     [say::UNTOUCHED; 1048576]
 }

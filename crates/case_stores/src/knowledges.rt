@@ -111,8 +111,8 @@ pub fn rows<W: Write>(to: &mut W, s: &[u8]) -> io::Result<()> {
     }
 }
 
-// Room for the longest knowledge that is written, and more: 512 ranges of 36 bytes, with 28 around them. It comes from a call
-// as the large arrays of main.rt do.
+// Room for the longest knowledge that is written, and more: 512 ranges of 36 bytes, with 28 around them. It comes from a call,
+// so that the function that lends it has no array written out at this size.
 fn output_space() -> [u8; 20000] {
     [say::UNTOUCHED; 20000]
 }

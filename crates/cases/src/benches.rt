@@ -12,7 +12,8 @@ use std::io;
 use std::io::Write;
 use store::accessor::Found;
 
-// Room for the longest request that is lent. It comes from a call as the large arrays of main.rt do.
+// Room for the longest request that is lent. It comes from a call, so that the function that lends it has no array of this size
+// written out.
 pub(crate) fn output_space() -> [u8; 65536] {
     [say::UNTOUCHED; 65536]
 }
