@@ -1,7 +1,7 @@
 #!/bin/sh
 # What make test does, in this order: the toolchain is the one that the file toolchain names; the docs name what there is; rt ci
 # passes, which also looks at the layout of every source file, and finds no must-fail edit that cannot be tried; the tests in C pass,
-# which run side by side; no library rests on an axiom. Only if all of it holds is the last line 'N passed, 0 failed', where N counts
+# which run side by side; no library but those of the test programs rests on an axiom. Only if all of it holds is the last line 'N passed, 0 failed', where N counts
 # what rt ci and the other tests have passed, and the exit status 0. What each part took stands before it, and in target/log/gate,
 # which tools/gate-figures reads.
 set -u
@@ -108,7 +108,8 @@ took 'side by side' "$(seconds_since "$since")"
 # and a line of crates.txt with one of the toolchain's libraries of C calls. The others are looked at in two ways. The proof of the
 # archive tells of all that a daemon links with how many C functions its proofs and contracts reach (tests/archive.sh has just made it):
 # none. And no library that rt ci has proved in this run has read a module of the libraries of C calls; of one that is kept from an
-# earlier run the gate has looked at that then, as nothing that it reads has changed. Only the test programs may rest on axioms.
+# earlier run the gate has looked at that then, as nothing that it reads has changed. The crates case_* are parts of the test program,
+# which no daemon links with: they write to a stream, whose errors that library knows, and no other library sees them.
 made=target/log/archive
 grep -q '^logic=proved .* target=' "$made" || fail "$made, the log of the archive's proof, does not read as expected"
 [ "$(grep -c '^axioms ' "$made")" = "$(grep -c '^axioms [a-z_]*: none reached of the [0-9]* declared$' "$made")" ] &&
@@ -117,13 +118,13 @@ grep -q '^logic=proved .* target=' "$made" || fail "$made, the log of the archiv
     fail 'the archive rests on axioms'
 }
 for crate in $(sed -n 's/^rt: \([a-z_]*\) proved$/\1/p' "$log"); do
-    [ ! -f "crates/$crate/src/main.rt" ] || continue
+    [ ! -f "crates/$crate/src/main.rt" ] && [ "${crate#case_}" = "$crate" ] || continue
     sed -n "/^== $crate\$/,/^rt: $crate proved\$/p" "$log" >"$room/log"
     grep -q '^statements std: ' "$room/log" && grep -q '^logic=proved ' "$room/log" ||
         fail "what rt ci says of the library $crate does not read as expected"
     if grep -Eq '^(statements|library) (libc|os): modules loaded=[1-9]|^logic=proved .*(axioms|foreign)=' "$room/log"; then
         grep -E '^statements (libc|os)|^library (libc|os)|^logic=' "$room/log"
-        fail "the library $crate may rest on axioms: only a program may"
+        fail "the library $crate may rest on axioms: only a test program may"
     fi
 done
 
