@@ -1,9 +1,9 @@
 #!/bin/sh
 # What make test does, in this order: the toolchain is the one that the file toolchain names; the docs name what there is; rt ci
 # passes, which also looks at the layout of every source file, and finds no must-fail edit that cannot be tried; the tests in C pass,
-# which run side by side; no library but those of the test programs rests on an axiom. Only if all of it holds is the last line 'N passed, 0 failed', where N counts
-# what rt ci and the other tests have passed, and the exit status 0. What each part took stands before it, and in target/log/gate,
-# which tools/gate-figures reads.
+# which run side by side; no library but those of the test programs rests on an axiom. Only if all of it holds is the last line
+# 'N passed, 0 failed', where N counts what rt ci and the other tests have passed, and the exit status 0. What each part took stands
+# before it, and in target/log/gate, which tools/gate-figures reads.
 set -u
 cd "$(dirname "$0")/.." || exit 1
 began=$(date +%s)
