@@ -66,6 +66,7 @@ hold keep_entering
 hold keep_refusals
 hold stack
 hold example
+hold example_elements
 hold header tests/header_twin.c
 lines() { grep -c "^$1, ok: " "$room/lines"; } # GROUP
 

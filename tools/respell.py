@@ -181,7 +181,8 @@ def main():
             with open(p, "w", encoding="utf-8") as f:
                 f.write(new)
     for p in ["README.md", "CONTRIBUTING.md", "crates/cases/README.md"] + list(files("docs", (".md",))):
-        if not os.path.isfile(p) or os.path.basename(p).startswith("PORT"):
+        # The notes on requests are records, and keep their words.
+        if not os.path.isfile(p) or os.path.basename(p).startswith("PORT") or p.startswith("docs/requests"):
             continue
         text = read(p)
         new = re.sub(r"`[^`\n]*`", lambda q: respell(q[0], table), text)

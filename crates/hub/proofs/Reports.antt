@@ -80,7 +80,7 @@ pub begin_refused : (s q : List ℕ) (room : ℕ) (r : Refusal) → beginning_of
 unfolding outcome on_store
 begin_refused s q room r h = ap (on_store s (store_walk s).elements q room) (ap (λ (w : Walk). w.last) (begins_refused s r h))
 
--- such stores are there: `Ac 02 00 55`
+-- such stores are there: `AC 02 00 55`
 pub some_store : SomeStore [] [] 0
 unfolding beginning_of nothing_of package_start start_of_length length_is place_of start_here skip next_is end_here finish header_at header_of sized start_of end_of length_at le
 some_store = (0xAC ∷ 0x02 ∷ 0x00 ∷ 0x55 ∷ [], nothing_held (0xAC ∷ 0x02 ∷ 0x00 ∷ 0x55 ∷ []) refl)

@@ -180,7 +180,7 @@ queue_written : StoreReckoned [] [] 0 (reckoned.Refused (fault_at 2 0)) [] [] []
 unfolding store_walk package_start start_of_length length_is place_of start_here skip walk_from next_is end_here finish header_at header_of
 queue_written h = impossible (cc h.4)
 
--- of a store without elements, `Ac 02 00 55`, and no request: the first input for the second; a table of ranges that is written to
+-- of a store without elements, `AC 02 00 55`, and no request: the first input for the second; a table of ranges that is written to
 
 abbrev empty : List ℕ
 empty = 0xAC ∷ 0x02 ∷ 0x00 ∷ 0x55 ∷ []

@@ -64,6 +64,9 @@ both_read s q g storeRoom room a w h =
 
 -- ---- what the new store has, in its own words
 
+pub staying_parts : (s : List ℕ) (x : Element) → ((staying s x).id ≡ x.id) × ((staying s x).serial ≡ x.serial) × ((staying s x).bytes ≡ stored_bytes s x)
+staying_parts = kept_in_parts
+
 pub entering_parts : (q : List ℕ) (k : Key) (x : Element) → ((entering q k x).id ≡ x.id) × ((entering q k x).serial ≡ k) × ((entering q k x).bytes ≡ written_element (content_in q x k))
 unfolding entering
 entering_parts q k x = (refl, refl, refl)

@@ -74,7 +74,7 @@ module _ (a : Sides) where
     both : enter (from_row stay 0 n) (from_row comes 0 m) ≡ new
     both = let e : a.highest + 1 + 0 ≡ a.highest + 1 = omega arith in rw (stay_rows 0 n, come_rows 0 m, e)
 
-    plan_is : map (source_of stay comes) (sources (id_keys a.ids n) (id_keys a.handed_ids m)) ≡ new
+    pub plan_is : map (source_of stay comes) (sources (id_keys a.ids n) (id_keys a.handed_ids m)) ≡ new
     plan_is = planned.plan_is a.ids a.handed_ids stay comes stay_ids come_ids n m few ∙ both
 
     pub plan_bytes : planned_bytes a (sources (id_keys a.ids n) (id_keys a.handed_ids m)) ≡ joined new

@@ -137,6 +137,12 @@ new_serial_differs q g all handed x y m n e =
 
 -- ---- none stands twice in the new store
 
+pub staying_serial : (s : List ℕ) (x : Element) → (staying s x).serial ≡ x.serial
+staying_serial = kept_in_serial
+
+pub staying_serials : (s : List ℕ) (all : List Element) → map kept_serial (map (staying s) all) ≡ serials_of all
+staying_serials = kept_in_serials
+
 pub entering_ids : (q : List ℕ) (g : Guid) (number : ℕ) (handed : List Element) → map kept_id (entering_from q g number handed) ≡ ids_in handed
 unfolding entering_from entering
 entering_ids q g number [] = refl

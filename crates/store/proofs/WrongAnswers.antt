@@ -39,7 +39,7 @@ use Rattle.store.proofs.PackageWritten.{package_written}
 
 -- ---- find_element
 
--- `Ac 02 00 55` holds no element
+-- `AC 02 00 55` holds no element
 none_there : FindsElement (0xAC ∷ 0x02 ∷ 0x00 ∷ 0x55 ∷ []) 0 (found.At 3 1) → ⊥
 unfolding found_in store_walk package_start start_of_length length_is place_of start_here skip walk_from next_is end_here finish element_in header_at header_of sized start_of end_of length_at le
 none_there h = let z : ◌≡◌ {A = ℕ} 0 9 = ap (λ (t : Told). t.number) h in omega arith
@@ -269,7 +269,7 @@ nothing_of_none : beginning.Nothing ≡ beginning_of [] → ⊥
 unfolding beginning_of nothing_of package_start start_of_length length_is place_of start_here skip next_is end_here finish header_at header_of
 nothing_of_none h = impossible (cc)
 
--- `Ac 02 00 55` begins with no element
+-- `AC 02 00 55` begins with no element
 element_of_none : beginning.Elements ≡ beginning_of (0xAC ∷ 0x02 ∷ 0x00 ∷ 0x55 ∷ []) → ⊥
 unfolding beginning_of nothing_of package_start start_of_length length_is place_of start_here skip next_is end_here finish header_at header_of sized start_of end_of length_at le
 element_of_none h = impossible (cc)
