@@ -24,7 +24,6 @@ use Rattle.store.specs.declared.element.Key.{Key}
 use Rattle.store.specs.declared.element.Element.{Element}
 use Rattle.request.specs.Filter.{request_padding}
 use Rattle.puts.specs.Put.{put_walk}
-
 -- ---- which elements there are then, by the ids alone: it stands in enter, and is passed on here
 
 pub use Rattle.enter.specs.Plan.{is_among}
