@@ -2,7 +2,7 @@
 # tests/names.sh: what the docs name in backquotes exists: functions `m::f`, laws `X.y`, definitions, edits and files; and what a
 # row of docs/PROMISES.md names behind a crate ('objects: ..') stands in that crate. A name of the C side need only occur there,
 # as these words of the language do here: u32 u64 self requires ensures omega. Notes of landings, docs/requests/, may name anything, and so may
-# docs/PORT.md, which has old and new side by side.
+# docs/PORT.md and docs/DESIGN-PASS.md, which have old and new side by side.
 cd "$(dirname "$0")/.." || exit 1
 list() { find . \( -path ./target -o -path ./.git -o -path './crates/*/out' \) -prune -o -print | sed 's|^\./||' | grep -E "$1"; }
 # shellcheck disable=SC2046
@@ -28,4 +28,4 @@ list . | awk '
             if (("file", "crates/" bit[k]) in there) { row = bit[k]; break } } }
     END { if (!missing) print "1 passed, 0 failed"; exit missing }' phase=files - phase=crates $(list '^crates/.*/src/.*\.rt$') \
     $(list '^crates/.*/(specs/.*|proofs/[A-Za-z]*)\.antt$') phase=c $(list '\.([ch]|sh)$|^tools/.*[^n]$|^Makefile$') \
-    phase=docs README.md $(list '^CONTRIBUTING.md$|^docs/[^/]*\.md$' | grep -v '^docs/PORT.md$') include/hub.h peer/README.md
+    phase=docs README.md $(list '^CONTRIBUTING.md$|^docs/[^/]*\.md$' | grep -vE "^docs/(PORT|DESIGN-PASS).md$") include/hub.h peer/README.md

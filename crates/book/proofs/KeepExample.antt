@@ -21,9 +21,9 @@ use Rattle.numbers.proofs.OneAnswers.{values_of}
 use Rattle.objects.specs.Header as header
 use Rattle.objects.specs.Header.{start_bytes, long_start, end_bytes, start_number, start_of, end_of, header_of, header_at, length_at}
 use Rattle.objects.specs.Nesting.{run_at, object_at}
-use Rattle.objects.specs.Steps.{place_of, value_of, valued, need, number, number_is, fixed_in, skip, start_here, length_is, start_of_length, run_here, closed_at, inside, end_here, next_is, finish, id_here, on_id, serial_here, on_serial}
+use Rattle.objects.specs.Steps.{place_of, value_of, valued, need, number, number_is, fixed_in, skip, start_here, length_is, start_of_length, run_here, closed_at, inside, end_here, next_is, finish, id_here, serial_here, on_field}
 use Rattle.laws.specs.Bytes as written
-use Rattle.store.specs.Element.{same_key, named_key, numbered_key, fresh_key, key_here, on_key, id_field, serial_field, fields_of, data_of, element_on, element_at}
+use Rattle.store.specs.Element.{same_key, named_key, numbered_key, fresh_key, key_here, id_field, serial_field, fields_of, data_of, element_on, element_at}
 use Rattle.store.specs.Held.{stored_bytes}
 use Rattle.store.specs.Knowledge.{knowledge_turn, to_go, knowledge_from, knowledge_at}
 use Rattle.store.specs.Store.{package_start, walk_from, store_walk}
@@ -33,13 +33,13 @@ use Rattle.enter.specs.Entering.{replaced_by, new_to, enter}
 use Rattle.enter.specs.Package.{kept_in, joined, packed}
 use Rattle.client.specs.Read.{status_byte, response_fields, response_start, sub_response_fields, sub_response, changes_fields, changes, knowledge_in, ends_of, rest_of, answer_end}
 use Rattle.book.specs.Keep.{Outcome, refused, kept, kept_elements, sized, counted, on_answer, on_book, keep_outcome, tell_keeping, keep_told, book_after, KeepsAnswer}
-use Rattle.book.specs.declared.keep.Keeping.{Keeping}
-use Rattle.book.specs.declared.keep.Keeping.TheVariants as keeping
+use Rattle.book.specs.Results.Keeping.{Keeping}
+use Rattle.book.specs.Results.Keeping as keeping
 
 -- ---- what the prover looks through: a definition computes where it is named, and to name this one is to name all of its line
 
 keeps : Unit {0}
-unfolding le written.bytes turns iterate count_trailing_zeros size_of read_form compact_for read_compact compact_value read_extended_guid form_of_id short_form named_of guid_at read_serial numbered start_bytes long_start end_bytes start_number start_of end_of header.sized header_of header_at length_at run_at object_at place_of value_of valued need number number_is fixed_in skip start_here length_is start_of_length run_here closed_at inside end_here next_is finish id_here on_id serial_here on_serial seen same_key named_key numbered_key fresh_key key_here on_key id_field serial_field fields_of data_of element_on element_at stored_bytes knowledge_turn to_go knowledge_from knowledge_at package_start walk_from store_walk package_front versions id_in replaced_by new_to enter kept_in joined packed status_byte response_fields response_start sub_response_fields sub_response changes_fields changes knowledge_in ends_of rest_of answer_end kept_elements sized counted on_answer on_book keep_outcome
+unfolding le written.bytes turns iterate count_trailing_zeros size_of read_form compact_for read_compact compact_value read_extended_guid form_of_id short_form named_of guid_at read_serial numbered start_bytes long_start end_bytes start_number start_of end_of header.sized header_of header_at length_at run_at object_at place_of value_of valued need number number_is fixed_in skip start_here length_is start_of_length run_here closed_at inside end_here next_is finish id_here on_field serial_here seen same_key named_key numbered_key fresh_key key_here id_field serial_field fields_of data_of element_on element_at stored_bytes knowledge_turn to_go knowledge_from knowledge_at package_start walk_from store_walk package_front versions id_in replaced_by new_to enter kept_in joined packed status_byte response_fields response_start sub_response_fields sub_response changes_fields changes knowledge_in ends_of rest_of answer_end kept_elements sized counted on_answer on_book keep_outcome
 keeps = tt
 
 -- ---- the book, the answer, and what comes of them

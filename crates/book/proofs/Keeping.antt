@@ -1,10 +1,10 @@
 -- What was read of a book and of an answer, and what was planned for them, is what the definition of the new book speaks of.
 -- Assumes nothing.
 use mathlib.Core.Path.{◌≡◌, refl, sym, ap, ◌∙◌}
-use mathlib.Core.List.{List, [], ◌∷◌, ◌++◌, map}
+use mathlib.Core.List.{List, [], ◌∷◌, ◌++◌, map, append-nil}
 use Prim.Native.Nat.{ℕ, zero, suc, ◌+◌, ◌-◌, ◌≤◌, ◌<◌}
 use native.Mathlib.Omega.{arith}
-use lib.ListN.{length, take, length-append}
+use lib.ListN.{length, take}
 use lib.Seq.{take_at}
 use lib.Dec.{ltb}
 use Rattle.laws.proofs.Cases.{by_bool}
@@ -93,12 +93,10 @@ module _ (b rows ids w came_rows came_ids : List ℕ) (n m : ℕ) (h : ReadRows 
   plan_taken plan t count e f = rw f (take_at numbers t count (sym e))
 
   pub plan_made : (plan t : List ℕ) (count : ℕ) → count ≡ length (sources (id_keys ids n) (id_keys came_ids m)) → plan ≡ sources (id_keys ids n) (id_keys came_ids m) ++ t → count ≤ most_elements
-      → Planning b rows ids w came_rows came_ids plan count
+      → Planning b rows ids w came_rows came_ids (take count plan)
   plan_made plan t count e f l =
-      record {
-        few = l;
-        long = rw f (let a = length-append numbers t in omega arith);
-        fits = λ k d.
-            let i : k < length numbers = omega arith in
-            rw f (each_front (SourceFits b rows ids w came_rows came_ids) numbers t k i all_fit);
-      }
+      rw (plan_taken plan t count e f)
+      (record {
+        few = omega arith;
+        fits = λ k i. rw (← append-nil numbers) (each_front (SourceFits b rows ids w came_rows came_ids) numbers [] k i all_fit);
+      })

@@ -7,8 +7,8 @@ use Rattle.laws.proofs.Cases.{impossible}
 use Rattle.laws.proofs.OneAnswer.{Telling, one_answer}
 use Rattle.numbers.proofs.OneAnswers.{refuses_telling, values_of}
 use Rattle.book.specs.Keep.{tell_keeping, KeepsAnswer}
-use Rattle.book.specs.declared.keep.Keeping.{Keeping}
-use Rattle.book.specs.declared.keep.Keeping.TheVariants as keeping
+use Rattle.book.specs.Results.Keeping.{Keeping}
+use Rattle.book.specs.Results.Keeping as keeping
 
 keeping_telling : Telling tell_keeping
 keeping_telling (keeping.Book a) (keeping.Book c) q = let v = values_of _ _ q in cc

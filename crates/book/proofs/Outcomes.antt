@@ -11,17 +11,17 @@ use Rattle.laws.proofs.Cases.{impossible}
 use Rattle.laws.proofs.Placing.{laid_front}
 use Rattle.numbers.specs.Refusals.{fault_at, too_short, longest_input}
 use Rattle.numbers.specs.declared.refusal.Refusal.{Refusal}
-use Rattle.objects.specs.declared.reading.Reading.{Reading}
-use Rattle.objects.specs.declared.reading.Reading.TheVariants as reading
+use Rattle.objects.specs.Results.Reading.{Reading}
+use Rattle.objects.specs.Results.Reading as reading
 use Rattle.store.specs.Store.{store_walk, stored_of, store_answer, Stands}
 use Rattle.store.specs.Tables.{most_elements}
-use Rattle.store.specs.declared.package.Stored.TheVariants as stored
+use Rattle.store.specs.Results.Stored as stored
 use Rattle.request.specs.Message.{in_request}
 use Rattle.enter.specs.Entering.{Kept}
 use Rattle.enter.specs.Package.{packed}
 use Rattle.client.specs.Read.{answer_end}
 use Rattle.book.specs.Keep.{refused, kept, kept_elements, sized, counted, on_answer, on_book, keep_outcome, keep_told, book_after, GivesBook}
-use Rattle.book.specs.declared.keep.Keeping.TheVariants as keeping
+use Rattle.book.specs.Results.Keeping as keeping
 
 -- what is refused leaves the buffer
 pub refused_gives : (r : Refusal) (new : List ℕ) → GivesBook (refused r) (keeping.Refused r) new new

@@ -8,8 +8,8 @@ use lib.ListN.{length, drop, length-append}
 use borrow.Author.Tests.{lt-ltb, le-ltb}
 use Rattle.laws.proofs.Cases.{by_lt, impossible}
 use Rattle.objects.specs.Steps.{valued}
-use Rattle.objects.specs.declared.reading.Reading.{Reading}
-use Rattle.objects.specs.declared.reading.Reading.TheVariants as reading
+use Rattle.objects.specs.Results.Reading.{Reading}
+use Rattle.objects.specs.Results.Reading as reading
 use Rattle.talk.specs.Each.{Each}
 use Rattle.store.specs.Chain.{Follows}
 use Rattle.store.specs.Element.{ids_in}
@@ -26,7 +26,7 @@ use Rattle.store.proofs.Taken.{element_some, stands_before}
 use Rattle.client.specs.Accessor.{rows_received, ids_received}
 use Rattle.client.specs.Read.{longest_answer, response_start, package_in, package_end, rest_of, answer_end, answer_on, answer_in, answer_strictness}
 use Rattle.client.specs.declared.answer.Received.{Received}
-use Rattle.client.specs.declared.answer.ReadAnswer.TheVariants as answer
+use Rattle.client.specs.Results.ReadAnswer as answer
 use Rattle.client.proofs.AnswerRest.{answer_is, rest_fault, rows_received_lem, ids_received_lem}
 use Rattle.book.specs.Plan.{ReadRows}
 

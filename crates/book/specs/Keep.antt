@@ -8,16 +8,16 @@ use Rattle.std.specs.Prelude.{◌≡◌, ℕ, List, [], ◌∷◌, ◌++◌, map
 use Rattle.laws.specs.Pick.{pick}
 use Rattle.numbers.specs.Refusals.{Told, gives, refuses, fault_at, too_short, longest_input}
 use Rattle.numbers.specs.declared.refusal.Refusal.{Refusal}
-use Rattle.objects.specs.declared.reading.Reading.{Reading}
-use Rattle.objects.specs.declared.reading.Reading.TheVariants as reading
+use Rattle.objects.specs.Results.Reading.{Reading}
+use Rattle.objects.specs.Results.Reading as reading
 use Rattle.store.specs.Store.{store_walk}
 use Rattle.store.specs.Tables.{most_elements}
 use Rattle.request.specs.Message.{in_request}
 use Rattle.enter.specs.Entering.{Kept, enter}
 use Rattle.enter.specs.Package.{kept_in, packed}
 use Rattle.client.specs.Read.{package_in, answer_end}
-use Rattle.book.specs.declared.keep.Keeping.{Keeping}
-use Rattle.book.specs.declared.keep.Keeping.TheVariants as keeping
+use Rattle.book.specs.Results.Keeping.{Keeping}
+use Rattle.book.specs.Results.Keeping as keeping
 
 pub data Outcome : Type 0 where
   refused : Refusal → Outcome

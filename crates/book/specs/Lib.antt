@@ -1,3 +1,4 @@
+pub mod Results
 pub mod Keep
 pub mod Refusing
 pub mod Plan

@@ -6,6 +6,7 @@ use Rattle.laws.specs.Pick.{pick}
 use Rattle.store.specs.Tables.{most_elements, RowsStand, element_in_row, elements_in}
 use Rattle.store.specs.Held.{stored_bytes}
 use Rattle.store.specs.declared.element.Element.{Element}
+use Rattle.store.specs.declared.held.Held.{Held}
 
 -- ---- bytes that were read: the rows and the ids of n elements stand in the working tables
 
@@ -29,6 +30,12 @@ pub record Sides : Type 0 where
 abbrev pub sides : List ℕ → List ℕ → List ℕ → List ℕ → List ℕ → List ℕ → Sides
 sides b rows ids w came_rows came_ids =
     record { book = b; rows = rows; ids = ids; answer = w; came_rows = came_rows; came_ids = came_ids }
+
+abbrev pub sides_of : Held → Held → Sides
+sides_of b a = sides b.bytes.now b.elements.rows.now b.elements.ids.now a.bytes.now a.elements.rows.now a.elements.ids.now
+
+abbrev pub HoldsRows : Held → List Element → Type 0
+HoldsRows x elements = ReadRows x.bytes.now x.elements.rows.now x.elements.ids.now x.elements.count elements
 
 -- ---- what the numbers of the plan stand for
 
@@ -63,7 +70,13 @@ pub record SourceFits (b rows ids w came_rows came_ids : List ℕ) (source : ℕ
   pub there : source < most_elements → RowFits b rows ids source
   pub came : most_elements ≤ source → RowFits w came_rows came_ids (source - most_elements)
 
-pub record Planning (b rows ids w came_rows came_ids plan : List ℕ) (count : ℕ) : Type 0 where
-  pub few : count ≤ most_elements
-  pub long : count ≤ length plan
-  pub fits : (k : ℕ) → k < count → SourceFits b rows ids w came_rows came_ids (get_or plan k 0)
+pub record Planning (b rows ids w came_rows came_ids plan : List ℕ) : Type 0 where
+  pub few : length plan ≤ most_elements
+  pub fits : (k : ℕ) → k < length plan → SourceFits b rows ids w came_rows came_ids (get_or plan k 0)
+
+-- the same as the code has it
+abbrev pub HasSource : Held → Held → ℕ → Type 0
+HasSource b a source = SourceFits b.bytes.now b.elements.rows.now b.elements.ids.now a.bytes.now a.elements.rows.now a.elements.ids.now source
+
+abbrev pub HasPlan : Held → Held → List ℕ → Type 0
+HasPlan b a plan = Planning b.bytes.now b.elements.rows.now b.elements.ids.now a.bytes.now a.elements.rows.now a.elements.ids.now plan

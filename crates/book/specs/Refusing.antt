@@ -4,7 +4,7 @@
 use Rattle.std.specs.Prelude.{◌≡◌, List, ℕ, ◌≤◌, ◌<◌, length}
 use Rattle.numbers.specs.Refusals.{fault_at, too_short, longest_input}
 use Rattle.numbers.specs.declared.refusal.Refusal.{Refusal}
-use Rattle.objects.specs.declared.reading.Reading.TheVariants as reading
+use Rattle.objects.specs.Results.Reading as reading
 use Rattle.store.specs.Store.{store_walk, Stands}
 use Rattle.store.specs.Tables.{most_elements}
 use Rattle.request.specs.Message.{in_request}

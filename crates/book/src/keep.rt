@@ -1,104 +1,76 @@
 // An answer kept in a book. Everything is decided in tables of its own; only when no refusal is left is the new book written. Each function
 // judges one thing and goes on: the book, the answer, the count, the length and the buffer.
-ghost use Rattle.std.specs.Prelude.{◌≡◌, ◌≤◌, length, take};
+ghost use Rattle.std.specs.Prelude.{length};
 ghost use Rattle.store.specs.Store.{store_walk};
 ghost use Rattle.store.specs.Written.{framed};
 ghost use Rattle.client.specs.Read.{package_in, answer_end};
 ghost use Rattle.book.specs.Keep.{kept_elements, sized, counted, on_answer, GivesBook, KeepsAnswer};
-ghost use Rattle.book.specs.Plan.{ReadRows, sides, planned_bytes, Planning};
+ghost use Rattle.book.specs.Plan.{HoldsRows, HasPlan, sides_of, planned_bytes};
 
 use crate::kept::{lay_book, planned_length};
-use client::answer::{ReadAnswer, read_rows};
+use client::answer::read_rows;
 use enter::plan::{PLANNED, plan_elements};
-use numbers::refusal::{LONGEST_INPUT, Refusal, at_place, too_short};
+use numbers::refusal::{Fault, LONGEST_INPUT, Refusal, at_place, too_short};
 use request::message::in_request;
-use store::package::{Stored, read_store};
-use store::table::{ID_NUMBERS, MOST_ELEMENTS, ROW_NUMBERS};
+use store::held::Held;
+use store::package::read_store;
+use store::table::{Elements, ID_NUMBERS, MOST_ELEMENTS, ROW_NUMBERS};
 
 // The new book's length; or the refusal.
-#[derive(Drop)]
-pub enum Keeping {
-    Book(usize),
-    Refused(Refusal),
-}
+pub type Keeping = Result<usize, Refusal>;
 
 // The bytes of a package but for its elements: its start, zero byte and end.
 const PACKAGE_LENGTH: usize = 4;
 
 // 1 for the new book, 14 for its buffer; then it is written.
-fn size(
-    book: &[u8],
-    rows: &[u64],
-    ids: &[u64],
-    answer: &[u8],
-    camerows: &[u64],
-    cameids: &[u64],
-    plan: &[u16],
-    count: usize,
-    newbook: &mut [u8],
-) -> Keeping
-    requires { Planning book.now rows.now ids.now answer.now camerows.now cameids.now plan.now count }
-    ensures { GivesBook (sized (framed (planned_bytes (sides book.now rows.now ids.now answer.now camerows.now cameids.now) (take count plan.now))) (length newbook.old)) result newbook.old newbook.new }
+fn size(book: Held, answer: Held, plan: &[u16], newbook: &mut [u8]) -> Keeping
+    requires { HasPlan book answer plan.now }
+    ensures { GivesBook (sized (framed (planned_bytes (sides_of book.entry answer.entry) plan.now)) (length newbook.old)) result newbook.old newbook.new }
 {
-    let whole = PACKAGE_LENGTH
-        + planned_length(book, rows, ids, answer, camerows, cameids, plan, count);
+    let whole = PACKAGE_LENGTH + planned_length(book, answer, plan);
     if LONGEST_INPUT < whole {
-        return Keeping::Refused(at_place(1, 0));
+        return Err(at_place(Fault::InputTooLong, 0));
     }
     if newbook.len() < whole {
-        return Keeping::Refused(too_short(whole));
+        return Err(too_short(whole));
     }
-    lay_book(
-        newbook, book, rows, ids, answer, camerows, cameids, plan, count,
-    );
-    Keeping::Book(whole)
+    lay_book(newbook, book, answer, plan);
+    Ok(whole)
 }
 
 // 9 for the new book's elements.
-fn count(
-    book: &[u8],
-    rows: &[u64],
-    ids: &[u64],
-    n: usize,
-    answer: &[u8],
-    camerows: &[u64],
-    cameids: &[u64],
-    m: usize,
-    newbook: &mut [u8],
-) -> Keeping
-    requires { ReadRows book.now rows.now ids.now n (store_walk book.now).elements × ReadRows answer.now camerows.now cameids.now m (package_in answer.now).elements }
-    ensures { GivesBook (counted (kept_elements book.now answer.now) (length newbook.old)) result newbook.old newbook.new }
+fn count(book: Held, answer: Held, newbook: &mut [u8]) -> Keeping
+    requires { HoldsRows book (store_walk book.bytes.now).elements × HoldsRows answer (package_in answer.bytes.now).elements }
+    ensures { GivesBook (counted (kept_elements book.entry.bytes.now answer.entry.bytes.now) (length newbook.old)) result newbook.old newbook.new }
 {
     let mut plan = [0u16; PLANNED];
-    let planned = plan_elements(ids, n, cameids, m, &mut plan);
+    let there = book.elements;
+    let came = answer.elements;
+    let planned = plan_elements(there.ids, there.count, came.ids, came.count, &mut plan);
     if MOST_ELEMENTS < planned {
-        return Keeping::Refused(at_place(9, 0));
+        return Err(at_place(Fault::TooMany, 0));
     }
-    size(
-        book, rows, ids, answer, camerows, cameids, &plan, planned, newbook,
-    )
+    size(book, answer, &plan[..planned], newbook)
 }
 
 // The answer's faults, then what keeping it does.
-fn keep_answer(
-    book: &[u8],
-    rows: &[u64],
-    ids: &[u64],
-    n: usize,
-    answer: &[u8],
-    newbook: &mut [u8],
-) -> Keeping
-    requires { ReadRows book.now rows.now ids.now n (store_walk book.now).elements }
-    ensures { GivesBook (on_answer book.now answer.now (length newbook.old) (answer_end answer.now)) result newbook.old newbook.new }
+fn keep_answer(book: Held, answer: &[u8], newbook: &mut [u8]) -> Keeping
+    requires { HoldsRows book (store_walk book.bytes.now).elements }
+    ensures { GivesBook (on_answer book.entry.bytes.now answer.now (length newbook.old) (answer_end answer.now)) result newbook.old newbook.new }
 {
-    let mut camerows = [0u64; ROW_NUMBERS];
-    let mut cameids = [0u64; ID_NUMBERS];
-    match read_rows(answer, &mut camerows, &mut cameids) {
-        ReadAnswer::Refused(r) => Keeping::Refused(in_request(r)),
-        ReadAnswer::Is(x) => count(
-            book, rows, ids, n, answer, &camerows, &cameids, x.count, newbook,
-        ),
-    }
+    let mut rows = [0u64; ROW_NUMBERS];
+    let mut ids = [0u64; ID_NUMBERS];
+    let x = read_rows(answer, &mut rows, &mut ids).map_err(in_request)?;
+    let elements = Elements {
+        rows: &rows,
+        ids: &ids,
+        count: x.count,
+    };
+    let came = Held {
+        bytes: answer,
+        elements,
+    };
+    count(book, came, newbook)
 }
 
 // An answer kept in a book: the book's faults, then the answer's, then what keeping it does. Nothing is asked of the caller. Ruled out
@@ -109,8 +81,15 @@ pub fn keep(book: &[u8], answer: &[u8], newbook: &mut [u8]) -> Keeping
 {
     let mut rows = [0u64; ROW_NUMBERS];
     let mut ids = [0u64; ID_NUMBERS];
-    match read_store(book, &mut rows, &mut ids) {
-        Stored::Refused(r) => Keeping::Refused(r),
-        Stored::Holds(n) => keep_answer(book, &rows, &ids, n, answer, newbook),
-    }
+    let n = read_store(book, &mut rows, &mut ids)?;
+    let elements = Elements {
+        rows: &rows,
+        ids: &ids,
+        count: n,
+    };
+    let held = Held {
+        bytes: book,
+        elements,
+    };
+    keep_answer(held, answer, newbook)
 }

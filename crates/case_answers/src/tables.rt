@@ -1,11 +1,12 @@
 // The two tables that both calls are lent: how much of them a case lends, their rows, and that they hold what they held behind
 // these.
-ghost use Rattle.std.specs.Prelude.{◌≤◌, length};
+ghost use Rattle.std.specs.Prelude.{◌≤◌, IfSome};
 ghost use Rattle.order.specs.Order.{ranked_numbers};
 ghost use Rattle.pages.specs.Answer.{knowledge_numbers};
 
 use case_stores::stores;
 use case_words::{say, words};
+use numbers::refusal::Refusal;
 use order::rows::RANKED_WIDTH;
 use pages::deciding::MOST_CARRIED;
 use ranges::RANGE_WIDTH;
@@ -14,75 +15,87 @@ use std::io::Write;
 use store::table::MOST_ELEMENTS;
 
 // How many numbers a table has that parts are lent of: more than the calls need.
-const TABLE_NUMBERS: usize = 5120;
+pub const TABLE_NUMBERS: usize = 5120;
 
-// How many numbers of each table, if `good`; if not, the other fields are 0 or of no use.
+// Both tables, new for each case.
 #[derive(Drop)]
 pub struct Tables {
-    pub good: bool,
+    pub rows: [u64; TABLE_NUMBERS],
+    pub ranges: [u64; TABLE_NUMBERS],
+}
+
+// How many numbers of each table.
+#[derive(Clone, Copy)]
+pub struct Ends {
     pub rows: usize,
     pub ranges: usize,
 }
 
 // What a case lends: the last two words of the line.
-pub fn lent(line: &[u8]) -> Tables
-    ensures { (result.rows ≤ 5120) × (result.ranges ≤ 5120) }
+pub fn lent(line: &[u8]) -> Option<Ends>
+    ensures { IfSome result (λ e. (e.rows ≤ TABLE_NUMBERS) × (e.ranges ≤ TABLE_NUMBERS)) }
 {
-    let rows = words::at_most(words::word(line, 4), TABLE_NUMBERS);
-    let ranges = words::at_most(words::word(line, 5), TABLE_NUMBERS);
-    Tables {
-        good: rows.good && ranges.good,
-        rows: rows.count,
-        ranges: ranges.count,
-    }
+    let rows = words::at_most(words::word(line, 4), TABLE_NUMBERS)?;
+    let ranges = words::at_most(words::word(line, 5), TABLE_NUMBERS)?;
+    Some(Ends { rows, ranges })
 }
 
-// What so many rows take; more than there can be are not good.
-pub fn filled(n: usize, count: usize) -> Tables
-    ensures { (result.rows ≤ ranked_numbers) × (result.ranges ≤ knowledge_numbers) }
+// What so many rows take, if there can be so many.
+fn filled(n: usize, count: usize) -> Option<Ends>
+    ensures { IfSome result (λ e. (e.rows ≤ ranked_numbers) × (e.ranges ≤ knowledge_numbers)) }
 {
-    if MOST_ELEMENTS < n {
-        return Tables {
-            good: false,
-            rows: 0,
-            ranges: 0,
-        };
+    if MOST_ELEMENTS < n || MOST_CARRIED < count {
+        return None;
     }
-    if MOST_CARRIED < count {
-        return Tables {
-            good: false,
-            rows: 0,
-            ranges: 0,
-        };
-    }
-    Tables {
-        good: true,
+    Some(Ends {
         rows: n * RANKED_WIDTH,
         ranges: count * RANGE_WIDTH,
-    }
+    })
 }
 
-// Whether both tables, from a number of each on, hold what they held.
-pub fn kept(rows: &[u64], row: usize, ranges: &[u64], range: usize) -> bool
-    requires { (row ≤ length rows.now) × (range ≤ length ranges.now) }
-{
-    if !stores::untouched(&rows[row..]) {
-        return false;
+impl Tables {
+    pub fn new() -> Tables {
+        Tables {
+            rows: [stores::UNTOUCHED; TABLE_NUMBERS],
+            ranges: [stores::UNTOUCHED; TABLE_NUMBERS],
+        }
     }
-    stores::untouched(&ranges[range..])
-}
 
-// The rows of both tables, which end at a number of each. The GUIDs of ranges are little-endian numbers, which are told as they
-// stand.
-pub fn tell<W: Write>(
-    to: &mut W,
-    rows: &[u64],
-    row: usize,
-    ranges: &[u64],
-    range: usize,
-) -> io::Result<()>
-    requires { (row ≤ length rows.now) × (range ≤ length ranges.now) }
-{
-    say::table(to, rows, row, RANKED_WIDTH, 0)?;
-    say::table(to, ranges, range, RANGE_WIDTH, 0)
+    // Whether both tables, from a number of each on, hold what they held.
+    fn kept(&self, from: Ends) -> bool
+        requires { (from.rows ≤ TABLE_NUMBERS) × (from.ranges ≤ TABLE_NUMBERS) }
+    {
+        stores::untouched(&self.rows[from.rows..]) && stores::untouched(&self.ranges[from.ranges..])
+    }
+
+    // What `first` tells, and behind it the rows of both tables; or that something behind these was changed. More rows than there
+    // can be count as that. The GUIDs of ranges are little-endian numbers, which are told as they stand.
+    pub fn told<W: Write, F: FnOnce(&mut W) -> io::Result<()>>(
+        &self,
+        to: &mut W,
+        n: usize,
+        count: usize,
+        first: F,
+    ) -> io::Result<()>
+        requires { F.IsAlwaysCallable first }
+    {
+        let Some(end) = filled(n, count) else {
+            return say::touched(to);
+        };
+        if !self.kept(end) {
+            return say::touched(to);
+        }
+        say::ok(to)?;
+        first(to)?;
+        say::table(to, &self.rows[..end.rows], RANKED_WIDTH, 0)?;
+        say::table(to, &self.ranges[..end.ranges], RANGE_WIDTH, 0)
+    }
+
+    // A refusal; or that something in the tables was changed.
+    pub fn refused<W: Write>(&self, to: &mut W, r: Refusal) -> io::Result<()> {
+        if !self.kept(Ends { rows: 0, ranges: 0 }) {
+            return say::touched(to);
+        }
+        say::refusal(to, r)
+    }
 }

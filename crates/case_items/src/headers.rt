@@ -12,69 +12,51 @@ fn fields<W: Write>(
     length: u64,
     used: usize,
 ) -> io::Result<()> {
-    say::number(to, kind)?;
-    if compound {
-        say::number(to, 1)?;
-    } else {
-        say::number(to, 0)?;
-    }
-    say::number(to, length)?;
-    say::number(to, used as u64)
+    let compound = u64::from(compound);
+    write!(to, " {kind} {compound} {length} {used}")
 }
 
 // `header HEX`. The bytes used tell how many bits the header itself has.
 pub fn header<W: Write>(to: &mut W, s: &[u8]) -> io::Result<()> {
     match objects::header::read_header(s) {
-        Header::Start(kind, compound, length, used) => {
-            if used == 2 {
-                say::text(to, b"ok start16")?;
-            } else {
-                say::text(to, b"ok start32")?;
-            }
+        Ok(Header::Start(kind, compound, length, used)) => {
+            let form = if used == 2 { "start16" } else { "start32" };
+            write!(to, "ok {form}")?;
             fields(to, kind, compound, length, used)
         }
-        Header::End(kind, used) => {
-            if used == 1 {
-                say::text(to, b"ok end8")?;
-            } else {
-                say::text(to, b"ok end16")?;
-            }
+        Ok(Header::End(kind, used)) => {
+            let form = if used == 1 { "end8" } else { "end16" };
+            write!(to, "ok {form}")?;
             fields(to, kind, false, 0, used)
         }
-        Header::Refused(r) => say::refusal(to, r),
+        Err(r) => say::refusal(to, r),
     }
+}
+
+// What `wstart` is given but for OUTLEN: type, compound bit and true length.
+fn start(line: &[u8]) -> Option<(u64, bool, u64)> {
+    let kind = words::number(words::word(line, 1))?;
+    let compound = words::at_most(words::word(line, 2), 1)?;
+    let length = words::number(words::word(line, 3))?;
+    Some((kind, compound == 1, length))
 }
 
 // `wstart TYPE COMPOUND LENGTH OUTLEN`
-pub fn wstart<W: Write>(to: &mut W, line: &[u8], out: &mut [u8]) -> io::Result<()> {
-    let kind = words::number(words::word(line, 1));
-    let compound = words::number(words::word(line, 2));
-    let length = words::number(words::word(line, 3));
-    let room = words::lent(words::word(line, 4), out);
-    if !words::all(kind.good, compound.good, length.good, room.good) {
+pub fn wstart<W: Write>(to: &mut W, line: &[u8]) -> io::Result<()> {
+    let Some((kind, compound, length)) = start(line) else {
         return say::bad(to);
-    }
-    if 1 < compound.value {
-        return say::bad(to);
-    }
-    let n = room.count;
-    let wrote = objects::header_write::write_start(
-        &mut out[0..n],
-        kind.value,
-        compound.value == 1,
-        length.value,
-    );
-    say::written(to, wrote, out)
+    };
+    say::item(to, words::word(line, 4), |out| {
+        objects::header_write::write_start(out, kind, compound, length)
+    })
 }
 
 // `wend TYPE OUTLEN`
-pub fn wend<W: Write>(to: &mut W, line: &[u8], out: &mut [u8]) -> io::Result<()> {
-    let kind = words::number(words::word(line, 1));
-    let room = words::lent(words::word(line, 2), out);
-    if !words::all(kind.good, room.good, true, true) {
+pub fn wend<W: Write>(to: &mut W, line: &[u8]) -> io::Result<()> {
+    let Some(kind) = words::number(words::word(line, 1)) else {
         return say::bad(to);
-    }
-    let n = room.count;
-    let wrote = objects::header_write::write_end(&mut out[0..n], kind.value);
-    say::written(to, wrote, out)
+    };
+    say::item(to, words::word(line, 2), |out| {
+        objects::header_write::write_end(out, kind)
+    })
 }

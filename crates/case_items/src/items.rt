@@ -1,27 +1,18 @@
 // The modes for a single item: a number, an extended GUID or a serial number, read and written.
-ghost use Rattle.std.specs.Prelude.{◌≤◌, length};
-
 use case_words::{say, words};
-use numbers::compact::Compact;
-use numbers::extended_guid::{ExtendedGuid, ReadExtendedGuid};
+use numbers::extended_guid::ExtendedGuid;
 use numbers::guid::Guid;
-use numbers::serial::{ReadSerial, Serial};
 use std::io;
 use std::io::Write;
 
 // `compact HEX`
 pub fn compact<W: Write>(to: &mut W, s: &[u8]) -> io::Result<()> {
     match numbers::compact::read_compact(s) {
-        Compact::Value(value, used, padded) => {
-            say::ok(to)?;
-            say::number(to, value)?;
-            say::number(to, used as u64)?;
-            if padded {
-                return say::number(to, 1);
-            }
-            say::number(to, 0)
+        Ok((value, used, padded)) => {
+            let padded = u64::from(padded);
+            write!(to, "ok {value} {used} {padded}")
         }
-        Compact::Refused(r) => say::refusal(to, r),
+        Err(r) => say::refusal(to, r),
     }
 }
 
@@ -29,8 +20,7 @@ pub fn compact<W: Write>(to: &mut W, s: &[u8]) -> io::Result<()> {
 fn named<W: Write>(to: &mut W, g: Guid, number: u64, used: usize) -> io::Result<()> {
     say::ok(to)?;
     say::guid(to, g)?;
-    say::number(to, number)?;
-    say::number(to, used as u64)
+    write!(to, " {number} {used}")
 }
 
 fn null<W: Write>(to: &mut W, used: usize) -> io::Result<()> {
@@ -40,94 +30,77 @@ fn null<W: Write>(to: &mut W, used: usize) -> io::Result<()> {
 // `exguid HEX`
 pub fn exguid<W: Write>(to: &mut W, s: &[u8]) -> io::Result<()> {
     match numbers::extended_guid::read_extended_guid(s) {
-        ReadExtendedGuid::Value(id, used) => match id {
-            ExtendedGuid::Null => null(to, used),
-            ExtendedGuid::Named(g, x) => named(to, g, x as u64, used),
+        Ok((id, used)) => match id {
+            None => null(to, used),
+            Some((g, x)) => named(to, g, u64::from(x), used),
         },
-        ReadExtendedGuid::Refused(r) => say::refusal(to, r),
+        Err(r) => say::refusal(to, r),
     }
 }
 
 // `serial HEX`
 pub fn serial<W: Write>(to: &mut W, s: &[u8]) -> io::Result<()> {
     match numbers::serial::read_serial(s) {
-        ReadSerial::Value(id, used) => match id {
-            Serial::Null => null(to, used),
-            Serial::Numbered(g, x) => named(to, g, x, used),
+        Ok((id, used)) => match id {
+            None => null(to, used),
+            Some((g, x)) => named(to, g, x, used),
         },
-        ReadSerial::Refused(r) => say::refusal(to, r),
+        Err(r) => say::refusal(to, r),
     }
 }
 
 // `wcompact VALUE OUTLEN`
-pub fn wcompact<W: Write>(to: &mut W, line: &[u8], out: &mut [u8]) -> io::Result<()> {
-    let given = words::number(words::word(line, 1));
-    let room = words::lent(words::word(line, 2), out);
-    if !words::all(given.good, room.good, true, true) {
+pub fn wcompact<W: Write>(to: &mut W, line: &[u8]) -> io::Result<()> {
+    let Some(value) = words::number(words::word(line, 1)) else {
         return say::bad(to);
-    }
-    let n = room.count;
-    let wrote = numbers::compact::write_compact(&mut out[0..n], given.value);
-    say::written(to, wrote, out)
+    };
+    say::item(to, words::word(line, 2), |out| {
+        numbers::compact::write_compact(out, value)
+    })
 }
 
-// What `wexguid` and `wserial` are given. Null is a zero GUID with the number 0.
-#[derive(Drop)]
-struct ToWrite {
-    good: bool,
-    null: bool,
-    guid: Guid,
-    number: u64,
-    room: usize,
+// What `wexguid` and `wserial` are given but for OUTLEN.
+fn given(line: &[u8]) -> Option<(Guid, u64)> {
+    let guid = words::guid(words::word(line, 1))?;
+    let number = words::number(words::word(line, 2))?;
+    Some((guid, number))
 }
 
-fn given(line: &[u8], out: &[u8]) -> ToWrite
-    ensures { result.room ≤ length out.now }
-{
-    let id = words::guid(words::word(line, 1));
-    let number = words::number(words::word(line, 2));
-    let room = words::lent(words::word(line, 3), out);
-    let guid = id.guid;
-    ToWrite {
-        good: id.good && number.good && room.good,
-        null: guid.low == 0 && guid.high == 0 && number.value == 0,
-        guid,
-        number: number.value,
-        room: room.count,
-    }
+// Whether a GUID and a number stand for null, as a zero GUID with the number 0 does.
+fn is_null(g: Guid, number: u64) -> bool {
+    g.low == 0 && g.high == 0 && number == 0
 }
 
-// `wexguid GUIDHEX NUMBER OUTLEN`; the number of an extended GUID has 32 bits.
-pub fn wexguid<W: Write>(to: &mut W, line: &[u8], out: &mut [u8]) -> io::Result<()> {
-    let g = given(line, out);
-    if !g.good {
+// The extended GUID that a GUID and a number stand for; its number has 32 bits.
+fn extended(g: Guid, number: u64) -> Option<ExtendedGuid> {
+    if is_null(g, number) {
+        return Some(None);
+    }
+    let number = u32::try_from(number).ok()?;
+    Some(Some((g, number)))
+}
+
+// `wexguid GUIDHEX NUMBER OUTLEN`
+pub fn wexguid<W: Write>(to: &mut W, line: &[u8]) -> io::Result<()> {
+    let Some(id) = given(line).and_then(|(g, number)| extended(g, number)) else {
         return say::bad(to);
-    }
-    if 0xFFFFFFFF < g.number {
-        return say::bad(to);
-    }
-    let n = g.room;
-    let guid = g.guid;
-    let mut id = ExtendedGuid::Named(guid, g.number as u32);
-    if g.null {
-        id = ExtendedGuid::Null;
-    }
-    let wrote = numbers::extended_guid::write_extended_guid(&mut out[0..n], id);
-    say::written(to, wrote, out)
+    };
+    say::item(to, words::word(line, 3), |out| {
+        numbers::extended_guid::write_extended_guid(out, id)
+    })
 }
 
 // `wserial GUIDHEX NUMBER OUTLEN`
-pub fn wserial<W: Write>(to: &mut W, line: &[u8], out: &mut [u8]) -> io::Result<()> {
-    let g = given(line, out);
-    if !g.good {
+pub fn wserial<W: Write>(to: &mut W, line: &[u8]) -> io::Result<()> {
+    let Some((g, number)) = given(line) else {
         return say::bad(to);
-    }
-    let n = g.room;
-    let guid = g.guid;
-    let mut id = Serial::Numbered(guid, g.number);
-    if g.null {
-        id = Serial::Null;
-    }
-    let wrote = numbers::serial::write_serial(&mut out[0..n], id);
-    say::written(to, wrote, out)
+    };
+    let id = if is_null(g, number) {
+        None
+    } else {
+        Some((g, number))
+    };
+    say::item(to, words::word(line, 3), |out| {
+        numbers::serial::write_serial(out, id)
+    })
 }

@@ -1,8 +1,8 @@
 // The modes for a knowledge: its ranges, its bytes written again, and whether it has a number.
-ghost use Rattle.std.specs.Prelude.{◌*◌, ◌≤◌, length};
+ghost use Rattle.std.specs.Prelude.{◌*◌, ◌≤◌, length, IsTrue};
 ghost use Rattle.talk.specs.Ranges.{Normal};
 ghost use Rattle.numbers.specs.Compact.{padding_refused};
-ghost use Rattle.objects.specs.declared.reading.Reading.TheVariants.{At};
+ghost use Rattle.objects.specs.Results.Reading.{At};
 ghost use Rattle.ranges.specs.RangeTable.{range_width, ranges_at};
 ghost use Rattle.store.specs.Knowledge.{most_said, knowledge_at, ReadsKnowledge};
 
@@ -11,7 +11,6 @@ use case_words::{say, words};
 use numbers::compact::PADDING_REFUSED;
 use numbers::guid::Guid;
 use numbers::refusal::Refusal;
-use objects::reading::Reading;
 use ranges::{RANGE_WIDTH, is_known};
 use std::io;
 use std::io::Write;
@@ -29,7 +28,7 @@ const LEVELS: usize = 12;
 pub fn every_row<W: Write>(to: &mut W, t: &[u64], n: usize) -> io::Result<()>
     requires { n * range_width ≤ length t.now }
 {
-    say::table(to, t, n * RANGE_WIDTH, RANGE_WIDTH, 2)
+    say::table(to, &t[..n * RANGE_WIDTH], RANGE_WIDTH, 2)
 }
 
 // A range takes at least so many bytes: its header two, its GUID sixteen, and one for each end. An entry that adds one takes more.
@@ -39,19 +38,20 @@ const LEAST_RANGE: usize = 20;
 fn ranges_in(s: &[u8]) -> usize
     ensures { result ≤ most_said }
 {
-    let n = s.len() / LEAST_RANGE;
-    if MOST_SAID < n {
-        return MOST_SAID;
-    }
-    n
+    (s.len() / LEAST_RANGE).min(MOST_SAID)
 }
 
 // Whether no number was changed behind the rows of as many ranges as the bytes of s have room for. Before that a row may be left
 // from before it was joined with another.
-pub fn kept(s: &[u8], t: &[u64; SAID_NUMBERS]) -> bool {
-    let end = ranges_in(s) * RANGE_WIDTH;
-    let all = &t[..];
-    untouched(&all[end..])
+fn kept(s: &[u8], t: &[u64; SAID_NUMBERS]) -> bool {
+    untouched(&t[ranges_in(s) * RANGE_WIDTH..])
+}
+
+// Whether so many ranges may come from s, and the rest of the table was kept. No knowledge may hold more than `MOST_SAID`.
+pub fn as_read(s: &[u8], n: usize, t: &[u64; SAID_NUMBERS]) -> bool
+    ensures { IsTrue result → n ≤ most_said }
+{
+    n <= MOST_SAID && kept(s, t)
 }
 
 // The place behind the knowledge, and its rows; or that numbers were changed behind what its ranges can reach. More ranges than a
@@ -63,10 +63,7 @@ fn held<W: Write>(
     n: usize,
     t: &[u64; SAID_NUMBERS],
 ) -> io::Result<()> {
-    if MOST_SAID < n {
-        return say::touched(to);
-    }
-    if !kept(s, t) {
+    if !as_read(s, n, t) {
         return say::touched(to);
     }
     say::ok(to)?;
@@ -87,13 +84,14 @@ pub fn refused<W: Write>(
     say::refusal(to, r)
 }
 
-// The knowledge at the front of s, read as in a request: padding is refused.
+// The knowledge at the front of s, read as in a request: padding is refused. Each mode calls it and matches by itself, not through a
+// closure: what `asked` needs of the rows is known only where `read` says it.
 fn read(s: &[u8], t: &mut [u64; SAID_NUMBERS]) -> ReadKnowledge
     ensures { ReadsKnowledge (knowledge_at padding_refused most_said 12 0x42 s.now t.old (At 0 0)) result t.new }
 {
     read_knowledge(
         s,
-        Reading::At(0, 0),
+        Ok((0, 0)),
         SUB_REQUEST,
         LEVELS,
         MOST_SAID,
@@ -106,18 +104,13 @@ fn read(s: &[u8], t: &mut [u64; SAID_NUMBERS]) -> ReadKnowledge
 pub fn rows<W: Write>(to: &mut W, s: &[u8]) -> io::Result<()> {
     let mut t = [UNTOUCHED; SAID_NUMBERS];
     match read(s, &mut t) {
-        ReadKnowledge::Holds(place, n) => held(to, s, place, n, &t),
-        ReadKnowledge::Refused(r) => refused(to, s, r, &t),
+        Ok((place, n)) => held(to, s, place, n, &t),
+        Err(r) => refused(to, s, r, &t),
     }
 }
 
-// Room for the longest knowledge that is written, and more: 512 ranges of 36 bytes, with 28 around them. It comes from a call,
-// so that the function that lends it has no array written out at this size.
-fn output_space() -> [u8; 20000] {
-    [say::UNTOUCHED; 20000]
-}
-
-// The knowledge of n rows, written to the first bytes of out; or that numbers were changed behind what its ranges can reach.
+// The knowledge of n rows, written to the first bytes of out, of which all are looked at; or that numbers were changed behind what its
+// ranges can reach.
 fn written<W: Write>(
     to: &mut W,
     s: &[u8],
@@ -128,13 +121,10 @@ fn written<W: Write>(
 ) -> io::Result<()>
     requires { room ≤ length out.old }
 {
-    if MOST_SAID < n {
+    if !as_read(s, n, t) {
         return say::touched(to);
     }
-    if !kept(s, t) {
-        return say::touched(to);
-    }
-    let wrote = write_knowledge(&mut out[0..room], t, n);
+    let wrote = write_knowledge(&mut out[..room], t, n);
     say::written(to, wrote, out)
 }
 
@@ -144,26 +134,22 @@ fn read_and_written<W: Write>(to: &mut W, s: &[u8], out: &mut [u8], room: usize)
 {
     let mut t = [UNTOUCHED; SAID_NUMBERS];
     match read(s, &mut t) {
-        ReadKnowledge::Holds(_, n) => written(to, s, &t, n, out, room),
-        ReadKnowledge::Refused(r) => refused(to, s, r, &t),
+        Ok((_, n)) => written(to, s, &t, n, out, room),
+        Err(r) => refused(to, s, r, &t),
     }
 }
 
-// `rewritten HEX OUTLEN`
+// `rewritten HEX OUTLEN`. There is room for the longest knowledge that is written, and more: 512 ranges of 36 bytes, with 28 around
+// them.
 pub fn rewritten<W: Write>(to: &mut W, line: &[u8], space: &mut [u8]) -> io::Result<()> {
-    let mut out = output_space();
-    let given = words::bytes(words::word(line, 1), space);
-    let room = words::lent(words::word(line, 2), &out);
-    if !words::all(given.good, room.good, true, true) {
+    let mut out = say::output_space::<20000>();
+    let Some((s, _)) = words::bytes(words::word(line, 1), space) else {
         return say::bad(to);
-    }
-    let n = given.count;
-    read_and_written(to, &space[0..n], &mut out, room.count)
-}
-
-fn known_is<W: Write>(to: &mut W, n: u64) -> io::Result<()> {
-    say::ok(to)?;
-    say::number(to, n)
+    };
+    let Some(room) = words::lent(words::word(line, 2), &out) else {
+        return say::bad(to);
+    };
+    read_and_written(to, s, &mut out, room)
 }
 
 // Whether the number is known under the GUID; or that numbers were changed behind what its ranges can reach.
@@ -177,36 +163,45 @@ fn asked<W: Write>(
 ) -> io::Result<()>
     requires { Normal (ranges_at t.now 0 n) }
 {
-    if MOST_SAID < n {
+    if !as_read(s, n, t) {
         return say::touched(to);
     }
-    if !kept(s, t) {
-        return say::touched(to);
-    }
-    if is_known(t, n, g, number) {
-        return known_is(to, 1);
-    }
-    known_is(to, 0)
+    say::ok(to)?;
+    say::number(to, u64::from(is_known(t, n, g, number)))
 }
 
 // The knowledge at the front of s, asked for one number.
 fn read_and_asked<W: Write>(to: &mut W, s: &[u8], g: Guid, number: u64) -> io::Result<()> {
     let mut t = [UNTOUCHED; SAID_NUMBERS];
     match read(s, &mut t) {
-        ReadKnowledge::Holds(_, n) => asked(to, s, &t, n, g, number),
-        ReadKnowledge::Refused(r) => refused(to, s, r, &t),
+        Ok((_, n)) => asked(to, s, &t, n, g, number),
+        Err(r) => refused(to, s, r, &t),
     }
+}
+
+// What a case asks of a knowledge.
+#[derive(Drop)]
+struct Question<'a> {
+    knowledge: &'a [u8],
+    guid: Guid,
+    number: u64,
+}
+
+fn spelled<'a>(line: &[u8], space: &'a mut [u8]) -> Option<Question<'a>> {
+    let (knowledge, _) = words::bytes(words::word(line, 1), space)?;
+    let guid = words::guid(words::word(line, 2))?;
+    let number = words::number(words::word(line, 3))?;
+    Some(Question {
+        knowledge,
+        guid,
+        number,
+    })
 }
 
 // `known HEX GUIDHEX NUMBER`
 pub fn known<W: Write>(to: &mut W, line: &[u8], space: &mut [u8]) -> io::Result<()> {
-    let given = words::bytes(words::word(line, 1), space);
-    let id = words::guid(words::word(line, 2));
-    let number = words::number(words::word(line, 3));
-    if !words::all(given.good, id.good, number.good, true) {
+    let Some(x) = spelled(line, space) else {
         return say::bad(to);
-    }
-    let n = given.count;
-    let guid = id.guid;
-    read_and_asked(to, &space[0..n], guid, number.value)
+    };
+    read_and_asked(to, x.knowledge, x.guid, x.number)
 }

@@ -8,8 +8,8 @@ use order::rows::{RANKED_NUMBERS, RANKED_WIDTH, put_rows};
 use std::io;
 use std::io::Write;
 use store::accessor::{Found, element_bytes, find_element};
-use store::package::{Stored, read_store};
-use store::table::{ID_NUMBERS, ID_WIDTH, MOST_ELEMENTS, ROW_NUMBERS, ROW_WIDTH};
+use store::package::read_store;
+use store::table::{Elements, ID_NUMBERS, ID_WIDTH, MOST_ELEMENTS, ROW_NUMBERS, ROW_WIDTH};
 
 // What every number of a table holds before a case lends it.
 pub const UNTOUCHED: u64 = 0xA5A5A5A5A5A5A5A5;
@@ -28,25 +28,14 @@ const LEAST_ELEMENT: usize = 46;
 fn elements_in(s: &[u8]) -> usize
     ensures { result ≤ most_elements }
 {
-    let n = s.len() / LEAST_ELEMENT;
-    if MOST_ELEMENTS < n {
-        return MOST_ELEMENTS;
-    }
-    n
+    (s.len() / LEAST_ELEMENT).min(MOST_ELEMENTS)
 }
 
 // Whether no number was changed behind the rows and the ids of n elements.
 fn kept(n: usize, rows: &[u64; ROW_NUMBERS], ids: &[u64; ID_NUMBERS]) -> bool
     requires { n ≤ most_elements }
 {
-    let rows_end = n * ROW_WIDTH;
-    let ids_end = n * ID_WIDTH;
-    let all_rows = &rows[..];
-    if !untouched(&all_rows[rows_end..]) {
-        return false;
-    }
-    let all_ids = &ids[..];
-    untouched(&all_ids[ids_end..])
+    untouched(&rows[n * ROW_WIDTH..]) && untouched(&ids[n * ID_WIDTH..])
 }
 
 // How many elements, and their rows as a lent table holds them; or that numbers behind the rows or the ids were changed, of the
@@ -57,21 +46,23 @@ fn held<W: Write>(
     rows: &[u64; ROW_NUMBERS],
     ids: &[u64; ID_NUMBERS],
 ) -> io::Result<()> {
-    if MOST_ELEMENTS < n {
-        return say::touched(to);
-    }
-    if !kept(n, rows, ids) {
+    if MOST_ELEMENTS < n || !kept(n, rows, ids) {
         return say::touched(to);
     }
     let mut lent = [UNTOUCHED; RANKED_NUMBERS];
-    put_rows(&mut lent, rows, ids, n);
-    let end = n * RANKED_WIDTH;
-    if !untouched(&lent[end..]) {
+    let all = Elements {
+        rows,
+        ids,
+        count: n,
+    };
+    put_rows(&mut lent, all);
+    let (told, behind) = lent.split_at(n * RANKED_WIDTH);
+    if !untouched(behind) {
         return say::touched(to);
     }
     say::ok(to)?;
     say::number(to, n as u64)?;
-    say::table(to, &lent, end, RANKED_WIDTH, 0)
+    say::table(to, told, RANKED_WIDTH, 0)
 }
 
 // A refusal; or that numbers were changed behind the rows and the ids of as many elements as the store's bytes have room for. Before
@@ -94,36 +85,32 @@ pub fn rows<W: Write>(to: &mut W, s: &[u8]) -> io::Result<()> {
     let mut rows = [UNTOUCHED; ROW_NUMBERS];
     let mut ids = [UNTOUCHED; ID_NUMBERS];
     match read_store(s, &mut rows, &mut ids) {
-        Stored::Holds(n) => held(to, n, &rows, &ids),
-        Stored::Refused(r) => refused(to, s, r, &rows, &ids),
+        Ok(n) => held(to, n, &rows, &ids),
+        Err(r) => refused(to, s, r, &rows, &ids),
     }
 }
 
 // Whether a part of s is the one of n bytes at this place.
-pub fn stands_at(s: &[u8], at: usize, n: usize, part: &[u8]) -> bool {
-    if s.len() < at {
+fn stands_at(s: &[u8], at: usize, n: usize, part: &[u8]) -> bool {
+    let Some(from_there) = s.get(at..) else {
         return false;
-    }
-    if s.len() - at < n {
-        return false;
-    }
-    let end = at + n;
-    &s[at..end] == part
+    };
+    from_there.get(..n).is_some_and(|found| found == part)
 }
 
-// The element at a position; or that its bytes are not those that stand where the call beside it says (on a refusal, none).
-fn at_position<W: Write>(to: &mut W, s: &[u8], position: usize) -> io::Result<()> {
-    let part = element_bytes(s, position);
-    match find_element(s, position) {
-        Found::At(at, n) => {
+// An element of s as one call found it, and its bytes as another lends them; or that these are not those that stand where the
+// first says (on a refusal, none).
+pub fn found<W: Write>(to: &mut W, s: &[u8], element: Found, part: &[u8]) -> io::Result<()> {
+    match element {
+        Ok((at, n)) => {
             if !stands_at(s, at, n, part) {
                 return say::apart(to);
             }
             say::ok(to)?;
             say::bytes(to, part)
         }
-        Found::Refused(r) => {
-            if part.len() != 0 {
+        Err(r) => {
+            if !part.is_empty() {
                 return say::apart(to);
             }
             say::refusal(to, r)
@@ -131,13 +118,17 @@ fn at_position<W: Write>(to: &mut W, s: &[u8], position: usize) -> io::Result<()
     }
 }
 
+// The bytes and the position that a case with one element has.
+pub fn position<'a>(line: &[u8], space: &'a mut [u8]) -> Option<(&'a [u8], usize)> {
+    let (s, _) = words::bytes(words::word(line, 1), space)?;
+    let position = words::number(words::word(line, 2))?;
+    Some((s, position as usize))
+}
+
 // `element STOREHEX POSITION`
 pub fn element<W: Write>(to: &mut W, line: &[u8], space: &mut [u8]) -> io::Result<()> {
-    let given = words::bytes(words::word(line, 1), space);
-    let position = words::number(words::word(line, 2));
-    if !words::all(given.good, position.good, true, true) {
+    let Some((s, position)) = position(line, space) else {
         return say::bad(to);
-    }
-    let n = given.count;
-    at_position(to, &space[0..n], position.value as usize)
+    };
+    found(to, s, find_element(s, position), element_bytes(s, position))
 }

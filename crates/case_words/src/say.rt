@@ -1,8 +1,8 @@
 // What a case's line of output is made of.
-ghost use Rattle.std.specs.Prelude.{true, ◌≡◌, ℕ, ◌*◌, ◌%◌, ◌≤◌, ◌<◌, length, get_or};
+ghost use Rattle.std.specs.Prelude.{true, ◌≡◌, ℕ, ◌^◌, ◌<◌, length, get_or};
 
-use crate::words::wide;
-use numbers::guid::{Guid, swap};
+use crate::words;
+use numbers::guid::Guid;
 use numbers::refusal::{Refusal, Wrote};
 use std::io;
 use std::io::Write;
@@ -10,110 +10,70 @@ use std::io::Write;
 // What every byte of the output space holds before a case writes there.
 pub const UNTOUCHED: u8 = 0xA5;
 
-pub fn text<W: Write>(to: &mut W, s: &[u8]) -> io::Result<()> {
-    to.write_all(s)
+// So many bytes to be lent. They come from a call, so that the function that lends them has no array of this size written out.
+pub fn output_space<const N: usize>() -> [u8; N] {
+    [UNTOUCHED; N]
+}
+
+pub fn text<W: Write>(to: &mut W, s: &str) -> io::Result<()> {
+    to.write_all(s.as_bytes())
 }
 
 // The line is no case of this program.
 pub fn bad<W: Write>(to: &mut W) -> io::Result<()> {
-    text(to, b"bad")
+    text(to, "bad")
 }
 
 // A call did as it should.
 pub fn ok<W: Write>(to: &mut W) -> io::Result<()> {
-    text(to, b"ok")
+    text(to, "ok")
 }
 
 // A call changed what is not its own.
 pub fn touched<W: Write>(to: &mut W) -> io::Result<()> {
-    text(to, b"touched")
+    text(to, "touched")
 }
 
 // Two calls that should agree do not.
 pub fn apart<W: Write>(to: &mut W) -> io::Result<()> {
-    text(to, b"apart")
-}
-
-// A number behind a mark.
-pub fn marked<W: Write>(to: &mut W, mark: &[u8], n: u64) -> io::Result<()> {
-    text(to, mark)?;
-    decimal(to, n)
+    text(to, "apart")
 }
 
 pub fn number<W: Write>(to: &mut W, n: u64) -> io::Result<()> {
-    marked(to, b" ", n)
+    write!(to, " {n}")
 }
 
 pub fn refusal<W: Write>(to: &mut W, r: Refusal) -> io::Result<()> {
-    text(to, b"no")?;
-    number(to, wide(r.number))?;
-    number(to, wide(r.input))?;
-    number(to, r.place as u64)?;
-    number(to, r.needed as u64)
+    let Refusal {
+        fault,
+        input,
+        place,
+        needed,
+    } = r;
+    let number = fault.number();
+    write!(to, "no {number} {input} {place} {needed}")
 }
 
-// A hex digit.
-fn glyph(d: u8) -> u8
-    requires { d ≤ 15 }
-{
-    if d < 10 { b'0' + d } else { b'a' + (d - 10) }
-}
-
-// The bytes of s in hex, written at once by way of spelled.
-fn piece<W: Write>(to: &mut W, s: &[u8], spelled: &mut [u8]) -> io::Result<()>
-    requires { length s.now * 2 ≤ length spelled.old }
-{
-    for (i, b) in s.iter().enumerate() {
-        spelled[i * 2] = glyph(*b / 16);
-        spelled[i * 2 + 1] = glyph(*b % 16);
-    }
-    let end = s.len() * 2;
-    text(to, &spelled[0..end])
-}
-
-// The bytes of s in hex, in large pieces, so that a long item takes few calls of the system.
+// The bytes of s in hex.
 fn hex<W: Write>(to: &mut W, s: &[u8]) -> io::Result<()> {
-    let mut spelled = [0u8; 4096];
-    for part in s.chunks(2048) {
-        piece(to, part, &mut spelled)?;
+    for b in s {
+        write!(to, "{b:02x}")?;
     }
     Ok(())
 }
 
 pub fn bytes<W: Write>(to: &mut W, s: &[u8]) -> io::Result<()> {
-    text(to, b" ")?;
-    if s.len() == 0 {
-        return text(to, b"-");
+    if s.is_empty() {
+        return text(to, " -");
     }
+    text(to, " ")?;
     hex(to, s)
 }
 
-// The lowest byte of x.
-fn low(x: u64) -> u8
-    ensures { result ≡ x % 256 }
-{
-    (x % 256) as u8
-}
-
-// The eight bytes of x, the lowest first.
-fn half<W: Write>(to: &mut W, x: u64) -> io::Result<()> {
-    let s = [
-        low(x),
-        low(x / 256),
-        low(x / 65536),
-        low(x / 16777216),
-        low(x / 4294967296),
-        low(x / 1099511627776),
-        low(x / 281474976710656),
-        low(x / 72057594037927936),
-    ];
-    hex(to, &s)
-}
-
 pub fn guid<W: Write>(to: &mut W, g: Guid) -> io::Result<()> {
-    text(to, b" ")?;
-    half(to, g.low)?;
-    half(to, g.high)
+    text(to, " ")?;
+    hex(to, &g.low.to_le_bytes())?;
+    hex(to, &g.high.to_le_bytes())
 }
 
 // Whether no byte was changed.
@@ -123,47 +83,23 @@ pub fn untouched(s: &[u8]) -> bool
     s.iter().all(|b| *b == UNTOUCHED)
 }
 
-fn decimal<W: Write>(to: &mut W, n: u64) -> io::Result<()> {
-    write!(to, "{n}")
-}
-
-// What stands before number i of a table: a blank before the first, `;` before a row, `,` before any other.
-fn between<W: Write>(to: &mut W, i: usize, width: usize) -> io::Result<()>
+// A table whose rows have `width` numbers, with `;` before each row but the first. The numbers of the first `turned` columns are
+// told with their bytes turned round.
+pub fn table<W: Write>(to: &mut W, numbers: &[u64], width: usize, turned: usize) -> io::Result<()>
     requires { 0 < width }
 {
-    if i == 0 {
-        return text(to, b" ");
+    if numbers.is_empty() {
+        return text(to, " -");
     }
-    if i % width == 0 {
-        return text(to, b";");
-    }
-    text(to, b",")
-}
-
-// A number as it is told: turned round if its column is one of the first `turned`.
-fn shown(column: usize, turned: usize, x: u64) -> u64 {
-    if column < turned {
-        return swap(x);
-    }
-    x
-}
-
-// The first `end` numbers of a table whose rows have `width` numbers.
-pub fn table<W: Write>(
-    to: &mut W,
-    t: &[u64],
-    end: usize,
-    width: usize,
-    turned: usize,
-) -> io::Result<()>
-    requires { (end ≤ length t.now) × (0 < width) }
-{
-    if end == 0 {
-        return text(to, b" -");
-    }
-    for i in 0..end {
-        between(to, i, width)?;
-        decimal(to, shown(i % width, turned, t[i]))?;
+    for (i, x) in numbers.iter().enumerate() {
+        let column = i % width;
+        let mark = match (i, column) {
+            (0, _) => ' ',
+            (_, 0) => ';',
+            _ => ',',
+        };
+        let shown = if column < turned { x.swap_bytes() } else { *x };
+        write!(to, "{mark}{shown}")?;
     }
     Ok(())
 }
@@ -172,21 +108,50 @@ pub fn table<W: Write>(
 // item longer than out counts as that.
 pub fn written<W: Write>(to: &mut W, wrote: Wrote, out: &[u8]) -> io::Result<()> {
     match wrote {
-        Wrote::Done(n) => {
-            if out.len() < n {
+        Ok(n) => {
+            let Some((item, behind)) = out.split_at_checked(n) else {
                 return touched(to);
-            }
-            if !untouched(&out[n..]) {
+            };
+            if !untouched(behind) {
                 return touched(to);
             }
             ok(to)?;
-            bytes(to, &out[0..n])
+            bytes(to, item)
         }
-        Wrote::Refused(r) => {
+        Err(r) => {
             if !untouched(out) {
                 return touched(to);
             }
             refusal(to, r)
         }
     }
+}
+
+// A call that writes an item to as many of N bytes as a word lends, and what it answered. All N are looked at, what is not lent
+// of them too.
+pub fn lent<const N: usize, W: Write, F: FnOnce(&mut [u8]) -> Wrote>(
+    to: &mut W,
+    room: &[u8],
+    write: F,
+) -> io::Result<()>
+    requires in_memory { N < 2 ^ 63 }
+    requires callable { F.IsAlwaysCallable write }
+{
+    let mut out = output_space::<N>();
+    let Some(n) = words::lent(room, &out) else {
+        return bad(to);
+    };
+    let wrote = write(&mut out[..n]);
+    written(to, wrote, &out)
+}
+
+// The same with room for a single item or header.
+pub fn item<W: Write, F: FnOnce(&mut [u8]) -> Wrote>(
+    to: &mut W,
+    room: &[u8],
+    write: F,
+) -> io::Result<()>
+    requires { F.IsAlwaysCallable write }
+{
+    lent::<512, W, F>(to, room, write)
 }

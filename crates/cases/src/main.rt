@@ -34,95 +34,58 @@ fn data_space(alloc: Global) -> Result<Vec<u8>, AllocError>
     vec![in alloc; 0; 1048576]
 }
 
-// What a case lends to be written, new for each case and filled with a byte that shows where a call wrote.
-fn output_space() -> [u8; 512] {
-    [say::UNTOUCHED; 512]
-}
-
-// Here and below a mode is the number of its word (words::code), which is written above it, and one function, which writes the
-// result; `one_line` ends the line. These read a single item or a whole.
-fn item<W: Write>(to: &mut W, mode: u64, s: &[u8]) -> io::Result<()> {
+// Here and below a mode has one function, which writes the result; `one_line` ends the line. These read a single item or a whole.
+fn item<W: Write>(to: &mut W, mode: &[u8], s: &[u8]) -> io::Result<()> {
     match mode {
-        // compact
-        3738698868 => items::compact(to, s),
-        // exguid
-        193189156 => items::exguid(to, s),
-        // serial
-        643376172 => items::serial(to, s),
-        // header
-        273715378 => headers::header(to, s),
-        // store
-        20594245 => stores::rows(to, s),
-        // knowledge
-        12592554873061 => knowledges::rows(to, s),
-        // request
-        19513644660 => requests::message(to, s),
-        // read
-        594980 => benches::read(to, s),
-        // read_put
-        623882650292 => bench_puts::read(to, s),
+        b"compact" => items::compact(to, s),
+        b"exguid" => items::exguid(to, s),
+        b"serial" => items::serial(to, s),
+        b"header" => headers::header(to, s),
+        b"store" => stores::rows(to, s),
+        b"knowledge" => knowledges::rows(to, s),
+        b"request" => requests::message(to, s),
+        b"read" => benches::read(to, s),
+        b"read_put" => bench_puts::read(to, s),
         _ => say::bad(to),
     }
 }
 
 // `MODE HEX`
 fn two_words<W: Write>(to: &mut W, line: &[u8], space: &mut [u8]) -> io::Result<()> {
-    let given = words::bytes(words::word(line, 1), space);
-    if !given.good {
+    let Some((s, _)) = words::bytes(words::word(line, 1), space) else {
         return say::bad(to);
-    }
-    let n = given.count;
-    item(to, words::mode(line), &space[0..n])
+    };
+    item(to, words::word(line, 0), s)
 }
 
 // `MODE NUMBER OUTLEN`, `element STOREHEX POSITION`, `rewritten HEX OUTLEN`,
 // `chosen STOREHEX REQUESTHEX` or `received ANSWERHEX POSITION`.
-fn three_words<W: Write>(
-    to: &mut W,
-    line: &[u8],
-    space: &mut [u8],
-    out: &mut [u8],
-) -> io::Result<()> {
-    match words::mode(line) {
-        // wcompact
-        794012681332 => items::wcompact(to, line, out),
-        // wend
-        759236 => headers::wend(to, line, out),
-        // element
-        5777036756 => stores::element(to, line, space),
-        // rewritten
-        19988318146734 => knowledges::rewritten(to, line, space),
-        // chosen
-        109563054 => requests::chosen(to, line, space),
-        // received
-        623950223524 => benches::element(to, line, space),
+fn three_words<W: Write>(to: &mut W, line: &[u8], space: &mut [u8]) -> io::Result<()> {
+    match words::word(line, 0) {
+        b"wcompact" => items::wcompact(to, line),
+        b"wend" => headers::wend(to, line),
+        b"element" => stores::element(to, line, space),
+        b"rewritten" => knowledges::rewritten(to, line, space),
+        b"chosen" => requests::chosen(to, line, space),
+        b"received" => benches::element(to, line, space),
         _ => say::bad(to),
     }
 }
 
 // `MODE GUIDHEX NUMBER OUTLEN`, or `known HEX GUIDHEX NUMBER`.
-fn four_words<W: Write>(
-    to: &mut W,
-    line: &[u8],
-    space: &mut [u8],
-    out: &mut [u8],
-) -> io::Result<()> {
-    match words::mode(line) {
-        // wexguid
-        24889251108 => items::wexguid(to, line, out),
-        // wserial
-        25339438124 => items::wserial(to, line, out),
-        // known
-        12009198 => knowledges::known(to, line, space),
+fn four_words<W: Write>(to: &mut W, line: &[u8], space: &mut [u8]) -> io::Result<()> {
+    match words::word(line, 0) {
+        b"wexguid" => items::wexguid(to, line),
+        b"wserial" => items::wserial(to, line),
+        b"known" => knowledges::known(to, line, space),
         _ => say::bad(to),
     }
 }
 
 // `MODE TYPE COMPOUND LENGTH OUTLEN`
-fn five_words<W: Write>(to: &mut W, line: &[u8], out: &mut [u8]) -> io::Result<()> {
-    match words::mode(line) {
-        // wstart
-        792331860 => headers::wstart(to, line, out),
+fn five_words<W: Write>(to: &mut W, line: &[u8]) -> io::Result<()> {
+    match words::word(line, 0) {
+        b"wstart" => headers::wstart(to, line),
         _ => say::bad(to),
     }
 }
@@ -130,35 +93,30 @@ fn five_words<W: Write>(to: &mut W, line: &[u8], out: &mut [u8]) -> io::Result<(
 // `length STOREHEX REQUESTHEX OFFERED STORETABLELEN KNOWTABLELEN`, `write STOREHEX REQUESTHEX OUTLEN STORETABLELEN KNOWTABLELEN`,
 // `ask ID LIMIT FILTERHEX KNOWLEDGEHEX OUTLEN` or `put STOREHEX REQUESTHEX HUBGUIDHEX NEWSTORELEN OUTLEN`
 fn six_words<W: Write>(to: &mut W, line: &[u8], space: &mut [u8]) -> io::Result<()> {
-    match words::mode(line) {
-        // length
-        408362632 => lengths::offered(to, line, space),
-        // write
-        24716933 => answers::written(to, line, space),
-        // ask
-        1643 => benches::asked(to, line, space),
-        // put
-        17076 => changes::handed(to, line, space),
+    match words::word(line, 0) {
+        b"length" => lengths::offered(to, line, space),
+        b"write" => answers::written(to, line, space),
+        b"ask" => benches::asked(to, line, space),
+        b"put" => changes::handed(to, line, space),
         _ => say::bad(to),
     }
 }
 
 // `ask_put ID NAMED GUIDHEX NUMBER ELEMENTSHEX OUTLEN`
 fn seven_words<W: Write>(to: &mut W, line: &[u8], space: &mut [u8]) -> io::Result<()> {
-    match words::mode(line) {
-        // ask_put
-        1723712180 => bench_puts::asked(to, line, space),
+    match words::word(line, 0) {
+        b"ask_put" => bench_puts::asked(to, line, space),
         _ => say::bad(to),
     }
 }
 
 // The modes go by how many words a case has, so that a word too many or too few is told.
-fn one_case<W: Write>(to: &mut W, line: &[u8], space: &mut [u8], out: &mut [u8]) -> io::Result<()> {
+fn one_case<W: Write>(to: &mut W, line: &[u8], space: &mut [u8]) -> io::Result<()> {
     match words::count(line) {
         2 => two_words(to, line, space),
-        3 => three_words(to, line, space, out),
-        4 => four_words(to, line, space, out),
-        5 => five_words(to, line, out),
+        3 => three_words(to, line, space),
+        4 => four_words(to, line, space),
+        5 => five_words(to, line),
         6 => six_words(to, line, space),
         7 => seven_words(to, line, space),
         _ => say::bad(to),
@@ -166,21 +124,15 @@ fn one_case<W: Write>(to: &mut W, line: &[u8], space: &mut [u8], out: &mut [u8])
 }
 
 fn one_line<W: Write>(to: &mut W, line: &[u8], space: &mut [u8]) -> io::Result<()> {
-    let mut out = output_space();
-    one_case(to, line, space, &mut out)?;
-    say::text(to, b"\n")
+    one_case(to, line, space)?;
+    say::text(to, "\n")
 }
 
 // The last line may lack its end.
 fn every_line<W: Write>(to: &mut W, input: &[u8], space: &mut [u8]) -> io::Result<()> {
-    let mut at = 0;
-    while at < input.len() {
-        let end = words::find(input, at, b'\n');
-        one_line(to, &input[at..end], space)?;
-        if end == input.len() {
-            return Ok(());
-        }
-        at = end + 1;
+    for ended in input.split_inclusive(|b| *b == b'\n') {
+        let line = ended.strip_suffix(b"\n").unwrap_or(ended);
+        one_line(to, line, space)?;
     }
     Ok(())
 }
@@ -194,7 +146,7 @@ fn run<R: Read + Drop, W: Write>(
 ) -> io::Result<()> {
     from.take(INPUT_ROOM as u64).read_to_end(input)?;
     if input.len() == INPUT_ROOM {
-        return say::text(to, b"the input is too long\n");
+        return say::text(to, "the input is too long\n");
     }
     every_line(to, input.as_slice(), space)
 }

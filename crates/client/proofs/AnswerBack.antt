@@ -14,11 +14,11 @@ use Rattle.laws.specs.Once.{seen}
 use Rattle.laws.proofs.Parts.{part_length}
 use Rattle.numbers.specs.Compact.{compact_bytes}
 use Rattle.numbers.specs.ExtendedGuid.{extended_guid_bytes, ExtendedGuidFits}
-use Rattle.numbers.specs.declared.extended_guid.ExtendedGuid.{ExtendedGuid}
+use Rattle.numbers.specs.Results.ExtendedGuid.{ExtendedGuid}
 use Rattle.objects.specs.Header.{start_bytes, end_bytes}
-use Rattle.objects.specs.Steps.{◌▹◌, nothing_open, place_of, value_of, valued, need, fixed_in, number, number_is, on_id, start_here, run_here, in_run, end_here}
-use Rattle.objects.specs.declared.reading.Reading.TheVariants.{At}
-use Rattle.objects.specs.declared.reading.ReadingId.TheVariants as id'
+use Rattle.objects.specs.Steps.{◌▹◌, nothing_open, place_of, value_of, valued, need, fixed_in, number, number_is, start_here, run_here, in_run, end_here, on_field}
+use Rattle.objects.specs.Results.Reading.{At}
+use Rattle.objects.specs.Results.ReadingId as id'
 use Rattle.objects.proofs.Written.{Reads, behind, reads_then, reads_fixed, reads_number, reads_number_is, reads_skip, reads_run, id_written, finish_written}
 use Rattle.objects.proofs.ObjectsWritten.{reads_start, reads_start_of_length, reads_end}
 use Rattle.talk.specs.Each.{Each}
@@ -33,7 +33,7 @@ use Rattle.store.specs.Store.{Walk, walked, package_start, store_strictness}
 use Rattle.store.specs.Written.{package_front}
 use Rattle.store.specs.Held.{stored_bytes, elements_bytes}
 use Rattle.store.specs.declared.element.Element.{Element}
-use Rattle.store.specs.declared.element.ReadElement.TheVariants.{Is}
+use Rattle.store.specs.Results.ReadElement.{Is}
 use Rattle.store.proofs.Chains.{package_walked}
 use Rattle.store.proofs.ElementWritten.{compact_most}
 use Rattle.store.proofs.ElementCarry.{Wider, wider_same, element_carry}
@@ -208,7 +208,7 @@ module _ (index : ExtendedGuid) (partial : Bool) (h : ExtendedGuidFits index) wh
   mark_stands = rw (one_byte partial) (behind index_data 0 (extended_guid_bytes index) (partial_byte partial ∷ []) refl)
 
   changes_whole : changes_fields index_data ≡ At (length index_data) (partial_byte partial)
-  unfolding changes_fields on_id
+  unfolding changes_fields on_field
   changes_whole =
       let m = a_bit partial in
       rw index_read

@@ -11,21 +11,20 @@ use Rattle.laws.proofs.Cases.{by_lt, impossible}
 use Rattle.numbers.specs.Refusals.{fault_at}
 use Rattle.numbers.specs.declared.refusal.Refusal.{Refusal}
 use Rattle.objects.specs.Steps.{place_of, valued, start_here, run_here, closed_at, end_here, finish, Behind}
-use Rattle.objects.specs.declared.reading.Reading.{Reading}
-use Rattle.objects.specs.declared.reading.Reading.TheVariants.{At, Refused}
+use Rattle.objects.specs.Results.Reading.{At, Reading, Refused}
 use Rattle.objects.proofs.Keep.{behind_place}
 use Rattle.store.specs.Knowledge.{most_said}
 use Rattle.store.specs.Accessor.{element_in}
 use Rattle.store.specs.Store.{packaged_of, laid_rows, laid_ids}
-use Rattle.store.specs.declared.accessor.Found.TheVariants as found
-use Rattle.store.specs.declared.package.Packaged.TheVariants as packaged
+use Rattle.store.specs.Results.Found as found
+use Rattle.store.specs.Results.Packaged as packaged
 use Rattle.store.proofs.KnowledgeCarry.{carries_knowledge}
 use Rattle.store.proofs.KnowledgeHeld.{onward_knowledge}
 use Rattle.client.specs.Read.{longest_answer, package_in, sub_response, changes, knowledge_in, behind_knowledge, ends_of, mark_at, knowledge_end, received_from, rest_of, answer_end, answer_on, answer_in, answer_padding}
 use Rattle.client.specs.Accessor.{received_at, rows_received, ids_received}
 use Rattle.client.specs.ReadPut.{put_known, put_rest_of}
 use Rattle.client.specs.declared.answer.Received.{Received}
-use Rattle.client.specs.declared.answer.ReadAnswer.TheVariants as answer
+use Rattle.client.specs.Results.ReadAnswer as answer
 
 -- ---- after a fault
 
@@ -46,7 +45,7 @@ ends_reached s (Refused r) e v h = impossible (cc)
 
 valued_reached : (c : Reading) (q u : ℕ) → valued 0 c ≡ At q u → (v : ℕ) × (c ≡ At q v)
 unfolding valued
-valued_reached (At p v) q u h = (v, cc)
+valued_reached (At p v) q u h = (v, grind arith)
 valued_reached (Refused r) q u h = impossible (cc)
 
 -- where the end is reached, the knowledge that begins at c ends behind its start
@@ -77,7 +76,7 @@ package_refused n (Refused q) r h = cc
 
 pub package_holds : (m : ℕ) (c : Reading) (n e : ℕ) → packaged_of m c ≡ packaged.Holds e n → (m ≡ n) × (valued 0 c ≡ At e 0)
 unfolding packaged_of valued
-package_holds m (At q v) n e h = (cc, cc)
+package_holds m (At q v) n e h = (grind arith, grind arith)
 package_holds m (Refused r) n e h = impossible (cc)
 
 -- ---- what reading an answer says of its end and of its elements

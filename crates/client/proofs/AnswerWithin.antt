@@ -10,9 +10,8 @@ use lib.ListN.{length}
 use lib.Dec.{eqb}
 use borrow.Author.Tests.{lt-ltb, le-ltb}
 use Rattle.numbers.specs.declared.refusal.Refusal.{Refusal}
-use Rattle.objects.specs.Steps.{nothing_open, place_of, value_of, fixed_in, on_id, start_here, run_here, Good}
-use Rattle.objects.specs.declared.reading.Reading.{Reading}
-use Rattle.objects.specs.declared.reading.Reading.TheVariants.{At, Refused}
+use Rattle.objects.specs.Steps.{nothing_open, place_of, value_of, fixed_in, start_here, run_here, Good, on_field}
+use Rattle.objects.specs.Results.Reading.{At, Reading, Refused}
 use Rattle.objects.proofs.Keep.{good_front, onward_fixed, onward_need, good_place, onward_valued, onward_number, onward_number_is, onward_id, onward_start, onward_closed, onward_end, onward_finish}
 use Rattle.objects.proofs.InputFaults.{InputFault, input_fault}
 use Rattle.request.proofs.Places.{good_versions}
@@ -42,7 +41,7 @@ good_sub_response_fields kind d =
 
 pub good_changes_fields : (d : List ℕ) → Good d (changes_fields d)
 unfolding changes_fields
-good_changes_fields d = (onward_fixed d 1 0 255 5 (on_id (index_field d)) (omega arith)).good ((onward_id d (At 0 0)).good (good_front d 0))
+good_changes_fields d = (onward_fixed d 1 0 255 5 (on_field (index_field d)) (omega arith)).good ((onward_id d (At 0 0)).good (good_front d 0))
 
 -- ---- the parts
 

@@ -13,7 +13,7 @@ use Rattle.request.specs.Filter.{request_padding}
 use Rattle.numbers.specs.Refusals.{longest_input}
 use Rattle.objects.specs.Header.{start_bytes, end_bytes}
 use Rattle.objects.specs.Steps.{valued}
-use Rattle.objects.specs.declared.reading.Reading.TheVariants.{At}
+use Rattle.objects.specs.Results.Reading.{At}
 use Rattle.objects.proofs.Written.{finish_written}
 use Rattle.talk.specs.Ranges.{Normal, AllFit}
 use Rattle.talk.specs.declared.range.Range.{Range}

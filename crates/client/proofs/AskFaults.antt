@@ -11,8 +11,7 @@ use Rattle.laws.proofs.Cases.{pick_all}
 use Rattle.numbers.specs.Refusals.{longest_input}
 use Rattle.numbers.specs.declared.refusal.Refusal.{Refusal}
 use Rattle.objects.specs.Steps.{Good, valued, finish}
-use Rattle.objects.specs.declared.reading.Reading.{Reading}
-use Rattle.objects.specs.declared.reading.Reading.TheVariants.{At, Refused}
+use Rattle.objects.specs.Results.Reading.{At, Reading, Refused}
 use Rattle.objects.proofs.Keep.{good_front, onward_valued, onward_start, onward_finish}
 use Rattle.objects.proofs.InputFaults.{InputFault, input_fault}
 use Rattle.store.specs.Knowledge.{most_said, Knowing}

@@ -4,20 +4,19 @@
 use mathlib.Core.Path.{◌≡◌, refl, sym, subst, ◌∙◌}
 use mathlib.Core.Bool.{Bool, true, false}
 use mathlib.Core.List.{List, []}
-use Prim.Native.Nat.{ℕ, zero, suc, ◌-◌, ◌≤◌, ◌<◌}
+use Prim.Native.Nat.{ℕ, zero, suc, ◌-◌, ◌≤◌}
 use native.Mathlib.Omega.{arith}
 use lib.ListN.{length}
 use borrow.Author.Tests.{lt-ltb, le-ltb, eq-eqb, ne_eqb}
 use Rattle.laws.specs.Placed.{laid}
 use Rattle.laws.proofs.Cases.{by_bool, by_lt, impossible}
 use Rattle.laws.proofs.Placing.{laid_front}
-use Rattle.numbers.specs.Refusals.{fault_at, longest_input, over_long, too_short}
+use Rattle.numbers.specs.Refusals.{longest_input, over_long}
 use Rattle.numbers.specs.declared.refusal.Refusal.{Refusal}
-use Rattle.numbers.specs.declared.refusal.Wrote.{Wrote}
-use Rattle.numbers.specs.declared.refusal.Wrote.TheVariants as wrote
+use Rattle.numbers.specs.Results.Wrote.{Wrote}
+use Rattle.numbers.specs.Results.Wrote as wrote
 use Rattle.objects.specs.Steps.{no, valued, start_here, next_is, finish, Good}
-use Rattle.objects.specs.declared.reading.Reading.{Reading}
-use Rattle.objects.specs.declared.reading.Reading.TheVariants.{At, Refused}
+use Rattle.objects.specs.Results.Reading.{At, Reading, Refused}
 use Rattle.objects.proofs.Keep.{good_front}
 use Rattle.objects.proofs.StepsCarry.{opened_from}
 use Rattle.store.specs.Knowledge.{most_said, knowledge_at}
@@ -26,7 +25,7 @@ use Rattle.request.specs.Filter.{filter_at, filters_from, request_padding}
 use Rattle.request.specs.Message.{in_request}
 use Rattle.request.proofs.Places.{good_filters}
 use Rattle.client.specs.AskWritten.{ask_bytes}
-use Rattle.client.specs.Ask.{no_more, filters_given, knowledge_of, knowledge_given, written_in, judged_second, judged_first, ask_wrote, ask_output, WroteAs, WritesRequest}
+use Rattle.client.specs.Ask.{no_more, filters_given, knowledge_of, knowledge_given, room_for, written_in, judged_second, judged_first, ask_wrote, ask_output, WroteAs, WritesRequest}
 
 -- ---- neither input is over-long
 
@@ -84,7 +83,7 @@ too_many s outer kind (Refused r) q v e = impossible (cc)
 
 pub valued_next : (s : List ℕ) (kind w : ℕ) (c : Reading) (q v : ℕ) → valued w c ≡ At q v → next_is s kind c ≡ false → next_is s kind (At q v) ≡ false
 unfolding valued next_is
-valued_next s kind w (At p u) q v e h = let z : p ≡ q = cc in rw (← z) h
+valued_next s kind w (At p u) q v e h = let z : p ≡ q = grind arith in rw (← z) h
 valued_next s kind w (Refused r) q v e h = impossible (cc)
 
 -- no filter stands where reading them ended
@@ -113,8 +112,8 @@ no_byte_left f p n (At q m) s e h =
     (λ l.
     let z : At q m ≡ At p n = rw (le-ltb _ _ l) at h in
     let g : Good f (At q m) = subst (Good f) e (good_filters 16 f (At 0 0) (good_front f 0)) in
-    let i : q ≡ p = cc in
-    let j : m ≡ n = cc in
+    let i : q ≡ p = grind arith in
+    let j : m ≡ n = grind arith in
     let w : q ≡ length f = omega arith in
     record { short = s; place = sym i ∙ w; read = e ∙ rw (w, j) })
 no_byte_left f p n (Refused r) s e h = impossible (cc)
@@ -127,13 +126,20 @@ filters_whole f p n h =
 
 -- ---- what writing answers, of inputs that were judged
 
-pub sent_long : (room : ℕ) (w out : List ℕ) → longest_input < length w → WroteAs (written_in room w) w (wrote.Refused (fault_at 1 0)) out out
+pub sent_not : (room needed : ℕ) (w out : List ℕ) (r : Refusal) → needed ≡ length w → room_for room needed ≡ wrote.Refused r
+    → WroteAs (written_in room w) w (wrote.Refused r) out out
 unfolding written_in ask_output
-sent_long room w out h = rw (lt-ltb _ _ h) (refl, refl)
+sent_not room needed w out r e h = let z : room_for room (length w) ≡ wrote.Refused r = rw e at h in rw z (refl, refl)
 
-pub sent_short : (room : ℕ) (w out : List ℕ) → length w ≤ longest_input → room < length w → WroteAs (written_in room w) w (wrote.Refused (too_short (length w))) out out
-unfolding written_in ask_output
-sent_short room w out h l = rw (le-ltb _ _ h, lt-ltb _ _ l) (refl, refl)
+-- there is room for so many
+pub has_room : (room needed n : ℕ) → room_for room needed ≡ wrote.Done n → (n ≡ needed) × (needed ≤ longest_input) × (needed ≤ room)
+has_room room needed n h =
+    by_lt longest_input needed (λ l. let z = rw (lt-ltb longest_input needed l) at h in impossible (cc))
+    (λ l.
+    by_lt room needed (λ k. let z = rw (le-ltb longest_input needed l, lt-ltb room needed k) at h in impossible (cc))
+    (λ k.
+    let z : wrote.Done needed ≡ wrote.Done n = rw (le-ltb longest_input needed l, le-ltb room needed k) at h in
+    (cc, l, k)))
 
 pub sent_done : (room : ℕ) (w out : List ℕ) → length w ≤ longest_input → length w ≤ room → WroteAs (written_in room w) w (wrote.Done (length w)) out (laid 0 w out)
 unfolding written_in ask_output

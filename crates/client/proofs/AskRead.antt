@@ -18,11 +18,10 @@ use Rattle.numbers.specs.ExtendedGuid.{extended_guid_bytes, read_extended_guid, 
 use Rattle.objects.specs.Header.{start_bytes, end_bytes, header_at}
 use Rattle.objects.specs.Nesting.{run_at}
 use Rattle.objects.specs.Steps.{nothing_open, place_of, value_of, valued, need, fixed_in, number, null_id, start_here, length_is, start_of_length, end_here, start_is, next_is}
-use Rattle.objects.specs.declared.header.Header.{Header}
-use Rattle.objects.specs.declared.header.Header.TheVariants as header
-use Rattle.objects.specs.declared.nesting.Passed.TheVariants as passed
-use Rattle.objects.specs.declared.reading.Reading.{Reading}
-use Rattle.objects.specs.declared.reading.Reading.TheVariants.{At, Refused}
+use Rattle.objects.specs.Results.Header.{ReadHeader}
+use Rattle.objects.specs.Results.Header as header
+use Rattle.objects.specs.Results.Passed as passed
+use Rattle.objects.specs.Results.Reading.{At, Reading, Refused}
 use Rattle.objects.proofs.Rules.{run_end}
 use Rattle.objects.proofs.HeadersBack.{end_written}
 use Rattle.objects.proofs.Written.{behind, Reads, reads_then, reads_valued, whole, reads_fixed, reads_number, reads_number_is, reads_skip, reads_run, finish_written}
@@ -129,7 +128,7 @@ constraint_read u limit h n =
 
 -- ---- what stands next
 
-other_header : (a b : ℕ) (h : Header) → (a ≡ b → ⊥) → start_is a h ≡ true → start_is b h ≡ false
+other_header : (a b : ℕ) (h : ReadHeader) → (a ≡ b → ⊥) → start_is a h ≡ true → start_is b h ≡ false
 other_header a b (header.Refused r) n e = refl
 other_header a b (header.End k u) n e = refl
 other_header a b (header.Start k c m u) n e = ne_eqb k b (λ i. n (sym (eqb-true k a e) ∙ i))
@@ -146,7 +145,7 @@ filters_started s p u q v l e =
     by_bool (next_is s 0x47 (At p u)) (λ b. b)
     (λ b.
     let z : At p 0 ≡ At q v = sym (filters_end 0 s (At p u) (omega arith) b) ∙ e in
-    let y : p ≡ q = cc in
+    let y : p ≡ q = grind arith in
     absurd (omega arith))
 
 -- where a knowledge was read, one stands next

@@ -14,9 +14,9 @@ use Rattle.laws.proofs.Cases.{by_bool, by_lt, pick_all}
 use Rattle.laws.proofs.Twice.{once_before}
 use Rattle.numbers.specs.ExtendedGuid.{ExtendedGuidFits}
 use Rattle.numbers.specs.Refusals.{longest_input}
-use Rattle.numbers.specs.declared.extended_guid.ExtendedGuid.{ExtendedGuid}
+use Rattle.numbers.specs.Results.ExtendedGuid.{ExtendedGuid}
 use Rattle.objects.specs.Steps.{place_of}
-use Rattle.objects.specs.declared.reading.Reading.TheVariants.{At}
+use Rattle.objects.specs.Results.Reading.{At}
 use Rattle.talk.specs.Each.{Each}
 use Rattle.talk.specs.Page.{Greatest}
 use Rattle.talk.specs.Ranges.{Normal, AllFit}
@@ -31,7 +31,7 @@ use Rattle.store.specs.Store.{store_walk, Stands, store_strictness}
 use Rattle.store.specs.Held.{ranges_with, storage_index}
 use Rattle.store.specs.declared.element.Key.{Key}
 use Rattle.store.specs.declared.element.Element.{Element}
-use Rattle.store.specs.declared.element.ReadElement.TheVariants.{Is}
+use Rattle.store.specs.Results.ReadElement.{Is}
 use Rattle.store.proofs.Chains.{store_read, store_tiles, over_long_lem, same_turn, ids_once}
 use Rattle.store.proofs.ElementFits.{KeysFit, elements_fit, keys_fit, store_front}
 use Rattle.store.proofs.ElementWritten.{compact_most}
@@ -45,7 +45,7 @@ use Rattle.order.proofs.Grouping.{members_rearranged, length_members, once_group
 use Rattle.order.proofs.Rearranged.{once_rearranged}
 use Rattle.order.proofs.Ordering.{rearranged, length_ordered}
 use Rattle.request.specs.Message.{filters_of, request_in}
-use Rattle.request.specs.declared.message.Request.TheVariants as request
+use Rattle.request.specs.Results.Request as request
 use Rattle.request.proofs.RequestFits.{id_fits, known_fit, known_normal}
 use Rattle.pages.specs.Answer.{Ask, answered, page_ranges, page_bytes, page_measure, known_in, ask_of, outcome}
 use Rattle.pages.specs.Choice.{wanted_in, lets_group, knows_key}

@@ -7,10 +7,9 @@ use mathlib.Core.List.{List, []}
 use Prim.Native.Nat.{ℕ}
 use lib.ListN.{length}
 use Rattle.objects.specs.Steps.{valued}
-use Rattle.objects.specs.declared.reading.Reading.{Reading}
-use Rattle.objects.specs.declared.reading.Reading.TheVariants.{At, Refused}
+use Rattle.objects.specs.Results.Reading.{At, Reading, Refused}
 use Rattle.store.specs.Knowledge.{knowledge_at, knowledge_answer, ReadsKnowledge}
-use Rattle.store.specs.declared.knowledge.ReadKnowledge.{ReadKnowledge}
+use Rattle.store.specs.Results.ReadKnowledge.{ReadKnowledge}
 use Rattle.store.proofs.TableFree.{table_free}
 use Rattle.request.specs.Message.{on_knowledge}
 

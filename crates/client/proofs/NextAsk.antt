@@ -9,11 +9,10 @@ use lib.Seq.{take_at}
 use borrow.Author.Tests.{lt-ltb, le-ltb}
 use Rattle.laws.proofs.Cases.{by_lt, impossible}
 use Rattle.numbers.specs.Refusals.{longest_input}
-use Rattle.numbers.specs.declared.refusal.Wrote.{Wrote}
-use Rattle.numbers.specs.declared.refusal.Wrote.TheVariants as wrote
+use Rattle.numbers.specs.Results.Wrote.{Wrote}
+use Rattle.numbers.specs.Results.Wrote as wrote
 use Rattle.numbers.proofs.OneAnswers.{wrote_telling}
-use Rattle.objects.specs.declared.reading.Reading.{Reading}
-use Rattle.objects.specs.declared.reading.Reading.TheVariants.{At, Refused}
+use Rattle.objects.specs.Results.Reading.{At, Reading, Refused}
 use Rattle.store.specs.KnowledgeWritten.{knowledge_bytes}
 use Rattle.store.specs.declared.element.Element.{Element}
 use Rattle.talk.specs.declared.range.Range.{Range}
@@ -23,8 +22,8 @@ use Rattle.client.specs.Ask.{filters_given, knowledge_given, written_in, judged_
 use Rattle.client.specs.Read.{answer_in}
 use Rattle.client.specs.Back.{ReadBack}
 use Rattle.client.specs.declared.answer.Received.{Received}
-use Rattle.client.specs.declared.answer.ReadAnswer.{ReadAnswer}
-use Rattle.client.specs.declared.answer.ReadAnswer.TheVariants as answer
+use Rattle.client.specs.Results.ReadAnswer.{ReadAnswer}
+use Rattle.client.specs.Results.ReadAnswer as answer
 use Rattle.client.proofs.AskRead.{ask_read}
 use Rattle.client.proofs.AskAgain.{knowledge_sent_back}
 use Rattle.client.proofs.CallBack.{CallReadsBack}

@@ -10,10 +10,10 @@ use Rattle.laws.proofs.Cases.{impossible}
 use Rattle.laws.proofs.OneAnswer.{Telling, one_answer, one_outcome}
 use Rattle.numbers.proofs.OneAnswers.{refuses_telling, values_of, same_guid, wrote_telling}
 use Rattle.numbers.specs.declared.guid.Guid.{Guid}
-use Rattle.numbers.specs.declared.extended_guid.ExtendedGuid.{ExtendedGuid}
-use Rattle.numbers.specs.declared.extended_guid.ExtendedGuid.TheVariants as id
-use Rattle.numbers.specs.declared.refusal.Wrote.{Wrote}
-use Rattle.store.specs.declared.accessor.Found.{Found}
+use Rattle.numbers.specs.Results.ExtendedGuid.{ExtendedGuid}
+use Rattle.numbers.specs.Results.ExtendedGuid as id
+use Rattle.numbers.specs.Results.Wrote.{Wrote}
+use Rattle.store.specs.Results.Found.{Found}
 use Rattle.store.proofs.OneAnswers.{found_telling}
 use Rattle.pages.proofs.OneAnswers.{mark_telling}
 use Rattle.client.specs.Ask.{WritesRequest}
@@ -22,11 +22,11 @@ use Rattle.client.specs.Accessor.{FindsReceived, received_bytes}
 use Rattle.client.specs.PutWritten.{WritesPut}
 use Rattle.client.specs.ReadPut.{received_put_numbers, tell_read_put_answer, ReadsPutAnswer}
 use Rattle.client.specs.declared.answer.Received.{Received}
-use Rattle.client.specs.declared.answer.ReadAnswer.{ReadAnswer}
-use Rattle.client.specs.declared.answer.ReadAnswer.TheVariants as answer
+use Rattle.client.specs.Results.ReadAnswer.{ReadAnswer}
+use Rattle.client.specs.Results.ReadAnswer as answer
 use Rattle.client.specs.declared.put_answer.ReceivedPut.{ReceivedPut}
-use Rattle.client.specs.declared.put_answer.ReadPutAnswer.{ReadPutAnswer}
-use Rattle.client.specs.declared.put_answer.ReadPutAnswer.TheVariants as put_answer
+use Rattle.client.specs.Results.ReadPutAnswer.{ReadPutAnswer}
+use Rattle.client.specs.Results.ReadPutAnswer as put_answer
 
 -- ---- an answer that is read is known by what it tells
 

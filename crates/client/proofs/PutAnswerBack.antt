@@ -10,7 +10,7 @@ use lib.Seq.{drop_at, take-append_seam}
 use borrow.Author.Tests.{le-ltb}
 use Rattle.objects.specs.Header.{end_bytes}
 use Rattle.objects.specs.Steps.{place_of, value_of, valued}
-use Rattle.objects.specs.declared.reading.Reading.TheVariants.{At}
+use Rattle.objects.specs.Results.Reading.{At}
 use Rattle.objects.proofs.Written.{behind}
 use Rattle.objects.proofs.ObjectsWritten.{reads_end}
 use Rattle.talk.specs.Ranges.{Normal, AllFit}

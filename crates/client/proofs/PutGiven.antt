@@ -10,21 +10,20 @@ use lib.ListN.{length}
 use borrow.Author.Tests.{lt-ltb, le-ltb}
 use Rattle.laws.proofs.Cases.{by_bool, by_lt, impossible}
 use Rattle.numbers.specs.Refusals.{longest_input, over_long}
-use Rattle.numbers.specs.declared.extended_guid.ExtendedGuid.{ExtendedGuid}
+use Rattle.numbers.specs.Results.ExtendedGuid.{ExtendedGuid}
 use Rattle.numbers.specs.declared.refusal.Refusal.{Refusal}
-use Rattle.numbers.specs.declared.refusal.Wrote.{Wrote}
-use Rattle.numbers.specs.declared.refusal.Wrote.TheVariants as wrote
+use Rattle.numbers.specs.Results.Wrote.{Wrote}
+use Rattle.numbers.specs.Results.Wrote as wrote
 use Rattle.objects.specs.Steps.{valued, start_here, next_is, Good}
-use Rattle.objects.specs.declared.reading.Reading.{Reading}
-use Rattle.objects.specs.declared.reading.Reading.TheVariants.{At, Refused}
+use Rattle.objects.specs.Results.Reading.{At, Reading, Refused}
 use Rattle.objects.proofs.Keep.{good_front, onward_valued}
 use Rattle.objects.proofs.InputFaults.{InputFault, input_fault}
 use Rattle.store.specs.Element.{element_at, ids_in}
 use Rattle.store.specs.Store.{on_element, elements_walk, packaged_of}
 use Rattle.store.specs.declared.element.Element.{Element}
-use Rattle.store.specs.declared.element.ReadElement.{ReadElement}
-use Rattle.store.specs.declared.element.ReadElement.TheVariants as element
-use Rattle.store.specs.declared.package.Packaged.TheVariants as packaged
+use Rattle.store.specs.Results.ReadElement.{ReadElement}
+use Rattle.store.specs.Results.ReadElement as element
+use Rattle.store.specs.Results.Packaged as packaged
 use Rattle.store.proofs.Alone.{elements_good}
 use Rattle.store.proofs.Walks.{elements_end, elements_over, elements_more}
 use Rattle.request.specs.Filter.{request_padding}
@@ -51,7 +50,7 @@ given_refused n s r l h = rw (le-ltb _ _ l) (on_refused n s (given_walk s).last 
 
 on_holds : (n m e : ℕ) (s : List ℕ) (c : Reading) → packaged.Holds e m ≡ packaged_of n c → no_more 0x15 0x01 s (At e 0) ≡ no_more 0x15 0x01 s (valued 0 c)
 unfolding packaged_of valued
-on_holds n m e s (At p v) h = let z : e ≡ p = cc in rw z
+on_holds n m e s (At p v) h = let z : e ≡ p = grind arith in rw z
 on_holds n m e s (Refused r) h = impossible (cc)
 
 pub given_holds : (n m e : ℕ) (s : List ℕ) → length s ≤ longest_input → packaged.Holds e m ≡ packaged_of n (given_walk s).last → no_more 0x15 0x01 s (At e 0) ≡ elements_given s

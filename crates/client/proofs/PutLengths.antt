@@ -9,7 +9,7 @@ use lib.ListN.{length, length-append}
 use Rattle.laws.specs.Bytes.{bytes}
 use Rattle.numbers.specs.Compact.{compact_bytes}
 use Rattle.numbers.specs.ExtendedGuid.{extended_guid_bytes}
-use Rattle.numbers.specs.declared.extended_guid.ExtendedGuid.{ExtendedGuid}
+use Rattle.numbers.specs.Results.ExtendedGuid.{ExtendedGuid}
 use Rattle.objects.specs.Header.{start_bytes, long_start, end_bytes}
 use Rattle.objects.proofs.HeaderForms.{length_own}
 use Rattle.store.specs.Written.{package_front}

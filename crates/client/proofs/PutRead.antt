@@ -13,13 +13,11 @@ use Rattle.laws.proofs.Agreement.{Same, same_less, same_on, same_whole}
 use Rattle.laws.proofs.Cases.{impossible}
 use Rattle.numbers.specs.ExtendedGuid.{extended_guid_bytes, ExtendedGuidFits}
 use Rattle.numbers.specs.Refusals.{longest_input}
-use Rattle.numbers.specs.declared.extended_guid.ExtendedGuid.{ExtendedGuid}
-use Rattle.numbers.specs.declared.extended_guid.ExtendedGuid.TheVariants.{Null}
+use Rattle.numbers.specs.Results.ExtendedGuid.{ExtendedGuid, Null}
 use Rattle.objects.specs.Header.{start_bytes, end_bytes}
-use Rattle.objects.specs.Steps.{value_of, valued, on_id, run_here, next_is}
-use Rattle.objects.specs.declared.reading.Reading.{Reading}
-use Rattle.objects.specs.declared.reading.Reading.TheVariants.{At, Refused}
-use Rattle.objects.specs.declared.reading.ReadingId.TheVariants as id'
+use Rattle.objects.specs.Steps.{value_of, valued, run_here, next_is, on_field}
+use Rattle.objects.specs.Results.Reading.{At, Reading, Refused}
+use Rattle.objects.specs.Results.ReadingId as id'
 use Rattle.objects.proofs.Written.{Reads, behind, reads_then, reads_skip, reads_run, id_written, finish_written}
 use Rattle.objects.proofs.ObjectsWritten.{reads_start, reads_start_of_length, reads_end, next_start, next_end}
 use Rattle.talk.specs.Each.{Each}
@@ -61,12 +59,12 @@ module _ (x : ExtendedGuid) (fits : ExtendedGuidFits x) where
   expected_stands = behind data_bytes 0 (extended_guid_bytes Null) rest refl
 
   expected_read : expected_field data_bytes ≡ id'.At (first + length (extended_guid_bytes x)) x
-  unfolding put_changes_data on_id
+  unfolding put_changes_data on_field
   expected_read =
       rw (id_written data_bytes 0 0 Null rest tt refl) (id_written data_bytes first 0 x (0 ∷ []) fits expected_stands)
 
   fields_whole : (put_fields data_bytes).last ≡ At (length data_bytes) 0
-  unfolding put_fields on_id put_changes_data
+  unfolding put_fields on_field put_changes_data
   fields_whole =
       rw expected_read
       ((reads_skip 0 (0 ∷ [])).here data_bytes (first + length (extended_guid_bytes x)) [] (behind data_bytes first (extended_guid_bytes x) (0 ∷ []) expected_stands)
@@ -129,7 +127,7 @@ end_read s at h =
 -- ---- the elements handed in
 
 same_place : (p q u v : ℕ) → At p u ≡ At q v → p ≡ q
-same_place p q u v e = cc
+same_place p q u v e = grind arith
 
 stands_at : (c : Reading) (p v : ℕ) → c ≡ At p v → Stands c
 stands_at (At q u) p v e = tt

@@ -18,17 +18,17 @@ use Rattle.numbers.specs.Compact as compact
 use Rattle.numbers.specs.ExtendedGuid.{extended_guid_bytes, read_extended_guid, form_of_id, short_form, named_of}
 use Rattle.numbers.specs.Guid.{guid_at}
 use Rattle.numbers.specs.Serial.{read_serial, numbered}
-use Rattle.numbers.specs.declared.extended_guid.ExtendedGuid.TheVariants as id
-use Rattle.numbers.specs.declared.refusal.Wrote.TheVariants.{Done, Refused}
+use Rattle.numbers.specs.Results.ExtendedGuid as id
+use Rattle.numbers.specs.Results.Wrote.{Done, Refused}
 use Rattle.objects.specs.Header.{start_bytes, long_start, end_bytes, start_of, end_of, sized, header_of, header_at, length_at}
 use Rattle.objects.specs.Nesting.{run_at, object_at}
-use Rattle.objects.specs.Steps.{place_of, value_of, valued, need, fixed_in, number, number_is, id_here, on_id, serial_here, on_serial, inside, skip, start_here, length_is, start_of_length, run_here, closed_at, end_here, next_is, finish}
+use Rattle.objects.specs.Steps.{place_of, value_of, valued, need, fixed_in, number, number_is, id_here, serial_here, inside, skip, start_here, length_is, start_of_length, run_here, closed_at, end_here, next_is, finish, on_field}
 use Rattle.store.specs.Accessor.{element_in}
-use Rattle.store.specs.Element.{element_at, element_on, data_of, fields_of, serial_field, id_field, on_key, key_here, fresh_key, numbered_key, named_key, same_key}
+use Rattle.store.specs.Element.{element_at, element_on, data_of, fields_of, serial_field, id_field, key_here, fresh_key, numbered_key, named_key, same_key}
 use Rattle.store.specs.Knowledge.{knowledge_turn, to_go, knowledge_from, knowledge_at}
 use Rattle.store.specs.Store.{package_start, walk_from, elements_walk}
 use Rattle.store.specs.Written.{package_front}
-use Rattle.store.specs.declared.accessor.Found.TheVariants as found
+use Rattle.store.specs.Results.Found as found
 use Rattle.request.specs.Filter.{filters_from}
 use Rattle.request.specs.Message.{versions, id_in}
 use Rattle.request.specs.Response.{version_bytes}
@@ -39,9 +39,9 @@ use Rattle.client.specs.Accessor.{received_at, FindsReceived, received_bytes}
 use Rattle.client.specs.PutWritten.{put_changes_data, put_changes_bytes, put_front_bytes, put_ends_bytes, put_bytes, elements_given, put_wrote, WritesPut}
 use Rattle.client.specs.ReadPut.{received_put_from, put_rest_of, put_answer_end, put_answer_on, put_answer_in, ReadsPutAnswer}
 use Rattle.client.specs.declared.answer.Received.{Received}
-use Rattle.client.specs.declared.answer.ReadAnswer.TheVariants as answer
+use Rattle.client.specs.Results.ReadAnswer as answer
 use Rattle.client.specs.declared.put_answer.ReceivedPut.{ReceivedPut}
-use Rattle.client.specs.declared.put_answer.ReadPutAnswer.TheVariants as put_answer
+use Rattle.client.specs.Results.ReadPutAnswer as put_answer
 
 -- ---- write_request
 
@@ -110,7 +110,7 @@ abbrev marked : Received
 marked = record { id = 1; partial = true; index = id.Null; elements = 20; count = 0; knowledge = 34; length = 3 }
 
 marked_partial : ReadsAnswer smallest (answer.Is marked) → ⊥
-unfolding versions fixed_in le response_start start_here run_here closed_at package_start start_of_length length_is place_of skip walk_from next_is end_here sub_response changes knowledge_in knowledge_at knowledge_from knowledge_turn to_go iterate turns valued ends_of finish rest_of answer_end header_at header_of sized start_of end_of length_at status_byte response_fields sub_response_fields changes_fields need value_of number number_is id_here on_id read_compact compact_for read_form compact.compact_value size_of read_extended_guid form_of_id count_trailing_zeros answer_on answer_in received_from id_in id_numbers received_numbers
+unfolding versions fixed_in le response_start start_here run_here closed_at package_start start_of_length length_is place_of skip walk_from next_is end_here sub_response changes knowledge_in knowledge_at knowledge_from knowledge_turn to_go iterate turns valued ends_of finish rest_of answer_end header_at header_of sized start_of end_of length_at status_byte response_fields sub_response_fields changes_fields need value_of number number_is id_here on_field read_compact compact_for read_form compact.compact_value size_of read_extended_guid form_of_id count_trailing_zeros answer_on answer_in received_from id_in id_numbers received_numbers
 marked_partial h = let z : ◌≡◌ {A = ℕ} 1 0 = ap (λ (t : Told). get_or t.values 3 0) h in omega arith
 
 -- and with a status byte that announces an error it is refused with 5, and not read
@@ -119,7 +119,7 @@ failed =
     0x0C ∷ 0x00 ∷ 0x0B ∷ 0x00 ∷ 0x9D ∷ 0xCF ∷ 0x29 ∷ 0xF3 ∷ 0x39 ∷ 0x94 ∷ 0x06 ∷ 0x9B ∷ 0x16 ∷ 0x03 ∷ 0x02 ∷ 0x00 ∷ 0x01 ∷ 0xAC ∷ 0x02 ∷ 0x00 ∷ 0x55 ∷ 0x0E ∷ 0x02 ∷ 0x06 ∷ 0x00 ∷ 0x03 ∷ 0x05 ∷ 0x00 ∷ 0xFA ∷ 0x02 ∷ 0x04 ∷ 0x00 ∷ 0x00 ∷ 0x00 ∷ 0x84 ∷ 0x00 ∷ 0x41 ∷ 0x07 ∷ 0x01 ∷ 0x8B ∷ 0x01 ∷ []
 
 error_taken : (x : Received) → ReadsAnswer failed (answer.Is x) → ⊥
-unfolding versions fixed_in le response_start start_here run_here closed_at package_start start_of_length length_is place_of skip walk_from next_is end_here sub_response changes knowledge_in knowledge_at knowledge_from knowledge_turn to_go iterate turns valued ends_of finish rest_of answer_end header_at header_of sized start_of end_of length_at status_byte response_fields sub_response_fields changes_fields need value_of number number_is id_here on_id read_compact compact_for read_form compact.compact_value size_of read_extended_guid form_of_id count_trailing_zeros answer_on answer_in received_from id_in id_numbers received_numbers
+unfolding versions fixed_in le response_start start_here run_here closed_at package_start start_of_length length_is place_of skip walk_from next_is end_here sub_response changes knowledge_in knowledge_at knowledge_from knowledge_turn to_go iterate turns valued ends_of finish rest_of answer_end header_at header_of sized start_of end_of length_at status_byte response_fields sub_response_fields changes_fields need value_of number number_is id_here on_field read_compact compact_for read_form compact.compact_value size_of read_extended_guid form_of_id count_trailing_zeros answer_on answer_in received_from id_in id_numbers received_numbers
 error_taken x h = let z : ◌≡◌ {A = ℕ} 0 5 = ap (λ (t : Told). t.number) h in omega arith
 
 -- and with an id of 0 that is padded it is read, and not refused with 3
@@ -128,7 +128,7 @@ padded_id =
     0x0C ∷ 0x00 ∷ 0x0B ∷ 0x00 ∷ 0x9D ∷ 0xCF ∷ 0x29 ∷ 0xF3 ∷ 0x39 ∷ 0x94 ∷ 0x06 ∷ 0x9B ∷ 0x16 ∷ 0x03 ∷ 0x02 ∷ 0x00 ∷ 0x00 ∷ 0xAC ∷ 0x02 ∷ 0x00 ∷ 0x55 ∷ 0x0E ∷ 0x02 ∷ 0x06 ∷ 0x00 ∷ 0x01 ∷ 0x05 ∷ 0x00 ∷ 0xFA ∷ 0x02 ∷ 0x04 ∷ 0x00 ∷ 0x00 ∷ 0x00 ∷ 0x84 ∷ 0x00 ∷ 0x41 ∷ 0x07 ∷ 0x01 ∷ 0x8B ∷ 0x01 ∷ []
 
 padding_refused_lem : ReadsAnswer padded_id (answer.Refused (fault_at 3 25)) → ⊥
-unfolding versions fixed_in le response_start start_here run_here closed_at package_start start_of_length length_is place_of skip walk_from next_is end_here sub_response changes knowledge_in knowledge_at knowledge_from knowledge_turn to_go iterate turns valued ends_of finish rest_of answer_end header_at header_of sized start_of end_of length_at status_byte response_fields sub_response_fields changes_fields need value_of number number_is id_here on_id read_compact compact_for read_form compact.compact_value size_of read_extended_guid form_of_id count_trailing_zeros answer_on answer_in received_from id_in id_numbers received_numbers
+unfolding versions fixed_in le response_start start_here run_here closed_at package_start start_of_length length_is place_of skip walk_from next_is end_here sub_response changes knowledge_in knowledge_at knowledge_from knowledge_turn to_go iterate turns valued ends_of finish rest_of answer_end header_at header_of sized start_of end_of length_at status_byte response_fields sub_response_fields changes_fields need value_of number number_is id_here on_field read_compact compact_for read_form compact.compact_value size_of read_extended_guid form_of_id count_trailing_zeros answer_on answer_in received_from id_in id_numbers received_numbers
 padding_refused_lem h = let z : ◌≡◌ {A = ℕ} 3 0 = ap (λ (t : Told). t.number) h in omega arith
 
 -- ---- an answer that holds one element, of 46 bytes from place 20 on
@@ -139,12 +139,12 @@ of_one =
 
 -- find_received: 9, though it is there
 refused_there : FindsReceived of_one 0 (found.Refused (fault_at 9 0)) → ⊥
-unfolding versions fixed_in le response_start start_here run_here closed_at package_start start_of_length length_is place_of skip walk_from next_is end_here sub_response changes knowledge_in knowledge_at knowledge_from knowledge_turn to_go iterate turns valued ends_of finish rest_of answer_end header_at header_of sized start_of end_of length_at status_byte response_fields sub_response_fields changes_fields need value_of number number_is id_here on_id read_compact compact_for read_form compact.compact_value size_of read_extended_guid form_of_id count_trailing_zeros element_at element_on data_of fields_of serial_field id_field on_key key_here fresh_key numbered_key named_key seen same_key serial_here on_serial read_serial numbered guid_at short_form named_of inside run_at object_at element_in received_at
+unfolding versions fixed_in le response_start start_here run_here closed_at package_start start_of_length length_is place_of skip walk_from next_is end_here sub_response changes knowledge_in knowledge_at knowledge_from knowledge_turn to_go iterate turns valued ends_of finish rest_of answer_end header_at header_of sized start_of end_of length_at status_byte response_fields sub_response_fields changes_fields need value_of number number_is id_here on_field read_compact compact_for read_form compact.compact_value size_of read_extended_guid form_of_id count_trailing_zeros element_at element_on data_of fields_of serial_field id_field key_here fresh_key numbered_key named_key seen same_key serial_here read_serial numbered guid_at short_form named_of inside run_at object_at element_in received_at
 refused_there h = let z : ◌≡◌ {A = ℕ} 9 0 = ap (λ (t : Told). t.number) h in omega arith
 
 -- received_bytes: nothing, though it is there
 none_given : [] ≡ received_bytes of_one 0 → ⊥
-unfolding versions fixed_in le response_start start_here run_here closed_at package_start start_of_length length_is place_of skip walk_from next_is end_here sub_response changes knowledge_in knowledge_at knowledge_from knowledge_turn to_go iterate turns valued ends_of finish rest_of answer_end header_at header_of sized start_of end_of length_at status_byte response_fields sub_response_fields changes_fields need value_of number number_is id_here on_id read_compact compact_for read_form compact.compact_value size_of read_extended_guid form_of_id count_trailing_zeros element_at element_on data_of fields_of serial_field id_field on_key key_here fresh_key numbered_key named_key seen same_key serial_here on_serial read_serial numbered guid_at short_form named_of inside run_at object_at element_in received_at received_bytes
+unfolding versions fixed_in le response_start start_here run_here closed_at package_start start_of_length length_is place_of skip walk_from next_is end_here sub_response changes knowledge_in knowledge_at knowledge_from knowledge_turn to_go iterate turns valued ends_of finish rest_of answer_end header_at header_of sized start_of end_of length_at status_byte response_fields sub_response_fields changes_fields need value_of number number_is id_here on_field read_compact compact_for read_form compact.compact_value size_of read_extended_guid form_of_id count_trailing_zeros element_at element_on data_of fields_of serial_field id_field key_here fresh_key numbered_key named_key seen same_key serial_here read_serial numbered guid_at short_form named_of inside run_at object_at element_in received_at received_bytes
 none_given h = impossible (cc)
 
 -- ---- write_put, with the id 1 and no storage index

@@ -6,7 +6,7 @@ use Rattle.std.specs.Prelude.{◌≡◌, ℕ, List, ltb, length}
 use Rattle.laws.specs.Pick.{pick}
 use Rattle.store.specs.Accessor.{found_on, tell_found, bytes_at}
 use Rattle.store.specs.Store.{laid_rows, laid_ids}
-use Rattle.store.specs.declared.accessor.Found.{Found}
+use Rattle.store.specs.Results.Found.{Found}
 use Rattle.client.specs.Read.{longest_answer, package_in, answer_end}
 
 unfoldable pub received_at : List ℕ → ℕ → Found

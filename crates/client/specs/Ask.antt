@@ -4,12 +4,11 @@
 use Rattle.std.specs.Prelude.{◌≡◌, ℕ, List, [], ◌++◌, length, drop, ltb, eqb}
 use Rattle.laws.specs.Pick.{pick}
 use Rattle.numbers.specs.Refusals.{fault_at, longest_input, over_long, too_short, tell_wrote}
-use Rattle.numbers.specs.declared.refusal.Wrote.{Wrote}
-use Rattle.numbers.specs.declared.refusal.Wrote.TheVariants as wrote
+use Rattle.numbers.specs.Results.Wrote.{Wrote}
+use Rattle.numbers.specs.Results.Wrote as wrote
 use Rattle.objects.specs.Types.{sub_request_type, filter_type, compound_bit, with_room}
 use Rattle.objects.specs.Steps.{◌▹◌, then, valued, start_here, finish}
-use Rattle.objects.specs.declared.reading.Reading.{Reading}
-use Rattle.objects.specs.declared.reading.Reading.TheVariants.{At, Refused}
+use Rattle.objects.specs.Results.Reading.{At, Reading, Refused}
 use Rattle.store.specs.Knowledge.{most_said, Knowing, knowing, knowledge_at}
 use Rattle.request.specs.Filter.{filters_from, request_padding}
 use Rattle.request.specs.Message.{in_request}
@@ -36,12 +35,15 @@ knowledge_given k = pick (ltb longest_input (length k)) (Refused over_long) ((kn
 
 -- ---- what writing answers
 
--- the bytes w in so much room: 1 where they would be an over-long request, then 14 with their length. "A refusal that falls on no
+-- so many bytes in so much room: 1 where they would be an over-long request, then 14 with their length. "A refusal that falls on no
 -- item .. names the store, place 0" (D-66)
+abbrev pub room_for : ℕ → ℕ → Wrote
+room_for room needed =
+    pick (ltb longest_input needed) (wrote.Refused (fault_at 1 0)) (pick (ltb room needed) (wrote.Refused (too_short needed)) (wrote.Done needed))
+
+-- the bytes w
 unfoldable pub written_in : ℕ → List ℕ → Wrote
-written_in room w =
-    pick (ltb longest_input (length w)) (wrote.Refused (fault_at 1 0))
-    (pick (ltb room (length w)) (wrote.Refused (too_short (length w))) (wrote.Done (length w)))
+written_in room w = room_for room (length w)
 
 -- a fault of the first input, then one of the second
 unfoldable pub judged_second : Reading → Wrote → Wrote

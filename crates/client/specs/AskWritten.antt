@@ -5,7 +5,7 @@ use Rattle.std.specs.Prelude.{ℕ, List, [], ◌∷◌, ◌++◌, length, eqb}
 use Rattle.laws.specs.Pick.{pick}
 use Rattle.numbers.specs.Compact.{compact_bytes}
 use Rattle.numbers.specs.ExtendedGuid.{extended_guid_bytes}
-use Rattle.numbers.specs.declared.extended_guid.ExtendedGuid.TheVariants.{Null}
+use Rattle.numbers.specs.Results.ExtendedGuid.{Null}
 use Rattle.objects.specs.Types.{request_type, user_agent_type, compound_bit, sub_request_type, query_changes_type, plain_bit, arguments_type, constraint_type}
 use Rattle.objects.specs.Header.{start_bytes, end_bytes}
 use Rattle.request.specs.Message.{request_signature, query_changes_request}

@@ -7,8 +7,8 @@
 use Rattle.std.specs.Prelude.{◌≡◌, Bool, List, [], ◌∷◌, map, ℕ, ◌+◌, ◌≤◌, ◌<◌, length, take, drop, get_or}
 use Rattle.store.specs.Store.{store_strictness}
 use Rattle.numbers.specs.Refusals.{fault_at}
-use Rattle.numbers.specs.declared.extended_guid.ExtendedGuid.{ExtendedGuid}
-use Rattle.objects.specs.declared.reading.Reading.TheVariants.{At}
+use Rattle.numbers.specs.Results.ExtendedGuid.{ExtendedGuid}
+use Rattle.objects.specs.Results.Reading.{At}
 use Rattle.talk.specs.Ranges.{Normal, AllFit}
 use Rattle.talk.specs.declared.range.Range.{Range}
 use Rattle.store.specs.Chain.{further}
@@ -16,15 +16,15 @@ use Rattle.store.specs.Element.{element_at}
 use Rattle.store.specs.Knowledge.{most_said}
 use Rattle.store.specs.KnowledgeWritten.{knowledge_bytes}
 use Rattle.store.specs.Held.{stored_bytes, elements_bytes}
-use Rattle.store.specs.declared.accessor.Found.TheVariants as found
+use Rattle.store.specs.Results.Found as found
 use Rattle.store.specs.declared.element.Key.{Key}
 use Rattle.store.specs.declared.element.Element.{Element}
-use Rattle.store.specs.declared.element.ReadElement.TheVariants.{Is}
+use Rattle.store.specs.Results.ReadElement.{Is}
 use Rattle.request.specs.Meaning.{filters_read}
 use Rattle.talk.specs.Each.{Each}
 use Rattle.request.specs.Message.{filters_of, request_knowing, request_in, put_changes_request}
 use Rattle.request.specs.Response.{sub_response_bytes}
-use Rattle.request.specs.declared.message.Request.TheVariants as request
+use Rattle.request.specs.Results.Request as request
 use Rattle.pages.specs.Tables.{answer_middle}
 use Rattle.client.specs.AskWritten.{ask_front, constraint_bytes}
 use Rattle.client.specs.Ask.{knowledge_of}
@@ -32,10 +32,10 @@ use Rattle.client.specs.Read.{package_in, knowledge_in, mark_at, package_end, an
 use Rattle.client.specs.Accessor.{received_at, received_bytes}
 use Rattle.client.specs.PutWritten.{put_front_bytes, given_walk}
 use Rattle.client.specs.ReadPut.{put_known, put_answer_in}
-use Rattle.client.specs.declared.answer.ReadAnswer.TheVariants as answer
-use Rattle.client.specs.declared.put_answer.ReadPutAnswer.TheVariants as put_answer
+use Rattle.client.specs.Results.ReadAnswer as answer
+use Rattle.client.specs.Results.ReadPutAnswer as put_answer
 use Rattle.puts.specs.Put.{put_walk, put_in}
-use Rattle.puts.specs.declared.put.Put.TheVariants as put
+use Rattle.puts.specs.Results.Put as put
 
 -- ---- elements that were read, set down one behind the other: a page's elements come from a store
 

@@ -1,3 +1,4 @@
+pub mod Results
 pub mod AskWritten
 pub mod Ask
 pub mod Read

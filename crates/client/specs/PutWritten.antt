@@ -6,14 +6,12 @@ use Rattle.std.specs.Prelude.{ℕ, List, [], ◌∷◌, ◌++◌, length, ltb}
 use Rattle.laws.specs.Pick.{pick}
 use Rattle.numbers.specs.ExtendedGuid.{extended_guid_bytes}
 use Rattle.numbers.specs.Refusals.{longest_input, over_long}
-use Rattle.numbers.specs.declared.extended_guid.ExtendedGuid.{ExtendedGuid}
-use Rattle.numbers.specs.declared.extended_guid.ExtendedGuid.TheVariants.{Null}
-use Rattle.numbers.specs.declared.refusal.Wrote.{Wrote}
+use Rattle.numbers.specs.Results.ExtendedGuid.{ExtendedGuid, Null}
+use Rattle.numbers.specs.Results.Wrote.{Wrote}
 use Rattle.objects.specs.Header.{start_bytes, end_bytes}
 use Rattle.objects.specs.Steps.{◌▹◌, valued}
 use Rattle.objects.specs.Types.{request_type, sub_request_type, package_type, element_type, plain_bit}
-use Rattle.objects.specs.declared.reading.Reading.{Reading}
-use Rattle.objects.specs.declared.reading.Reading.TheVariants.{At, Refused}
+use Rattle.objects.specs.Results.Reading.{At, Reading, Refused}
 use Rattle.store.specs.Store.{Walk, elements_walk}
 use Rattle.store.specs.Tables.{most_elements}
 use Rattle.store.specs.Written.{package_front}

@@ -5,21 +5,20 @@ use Rattle.std.specs.Prelude.{◌≡◌, ℕ, ◌-◌, ◌%◌, Bool, true, List
 use Rattle.laws.specs.Pick.{pick}
 use Rattle.numbers.specs.Refusals.{Told, gives, refuses, fault_at}
 use Rattle.numbers.specs.Compact.{padding_taken}
-use Rattle.numbers.specs.declared.extended_guid.ExtendedGuid.{ExtendedGuid}
-use Rattle.numbers.specs.declared.extended_guid.ExtendedGuid.TheVariants as id
+use Rattle.numbers.specs.Results.ExtendedGuid.{ExtendedGuid}
+use Rattle.numbers.specs.Results.ExtendedGuid as id
 use Rattle.objects.specs.Types.{response_type, compound_bit, with_room, sub_response_type, changes_type, plain_bit}
-use Rattle.objects.specs.Steps.{◌▹◌, nothing_open, place_of, value_of, valued, need, fixed_in, number, number_is, id_here, on_id, start_here, run_here, in_run, end_here, finish}
-use Rattle.objects.specs.declared.reading.Reading.{Reading}
-use Rattle.objects.specs.declared.reading.Reading.TheVariants.{At, Refused}
-use Rattle.objects.specs.declared.reading.ReadingId.{ReadingId}
+use Rattle.objects.specs.Steps.{◌▹◌, nothing_open, place_of, value_of, valued, need, fixed_in, number, number_is, id_here, start_here, run_here, in_run, end_here, finish, on_field}
+use Rattle.objects.specs.Results.Reading.{At, Reading, Refused}
+use Rattle.objects.specs.Results.ReadingId.{ReadingId}
 use Rattle.store.specs.Knowledge.{most_said, Knowing, knowledge_at}
 use Rattle.store.specs.Store.{Walk, package_start, package_walk}
 use Rattle.store.specs.declared.element.Strictness.{Strictness}
 use Rattle.request.specs.Message.{versions, id_in, query_changes_request}
 use Rattle.request.specs.Response.{answer_signature}
 use Rattle.client.specs.declared.answer.Received.{Received}
-use Rattle.client.specs.declared.answer.ReadAnswer.{ReadAnswer}
-use Rattle.client.specs.declared.answer.ReadAnswer.TheVariants as answer
+use Rattle.client.specs.Results.ReadAnswer.{ReadAnswer}
+use Rattle.client.specs.Results.ReadAnswer as answer
 
 -- 1: "(an answer read: 16,842,752)"
 abbrev pub longest_answer : ℕ
@@ -70,7 +69,7 @@ abbrev pub index_field : List ℕ → ReadingId
 index_field d = id_here d (At 0 0)
 
 unfoldable pub changes_fields : List ℕ → Reading
-changes_fields d = on_id (index_field d) ▹ fixed_in d 1 0 255 5
+changes_fields d = on_field (index_field d) ▹ fixed_in d 1 0 255 5
 
 abbrev pub changes_start : List ℕ → Reading → Reading
 changes_start s c = start_here answer_padding s sub_response_type changes_type plain_bit with_room c

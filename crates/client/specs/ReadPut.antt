@@ -6,13 +6,12 @@ use Rattle.std.specs.Prelude.{◌≡◌, ℕ, ◌-◌, List, [], ◌∷◌, leng
 use Rattle.laws.specs.Pick.{pick}
 use Rattle.numbers.specs.Refusals.{Told, gives, refuses, fault_at}
 use Rattle.objects.specs.Steps.{◌▹◌, place_of, value_of}
-use Rattle.objects.specs.declared.reading.Reading.{Reading}
-use Rattle.objects.specs.declared.reading.Reading.TheVariants.{At, Refused}
+use Rattle.objects.specs.Results.Reading.{At, Reading, Refused}
 use Rattle.request.specs.Message.{put_changes_request}
 use Rattle.client.specs.Read.{longest_answer, sub_response, behind_knowledge, ends_of, package_end}
 use Rattle.client.specs.declared.put_answer.ReceivedPut.{ReceivedPut}
-use Rattle.client.specs.declared.put_answer.ReadPutAnswer.{ReadPutAnswer}
-use Rattle.client.specs.declared.put_answer.ReadPutAnswer.TheVariants as answer
+use Rattle.client.specs.Results.ReadPutAnswer.{ReadPutAnswer}
+use Rattle.client.specs.Results.ReadPutAnswer as answer
 
 -- ---- what the parts are, in an answer from behind its package at c
 

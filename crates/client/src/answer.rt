@@ -5,15 +5,15 @@ ghost use Rattle.client.specs.Accessor.{rows_received, ids_received};
 
 use numbers::compact::PADDING_TAKEN;
 use numbers::extended_guid::ExtendedGuid;
-use numbers::refusal::{Refusal, at_place};
-use objects::layout::{COMPOUND, NOTHING, PLAIN, ROOM};
-use objects::reading::Reading;
+use numbers::refusal::{Fault, Refusal, at_place};
+use objects::layout::{COMPOUND, NOTHING, PLAIN, ROOM, ReadObjects, closed};
+use objects::reading::{FRONT, GoesOn, ReadFields, Reading};
 use pages::write::CHANGES;
 use request::message::{QUERY_CHANGES_REQUEST, id_in, on_knowledge, versions};
 use request::response::{RESPONSE, SIGNATURE, SUB_RESPONSE};
 use store::element::Strictness;
 use store::knowledge::{MOST_SAID, SAID_NUMBERS, read_knowledge};
-use store::package::{LEVELS_INSIDE, Packaged, package_start, read_package};
+use store::package::{LEVELS_INSIDE, package_start, read_package};
 use store::table::{ID_NUMBERS, ROW_NUMBERS};
 
 // An answer that is longer is refused with 1.
@@ -49,25 +49,21 @@ pub struct Received {
     pub length: usize,
 }
 
-#[derive(Drop)]
-pub enum ReadAnswer {
-    Is(Received),
-    Refused(Refusal),
-}
+pub type ReadAnswer = Result<Received, Refusal>;
 
 // A status byte.
 fn status_byte(d: &[u8], c: Reading) -> Reading
     ensures { result ≡ status_byte d.now c }
 {
-    let b = c.fixed_in(d, 1, 0, 255, 5);
-    b.need(b.value() % 2 == 0, 5, c.place())
+    let b = c.fixed_in(d, 1, 0, 255, Fault::WrongLayout);
+    b.need(b.value() % 2 == 0, Fault::WrongLayout, c.place())
 }
 
 // The status, in the part that the response's data run is.
 fn response_fields(d: &[u8]) -> Reading
     ensures { result ≡ response_fields d.now }
 {
-    status_byte(d, Reading::At(0, 0))
+    status_byte(d, FRONT)
 }
 
 // The versions, the signature, and the response's start.
@@ -75,32 +71,32 @@ pub(crate) fn response_start(s: &[u8]) -> Reading
     ensures { result ≡ response_start s.now }
 {
     let o = versions(s, SIGNATURE).start(s, NOTHING, RESPONSE, COMPOUND, ROOM, ANSWER_PADDING);
-    o.closed(s, response_fields(o.run(s)))
+    closed(o, s, response_fields(o.run(s)))
 }
 
 // Id, this type and status, in the part that the sub-response's data run is.
 fn sub_response_fields(d: &[u8], kind: u64) -> Reading
     ensures { result ≡ sub_response_fields kind d.now }
 {
-    let id = Reading::At(0, 0).number(d, ANSWER_PADDING);
-    status_byte(d, id.number_is(d, kind, 8, ANSWER_PADDING)).valued(id.value())
+    let id = FRONT.number(d, ANSWER_PADDING);
+    status_byte(d, id.number_is(d, kind, Fault::NotServed, ANSWER_PADDING)).valued(id.value())
 }
 
 pub(crate) fn sub_response(s: &[u8], c: Reading, kind: u64) -> Reading
     ensures { result ≡ sub_response kind s.now c }
 {
     let o = c.start(s, RESPONSE, SUB_RESPONSE, COMPOUND, ROOM, ANSWER_PADDING);
-    o.closed(s, sub_response_fields(o.run(s), kind))
+    closed(o, s, sub_response_fields(o.run(s), kind))
 }
 
 // Storage index and partial byte, in the part that their data run is.
 fn changes_fields(d: &[u8]) -> Reading
     ensures { result ≡ changes_fields d.now }
 {
-    Reading::At(0, 0)
+    FRONT
         .extended_guid(d)
         .on()
-        .fixed_in(d, 1, 0, 255, 5)
+        .fixed_in(d, 1, 0, 255, Fault::WrongLayout)
 }
 
 // On from behind the knowledge, whose ranges are not asked for here.
@@ -133,20 +129,18 @@ fn read_rest(s: &[u8], c: Reading, elements: usize, count: usize) -> ReadAnswer
     let sub = sub_response(s, c, QUERY_CHANGES_REQUEST);
     let o = sub.start(s, SUB_RESPONSE, CHANGES, PLAIN, ROOM, ANSWER_PADDING);
     let d = o.run(s);
-    let mark = o.closed(s, changes_fields(d));
+    let mark = closed(o, s, changes_fields(d));
     let k = behind_knowledge(s, mark);
-    match ends(s, k) {
-        Reading::Refused(r) => ReadAnswer::Refused(r),
-        Reading::At(_, _) => ReadAnswer::Is(Received {
-            id: sub.value(),
-            partial: mark.value() % 2 == 1,
-            index: id_in(Reading::At(0, 0).extended_guid(d)),
-            elements,
-            count,
-            knowledge: mark.place(),
-            length: k.place() - mark.place(),
-        }),
-    }
+    ends(s, k)?;
+    Ok(Received {
+        id: sub.value(),
+        partial: mark.value() % 2 == 1,
+        index: id_in(FRONT.extended_guid(d)),
+        elements,
+        count,
+        knowledge: mark.place(),
+        length: k.place() - mark.place(),
+    })
 }
 
 // An answer, with the rows and ids of its elements in working tables.
@@ -154,14 +148,12 @@ pub fn read_rows(s: &[u8], rows: &mut [u64; ROW_NUMBERS], ids: &mut [u64; ID_NUM
     ensures { (result ≡ answer_in s.now) × (rows.new ≡ rows_received s.now rows.old) × (ids.new ≡ ids_received s.now ids.old) }
 {
     if LONGEST_ANSWER < s.len() {
-        return ReadAnswer::Refused(at_place(1, LONGEST_ANSWER));
+        return Err(at_place(Fault::InputTooLong, LONGEST_ANSWER));
     }
     let c = response_start(s);
     let first = package_start(s, c, RESPONSE, ANSWER_PADDING).place();
-    match read_package(s, c, RESPONSE, rows, ids, answer_strictness()) {
-        Packaged::Refused(r) => ReadAnswer::Refused(r),
-        Packaged::Holds(e, n) => read_rest(s, Reading::At(e, 0), first, n),
-    }
+    let (e, n) = read_package(s, c, RESPONSE, rows, ids, answer_strictness())?;
+    read_rest(s, Ok((e, 0)), first, n)
 }
 
 // An answer. Nothing is asked of the caller. Ruled out (proofs/WrongAnswers), of no bytes: 7 for the version that is not there; an

@@ -3,12 +3,12 @@
 ghost use Rattle.std.specs.Prelude.{◌≡◌, ◌+◌, ◌≤◌, length};
 ghost use Rattle.laws.specs.Placed.{Lays};
 ghost use Rattle.client.specs.AskWritten.{user_agent_bytes, sub_request_bytes, identified_bytes, query_bytes, argument_bytes, constraint_bytes, ask_front, ask_ends, ask_bytes};
-ghost use Rattle.client.specs.Ask.{no_more, filters_given, knowledge_given, written_in, WroteAs, WritesRequest};
+ghost use Rattle.client.specs.Ask.{no_more, filters_given, knowledge_given, room_for, written_in, WroteAs, WritesRequest};
 
 use numbers::compact::compact_length;
-use numbers::refusal::{LONGEST_INPUT, Wrote, at_place, over_long, too_short};
-use objects::layout::{COMPOUND, PLAIN, ROOM};
-use objects::reading::Reading;
+use numbers::refusal::{Fault, LONGEST_INPUT, Wrote, at_place, over_long, too_short};
+use objects::layout::{COMPOUND, PLAIN, ROOM, ReadObjects};
+use objects::reading::{FRONT, Reading};
 use request::filter::{FILTER, REQUEST_PADDING, SUB_REQUEST, read_filters};
 use request::message::{
     ARGUMENTS, CONSTRAINT, KNOWLEDGE_LEVELS, NO_LIMIT, QUERY_CHANGES, QUERY_CHANGES_REQUEST,
@@ -25,18 +25,15 @@ const FIXED_BYTES: usize = 44;
 const CONSTRAINT_HEADER: usize = 4;
 
 // Bytes left behind the last object of a type are at fault, as the start of one more would be.
+#[tactic(auto, unfolding(crate::specs::Ask::no_more))]
 pub(crate) fn no_more(s: &[u8], c: Reading, outer: u64, kind: u64) -> Reading
     ensures { result ≡ no_more outer kind s.now c }
 {
-    match c {
-        Reading::Refused(r) => Reading::Refused(r),
-        Reading::At(at, n) => {
-            if at < s.len() {
-                return c.start(s, outer, kind, COMPOUND, ROOM, REQUEST_PADDING);
-            }
-            Reading::At(at, n)
-        }
+    let (at, n) = c?;
+    if at < s.len() {
+        return c.start(s, outer, kind, COMPOUND, ROOM, REQUEST_PADDING);
     }
+    Ok((at, n))
 }
 
 // The filters handed in.
@@ -44,9 +41,9 @@ fn filters_given(f: &[u8]) -> Reading
     ensures { result ≡ filters_given f.now }
 {
     if LONGEST_INPUT < f.len() {
-        return Reading::Refused(over_long());
+        return Err(over_long());
     }
-    no_more(f, read_filters(f, Reading::At(0, 0)), SUB_REQUEST, FILTER)
+    no_more(f, read_filters(f, FRONT), SUB_REQUEST, FILTER)
 }
 
 // The knowledge handed in.
@@ -54,15 +51,15 @@ fn knowledge_given(k: &[u8]) -> Reading
     ensures { result ≡ knowledge_given k.now }
 {
     if LONGEST_INPUT < k.len() {
-        return Reading::Refused(over_long());
+        return Err(over_long());
     }
     if k.len() == 0 {
-        return Reading::At(0, 0);
+        return Ok((0, 0));
     }
     let mut table = [0u64; SAID_NUMBERS];
     let read = read_knowledge(
         k,
-        Reading::At(0, 0),
+        FRONT,
         SUB_REQUEST,
         KNOWLEDGE_LEVELS,
         MOST_SAID,
@@ -183,20 +180,27 @@ fn request_length(id: u64, limit: u64, filters: &[u8], knowledge: &[u8]) -> usiz
     FIXED_BYTES + compact_length(id) + constraint_length(limit) + filters.len() + knowledge.len()
 }
 
+// The length of what is written where there is room for it: 1 where it would be an over-long request, then 14.
+pub(crate) fn room_for(out: &[u8], needed: usize) -> Wrote
+    ensures { result ≡ room_for (length out.now) needed }
+{
+    if LONGEST_INPUT < needed {
+        return Err(at_place(Fault::InputTooLong, 0));
+    }
+    if out.len() < needed {
+        return Err(too_short(needed));
+    }
+    Ok(needed)
+}
+
 // The request, of filters and knowledge that were judged.
 fn write_judged(out: &mut [u8], id: u64, limit: u64, filters: &[u8], knowledge: &[u8]) -> Wrote
     requires { (length filters.now ≤ 16777216) × (length knowledge.now ≤ 16777216) }
     ensures { WroteAs (written_in (length out.old) (ask_bytes id limit filters.now knowledge.now)) (ask_bytes id limit filters.now knowledge.now) result out.old out.new }
 {
-    let needed = request_length(id, limit, filters, knowledge);
-    if LONGEST_INPUT < needed {
-        return Wrote::Refused(at_place(1, 0));
-    }
-    if out.len() < needed {
-        return Wrote::Refused(too_short(needed));
-    }
+    let needed = room_for(out, request_length(id, limit, filters, knowledge))?;
     lay_request(out, id, limit, filters, knowledge);
-    Wrote::Done(needed)
+    Ok(needed)
 }
 
 // The request that a bench sends; the limit 2^64-1 is no constraint. Nothing is asked of the caller. Ruled out
@@ -205,11 +209,7 @@ fn write_judged(out: &mut [u8], id: u64, limit: u64, filters: &[u8], knowledge: 
 pub fn write_request(out: &mut [u8], id: u64, limit: u64, filters: &[u8], knowledge: &[u8]) -> Wrote
     ensures { WritesRequest id limit filters.now knowledge.now result out.old out.new }
 {
-    match filters_given(filters) {
-        Reading::Refused(r) => Wrote::Refused(r),
-        Reading::At(_, _) => match knowledge_given(knowledge) {
-            Reading::Refused(r) => Wrote::Refused(in_request(r)),
-            Reading::At(_, _) => write_judged(out, id, limit, filters, knowledge),
-        },
-    }
+    filters_given(filters)?;
+    knowledge_given(knowledge).map_err(in_request)?;
+    write_judged(out, id, limit, filters, knowledge)
 }

@@ -5,36 +5,35 @@ ghost use Rattle.laws.specs.Placed.{Lays};
 ghost use Rattle.client.specs.Ask.{written_in, WroteAs};
 ghost use Rattle.client.specs.PutWritten.{put_changes_bytes, put_front_bytes, put_ends_bytes, put_bytes, elements_given, WritesPut};
 
-use crate::ask::{lay_identified, no_more};
+use crate::ask::{lay_identified, no_more, room_for};
 use numbers::compact::compact_length;
 use numbers::extended_guid::{ExtendedGuid, extended_guid_length};
-use numbers::refusal::{LONGEST_INPUT, Wrote, at_place, over_long, too_short};
+use numbers::refusal::{LONGEST_INPUT, Wrote, over_long};
 use objects::layout::{COMPOUND, PLAIN};
-use objects::reading::Reading;
+use objects::reading::{FRONT, Reading};
 use puts::put::{PUT_CHANGES, PUT_CHANGES_REQUEST, put_strictness};
 use request::filter::SUB_REQUEST;
 use request::message::REQUEST;
 use store::element::{ELEMENT, PACKAGE};
 use store::lay::{lay_byte, lay_end, lay_extended_guid, lay_part, lay_start};
-use store::package::{Packaged, read_elements};
+use store::package::read_elements;
 use store::table::{ID_NUMBERS, ROW_NUMBERS};
 
 // A put without elements takes so many bytes, but for its id and the storage index that is expected.
 const FIXED_BYTES: usize = 42;
 
 // The elements handed in.
+#[tactic(auto, unfolding(crate::specs::PutWritten::elements_given))]
 fn elements_given(s: &[u8]) -> Reading
     ensures { result ≡ elements_given s.now }
 {
     if LONGEST_INPUT < s.len() {
-        return Reading::Refused(over_long());
+        return Err(over_long());
     }
     let mut rows = [0u64; ROW_NUMBERS];
     let mut ids = [0u64; ID_NUMBERS];
-    match read_elements(s, Reading::At(0, 0), &mut rows, &mut ids, put_strictness()) {
-        Packaged::Refused(r) => Reading::Refused(r),
-        Packaged::Holds(e, _) => no_more(s, Reading::At(e, 0), PACKAGE, ELEMENT),
-    }
+    let (e, _) = read_elements(s, FRONT, &mut rows, &mut ids, put_strictness())?;
+    no_more(s, Ok((e, 0)), PACKAGE, ELEMENT)
 }
 
 // 0x5A: a null storage index, the one that is expected, and a zero byte.
@@ -93,15 +92,9 @@ fn write_judged_put(out: &mut [u8], id: u64, expected: ExtendedGuid, elements: &
     requires { length elements.now ≤ 16777216 }
     ensures { WroteAs (written_in (length out.old) (put_bytes id expected elements.now)) (put_bytes id expected elements.now) result out.old out.new }
 {
-    let needed = put_length(id, expected, elements);
-    if LONGEST_INPUT < needed {
-        return Wrote::Refused(at_place(1, 0));
-    }
-    if out.len() < needed {
-        return Wrote::Refused(too_short(needed));
-    }
+    let needed = room_for(out, put_length(id, expected, elements))?;
     lay_put(out, id, expected, elements);
-    Wrote::Done(needed)
+    Ok(needed)
 }
 
 // The put that a bench sends, of elements that stand one behind the other with no package around them. Nothing is asked of the caller.
@@ -110,8 +103,6 @@ fn write_judged_put(out: &mut [u8], id: u64, expected: ExtendedGuid, elements: &
 pub fn write_put(out: &mut [u8], id: u64, expected: ExtendedGuid, elements: &[u8]) -> Wrote
     ensures { WritesPut id expected elements.now result out.old out.new }
 {
-    match elements_given(elements) {
-        Reading::Refused(r) => Wrote::Refused(r),
-        Reading::At(_, _) => write_judged_put(out, id, expected, elements),
-    }
+    elements_given(elements)?;
+    write_judged_put(out, id, expected, elements)
 }

@@ -5,11 +5,11 @@ ghost use Rattle.client.specs.ReadPut.{received_put_from, put_rest_of, put_answe
 use crate::answer::{
     LONGEST_ANSWER, answer_strictness, behind_knowledge, ends, response_start, sub_response,
 };
-use numbers::refusal::{Refusal, at_place};
-use objects::reading::Reading;
+use numbers::refusal::{Fault, Refusal, at_place};
+use objects::reading::{ReadFields, Reading};
 use puts::put::PUT_CHANGES_REQUEST;
 use request::response::RESPONSE;
-use store::package::{Packaged, read_package};
+use store::package::read_package;
 use store::table::{ID_NUMBERS, ROW_NUMBERS};
 
 // What came: the id, and the place and the length of the knowledge.
@@ -20,11 +20,7 @@ pub struct ReceivedPut {
     pub length: usize,
 }
 
-#[derive(Drop)]
-pub enum ReadPutAnswer {
-    Is(ReceivedPut),
-    Refused(Refusal),
-}
+pub type ReadPutAnswer = Result<ReceivedPut, Refusal>;
 
 // From behind the package to the end.
 fn read_put_rest(s: &[u8], c: Reading) -> ReadPutAnswer
@@ -32,14 +28,12 @@ fn read_put_rest(s: &[u8], c: Reading) -> ReadPutAnswer
 {
     let sub = sub_response(s, c, PUT_CHANGES_REQUEST);
     let k = behind_knowledge(s, sub);
-    match ends(s, k) {
-        Reading::Refused(r) => ReadPutAnswer::Refused(r),
-        Reading::At(_, _) => ReadPutAnswer::Is(ReceivedPut {
-            id: sub.value(),
-            knowledge: sub.place(),
-            length: k.place() - sub.place(),
-        }),
-    }
+    ends(s, k)?;
+    Ok(ReceivedPut {
+        id: sub.value(),
+        knowledge: sub.place(),
+        length: k.place() - sub.place(),
+    })
 }
 
 // The answer to a put. Nothing is asked of the caller. Ruled out (proofs/WrongAnswers): of no bytes, 7 for the version that is not
@@ -49,19 +43,17 @@ pub fn read_put_answer(s: &[u8]) -> ReadPutAnswer
     ensures { ReadsPutAnswer s.now result }
 {
     if LONGEST_ANSWER < s.len() {
-        return ReadPutAnswer::Refused(at_place(1, LONGEST_ANSWER));
+        return Err(at_place(Fault::InputTooLong, LONGEST_ANSWER));
     }
     let mut rows = [0u64; ROW_NUMBERS];
     let mut ids = [0u64; ID_NUMBERS];
-    match read_package(
+    let (e, _) = read_package(
         s,
         response_start(s),
         RESPONSE,
         &mut rows,
         &mut ids,
         answer_strictness(),
-    ) {
-        Packaged::Refused(r) => ReadPutAnswer::Refused(r),
-        Packaged::Holds(e, _) => read_put_rest(s, Reading::At(e, 0)),
-    }
+    )?;
+    read_put_rest(s, Ok((e, 0)))
 }

@@ -22,8 +22,8 @@ use Rattle.laws.proofs.Cases.{by_bool, by_lt, both, impossible}
 use Rattle.laws.proofs.Parts.{part_length}
 use Rattle.objects.specs.Header.{header_of, header_at}
 use Rattle.objects.specs.Steps.{nothing_open, place_of, skip, start_here, length_is, start_of_length, end_here}
-use Rattle.objects.specs.declared.reading.Reading.{Reading}
-use Rattle.objects.specs.declared.reading.Reading.TheVariants as reading
+use Rattle.objects.specs.Results.Reading.{Reading}
+use Rattle.objects.specs.Results.Reading as reading
 use Rattle.objects.proofs.StepsCarry.{opened_from}
 use Rattle.store.specs.Chain.{Follows}
 use Rattle.store.specs.Element.{same_key, ids_in}
@@ -51,7 +51,7 @@ byte_behind s p from n q u h e =
     (λ a.
     by_bool (ltb (length s - from) 1)
     (λ b. impossible (let z = rw (a, b) at e in cc))
-    (λ b. let z : reading.At (from + 1) 0 ≡ reading.At q u = rw (a, b) at e in let i : from + 1 ≡ q = cc in omega arith))
+    (λ b. let z : reading.At (from + 1) 0 ≡ reading.At q u = rw (a, b) at e in let i : from + 1 ≡ q = grind arith in omega arith))
     (λ a. impossible (let z = rw a at e in cc))
 
 front_on : (padding : Bool) (outer : ℕ) (s : List ℕ) (p v q u : ℕ) (c : Reading) → start_here padding s outer 0x15 true true (reading.At p v) ≡ c

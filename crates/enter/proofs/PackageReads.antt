@@ -20,7 +20,7 @@ use Rattle.laws.proofs.Twice.{once_before}
 use Rattle.numbers.specs.Refusals.{longest_input}
 use Rattle.objects.specs.Header.{end_bytes}
 use Rattle.objects.specs.Steps.{nothing_open, end_here}
-use Rattle.objects.specs.declared.reading.Reading.TheVariants.{At}
+use Rattle.objects.specs.Results.Reading.{At}
 use Rattle.objects.proofs.Written.{behind, reads_then, reads_skip, finish_written}
 use Rattle.objects.proofs.ObjectsWritten.{reads_start_of_length, reads_end}
 use Rattle.talk.specs.Each.{Each}
@@ -32,7 +32,7 @@ use Rattle.store.specs.Tables.{most_elements}
 use Rattle.store.specs.Written.{package_front}
 use Rattle.store.specs.declared.element.Key.{Key}
 use Rattle.store.specs.declared.element.Element.{Element}
-use Rattle.store.specs.declared.element.ReadElement.TheVariants.{Is}
+use Rattle.store.specs.Results.ReadElement.{Is}
 use Rattle.store.proofs.Chains.{same_turn, package_walked, within_limit, store_read, ids_once}
 use Rattle.store.proofs.ElementCarry.{wider_same, element_carry}
 use Rattle.store.proofs.Taken.{element_some}

@@ -9,15 +9,17 @@ use native.Mathlib.Numerals.{add-one}
 use lib.ListN.{length, drop, set, length-append}
 use lib.Seq.{set_split, drop-drop}
 use lib.Dec.{ltb}
-use borrow.Author.Tests.{lt-ltb, le-ltb}
+use borrow.Author.Tests.{ltb-true}
+use Rattle.std.specs.Prelude.{Some, None}
+use Rattle.std.specs.Option.{is_some}
 use Rattle.laws.specs.Placed.{laid, Lays}
-use Rattle.laws.proofs.Cases.{by_bool}
+use Rattle.laws.proofs.Cases.{by_bool, impossible}
 use Rattle.laws.proofs.Placing.{laid_behind, laid_front}
 use Rattle.store.specs.Element.{same_key}
 use Rattle.store.specs.Tables.{id_width, most_elements, keys_at, id_keys, id_in_row}
 use Rattle.store.specs.declared.element.Key.{Key}
 use Rattle.store.proofs.Rows.{keys_turn, keys_end}
-use Rattle.enter.specs.Plan.{place_among, kept_source, kept_sources, new_sources, sources}
+use Rattle.enter.specs.Plan.{place_among, is_among, place_of, kept_source, kept_sources, new_sources, sources}
 
 -- ---- the ids of the rows from i on
 
@@ -57,11 +59,22 @@ pub place_none : (k : Key) → place_among k [] ≡ 0
 unfolding place_among
 place_none k = refl
 
-pub place_most : (k : Key) (keys : List Key) → place_among k keys ≤ length keys
-unfolding place_among
-place_most k [] = omega arith
-place_most k (x ∷ keys) =
-    by_bool (same_key k x) (λ e. rw e (omega arith)) (λ e. rw e (let h = place_most k keys in omega arith))
+-- it was found, or not
+pub found_there : (k : Key) (keys : List Key) (j : ℕ) → place_of k keys ≡ Some j → (is_among k keys ≡ true) × (place_among k keys ≡ j) × (j < length keys)
+found_there k keys j e =
+    by_bool (is_among k keys)
+    (λ t.
+    let z : Some (place_among k keys) ≡ Some j = rw t at e in
+    let i : place_among k keys ≡ j = cc in
+    let l = ltb-true _ _ t in
+    (t, i, omega arith))
+    (λ t. let z : None ≡ Some j = rw t at e in impossible (cc))
+
+pub found_not : (k : Key) (keys : List Key) → place_of k keys ≡ None → is_among k keys ≡ false
+found_not k keys e = by_bool (is_among k keys) (λ t. let z : Some (place_among k keys) ≡ None = rw t at e in impossible (cc)) (λ t. t)
+
+pub found_is : (k : Key) (keys : List Key) → is_some (place_of k keys) ≡ is_among k keys
+found_is k keys = by_bool (is_among k keys) (λ t. rw t) (λ t. rw t)
 
 -- an id among those from row i on
 
@@ -119,21 +132,14 @@ module _ (ids : List ℕ) (n : ℕ) (handed : List ℕ) (j m : ℕ) (h : j < m) 
   abbrev there : List Key
   there = id_keys ids n
 
-  pub new_held : (place_among (id_in_row handed j) there ≡ n → ⊥) → new_sources there j (ids_from handed j m) ≡ new_sources there (j + 1) (ids_from handed (j + 1) m)
+  pub new_held : is_among (id_in_row handed j) there ≡ true → new_sources there j (ids_from handed j m) ≡ new_sources there (j + 1) (ids_from handed (j + 1) m)
   unfolding new_sources
-  new_held d =
-      let a = place_most (id_in_row handed j) there in
-      let b = length_keys ids 0 id_width n in
-      let l : place_among (id_in_row handed j) there < length there = omega arith in
-      rw (ids_turn handed j m h, lt-ltb _ _ l, add-one j)
+  new_held e = rw (ids_turn handed j m h, e, add-one j)
 
-  pub new_turn : place_among (id_in_row handed j) there ≡ n
+  pub new_turn : is_among (id_in_row handed j) there ≡ false
       → new_sources there j (ids_from handed j m) ≡ ((most_elements + j) ∷ []) ++ new_sources there (j + 1) (ids_from handed (j + 1) m)
   unfolding new_sources
-  new_turn e =
-      let b = length_keys ids 0 id_width n in
-      let l : length there ≤ place_among (id_in_row handed j) there = omega arith in
-      rw (ids_turn handed j m h, le-ltb _ _ l, add-one j)
+  new_turn e = rw (ids_turn handed j m h, e, add-one j)
 
 pub new_end : (there : List Key) (handed : List ℕ) (j m : ℕ) → m ≤ j → new_sources there j (ids_from handed j m) ≡ []
 unfolding new_sources

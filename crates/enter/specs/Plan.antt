@@ -1,7 +1,7 @@
 -- Which elements there are then, as the code decides it, by the ids alone: a number for each, i for the element of row i that is there, and
 -- 256 + j for the element of row j that comes. It is for the code only: a reader of Entering can skip it.
 -- Assumes nothing.
-use Rattle.std.specs.Prelude.{Bool, List, [], ◌∷◌, ◌++◌, ℕ, suc, ◌+◌, length, ltb}
+use Rattle.std.specs.Prelude.{Bool, List, [], ◌∷◌, ◌++◌, ℕ, suc, ◌+◌, length, ltb, Option, Some, None}
 use Rattle.laws.specs.Pick.{pick}
 use Rattle.store.specs.Element.{same_key}
 use Rattle.store.specs.Tables.{most_elements}
@@ -15,6 +15,10 @@ place_among k (x ∷ keys) = pick (same_key k x) 0 (suc (place_among k keys))
 -- whether it does
 abbrev pub is_among : Key → List Key → Bool
 is_among k keys = ltb (place_among k keys) (length keys)
+
+-- where it does, if it does
+abbrev pub place_of : Key → List Key → Option ℕ
+place_of k keys = pick (is_among k keys) (Some (place_among k keys)) None
 
 -- the number of the element i that is there, with this id
 unfoldable pub kept_source : List Key → ℕ → Key → ℕ

@@ -3,7 +3,7 @@
 ghost use Rattle.std.specs.Prelude.{◌≡◌, ◌++◌, ◌+◌, ◌*◌, ◌≤◌, length, drop};
 ghost use Rattle.store.specs.Tables.{id_width, most_elements, id_keys};
 ghost use Rattle.laws.specs.Placed.{laid};
-ghost use Rattle.enter.specs.Plan.{place_among, kept_source, kept_sources, new_sources, sources};
+ghost use Rattle.enter.specs.Plan.{place_of, kept_source, kept_sources, new_sources, sources};
 
 use store::element::Key;
 use store::table::{MOST_ELEMENTS, id_in_row, same_key};
@@ -11,19 +11,17 @@ use store::table::{MOST_ELEMENTS, id_in_row, same_key};
 // Room for the elements that are there and for all that come.
 pub const PLANNED: usize = 512;
 
-// Where an id stands first among n; n if it does not.
-fn find_id(ids: &[u64], n: usize, k: Key) -> usize
+// Where an id stands first among n, if it does.
+fn find_id(ids: &[u64], n: usize, k: Key) -> Option<usize>
     requires { n * id_width ≤ length ids.now }
-    ensures { result ≡ place_among k (id_keys ids.now n) }
+    ensures { result ≡ place_of k (id_keys ids.now n) }
 {
-    let mut i = 0;
-    while i < n {
+    for i in 0..n {
         if same_key(k, id_in_row(ids, i)) {
-            return i;
+            return Some(i);
         }
-        i += 1;
     }
-    n
+    None
 }
 
 // The number for the element i that is there, whose id is k: that of the one that comes with the same id, if there is one.
@@ -31,11 +29,10 @@ fn kept_source(handed: &[u64], m: usize, i: usize, k: Key) -> u16
     requires { (m * id_width ≤ length handed.now) × (m ≤ most_elements) × (i ≤ most_elements) }
     ensures { result ≡ kept_source (id_keys handed.now m) i k }
 {
-    let j = find_id(handed, m, k);
-    if j < m {
-        return (MOST_ELEMENTS + j) as u16;
+    match find_id(handed, m, k) {
+        Some(j) => (MOST_ELEMENTS + j) as u16,
+        None => i as u16,
     }
-    i as u16
 }
 
 // The numbers for the n elements that are there, at the front of the plan.
@@ -43,10 +40,8 @@ fn plan_kept(ids: &[u64], n: usize, handed: &[u64], m: usize, plan: &mut [u16])
     requires { (n * id_width ≤ length ids.now) × (m * id_width ≤ length handed.now) × (n ≤ most_elements) × (m ≤ most_elements) × (n + m ≤ length plan.old) }
     ensures { plan.new ≡ kept_sources (id_keys handed.now m) 0 (id_keys ids.now n) ++ drop n plan.old }
 {
-    let mut i = 0;
-    while i < n {
+    for i in 0..n {
         plan[i] = kept_source(handed, m, i, id_in_row(ids, i));
-        i += 1;
     }
 }
 
@@ -56,15 +51,11 @@ fn plan_new(ids: &[u64], n: usize, handed: &[u64], m: usize, plan: &mut [u16]) -
     ensures { (result ≡ n + length (new_sources (id_keys ids.now n) 0 (id_keys handed.now m))) × (plan.new ≡ laid n (new_sources (id_keys ids.now n) 0 (id_keys handed.now m)) plan.old) }
 {
     let mut count = n;
-    let mut j = 0;
-    while j < m {
-        if find_id(ids, n, id_in_row(handed, j)) != n {
-            j += 1;
-            continue;
+    for j in 0..m {
+        if find_id(ids, n, id_in_row(handed, j)).is_none() {
+            plan[count] = (MOST_ELEMENTS + j) as u16;
+            count += 1;
         }
-        plan[count] = (MOST_ELEMENTS + j) as u16;
-        count += 1;
-        j += 1;
     }
     count
 }

@@ -12,11 +12,11 @@ use Rattle.laws.specs.Bytes.{AllBytes}
 use Rattle.laws.specs.Placed.{placed}
 use Rattle.laws.proofs.Cases.{by_eq}
 use Rattle.numbers.specs.Refusals.{longest_input, tell_wrote}
-use Rattle.numbers.specs.declared.refusal.Wrote.{Wrote}
-use Rattle.numbers.specs.declared.refusal.Wrote.TheVariants as wrote
+use Rattle.numbers.specs.Results.Wrote.{Wrote}
+use Rattle.numbers.specs.Results.Wrote as wrote
 use Rattle.numbers.proofs.OneAnswers.{wrote_telling}
 use Rattle.objects.specs.Steps.{value_of}
-use Rattle.objects.specs.declared.reading.Reading.TheVariants.{At}
+use Rattle.objects.specs.Results.Reading.{At}
 use Rattle.talk.specs.Each.{Each}
 use Rattle.talk.specs.Series.Chain.{done, next}
 use Rattle.talk.specs.declared.range.Range.{Range}
@@ -39,7 +39,7 @@ use Rattle.client.specs.Ask.{filters_given, knowledge_given, knowledge_of, ask_w
 use Rattle.client.specs.Ask as ask
 use Rattle.client.specs.AskWritten.{constraint_bytes, ask_front, ask_bytes}
 use Rattle.client.specs.Read.{answer_in, tell_read_answer}
-use Rattle.client.specs.declared.answer.ReadAnswer.{ReadAnswer}
+use Rattle.client.specs.Results.ReadAnswer.{ReadAnswer}
 use Rattle.client.proofs.AskAgain.{knowledge_size, knowledge_sent_back}
 use Rattle.client.proofs.AskGiven.{sent_done, both_judged}
 use Rattle.client.proofs.AskLengths.{length_none, length_constraint, length_ask}

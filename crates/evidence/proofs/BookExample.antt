@@ -17,7 +17,7 @@ use borrow.Author.Tests.{ltb-true}
 use Rattle.laws.specs.Bytes.{AllBytes}
 use Rattle.laws.specs.Pick.{pick}
 use Rattle.laws.proofs.Cases.{by_bool, impossible}
-use Rattle.objects.specs.declared.reading.Reading.TheVariants.{At}
+use Rattle.objects.specs.Results.Reading.{At}
 use Rattle.talk.specs.Series.{over, then}
 use Rattle.store.specs.Held.{stored_bytes}
 use Rattle.store.specs.Store.{Walk, walked, store_walk}

@@ -12,8 +12,7 @@ use Rattle.numbers.specs.Compact.{size_of, form_of, with_form, compact_bytes}
 use Rattle.numbers.specs.Guid.{guid_bytes, tagged_bytes}
 use Rattle.numbers.specs.ExtendedGuid.{short_bytes, named_bytes, extended_guid_bytes}
 use Rattle.numbers.specs.declared.guid.Guid.{Guid}
-use Rattle.numbers.specs.declared.extended_guid.ExtendedGuid.{ExtendedGuid}
-use Rattle.numbers.specs.declared.extended_guid.ExtendedGuid.TheVariants.{Null, Named}
+use Rattle.numbers.specs.Results.ExtendedGuid.{ExtendedGuid, Named, Null}
 use Rattle.objects.specs.Header.{start_number, escape, long_start, start_bytes, end_bytes}
 use Rattle.talk.specs.declared.range.Range.{Range}
 use Rattle.store.specs.Knowledge.{cell_guid}

@@ -12,19 +12,19 @@ use borrow.Author.Tests.{lt-ltb}
 use Rattle.laws.specs.Bytes.{AllBytes}
 use Rattle.laws.specs.Placed.{placed}
 use Rattle.laws.proofs.Cases.{by_lt, impossible}
-use Rattle.numbers.specs.Refusals.{Told}
+use Rattle.numbers.specs.Refusals.{Told, refusal_number}
 use Rattle.numbers.specs.declared.refusal.Refusal.{Refusal}
 use Rattle.numbers.proofs.OneAnswers.{values_of}
 use Rattle.talk.specs.declared.range.Range.{Range}
 use Rattle.order.specs.Order.{ranked_numbers}
 use Rattle.store.specs.declared.element.Element.{Element}
 use Rattle.pages.specs.Answer.{Outcome, refused, answered, number_in, tell_answered, answer_told, answer_of, outcome, output_after, TellsLength, WritesAnswer, knowledge_numbers}
-use Rattle.pages.specs.declared.answer.Answered.TheVariants as answer
+use Rattle.pages.specs.Results.Answered as answer
 use Rattle.pages.proofs.Exact.{exact_outcome}
 use Rattle.pages.proofs.Refusing.{tables_fine}
 use Rattle.client.specs.Read.{longest_answer, answer_in, answer_end, answer_on}
 use Rattle.client.specs.declared.answer.Received.{Received}
-use Rattle.client.specs.declared.answer.ReadAnswer.TheVariants as read
+use Rattle.client.specs.Results.ReadAnswer as read
 use Rattle.client.proofs.CallBack.{call_back}
 use Rattle.report.specs.Report.{three_numbers}
 use Rattle.hub.specs.Call.{report_bytes, hub_outcome, HubTellsLength, HubWritesAnswer}
@@ -55,13 +55,13 @@ unfolding number_in
 number_outcome s q rows ranges room n d e =
     ⊎_elim (λ z. absurd (d (sym e ∙ ap number_in z.1))) (λ z. (z.0, sym (ap number_in z.1) ∙ e)) (by_tables s q rows ranges room)
 
-refusal_is : (o : Outcome) (r : Refusal) → tell_answered (answer.Refused r) ≡ tell_answered (answer_told o) → (x : Refusal) × (o ≡ refused x) × (r.number ≡ x.number)
+refusal_is : (o : Outcome) (r : Refusal) → tell_answered (answer.Refused r) ≡ tell_answered (answer_told o) → (x : Refusal) × (o ≡ refused x) × (refusal_number r ≡ refusal_number x)
 unfolding answer_told
 refusal_is (refused x) r e = (x, refl, ap (λ (t : Told). t.number) e)
 refusal_is (answered w all l) r e = let v = values_of _ _ e in impossible (cc)
 
 -- a call that tells 0 has answered, since a refusal has a number
-zero_is : (o : Outcome) → ((r : Refusal) → o ≡ refused r → 1 ≤ r.number) → 0 ≡ number_in o
+zero_is : (o : Outcome) → ((r : Refusal) → o ≡ refused r → 1 ≤ refusal_number r) → 0 ≡ number_in o
     → (w : List ℕ) × (all : List Element) × (l : List Range) × (o ≡ answered w all l)
 unfolding number_in
 zero_is (refused r) h e = let z = h r refl in absurd (omega arith)
@@ -80,7 +80,7 @@ number_is (refused x) h = (x, refl)
 number_is (answered w all l) h = absurd (h refl)
 
 -- for the tables, or as the outcome does
-tables_or : (s q : List ℕ) (rows ranges room : ℕ) (x : Refusal) → answer_of s q rows ranges room ≡ refused x → (x.number ≡ 13) ⊎ (outcome s q room ≡ refused x)
+tables_or : (s q : List ℕ) (rows ranges room : ℕ) (x : Refusal) → answer_of s q rows ranges room ≡ refused x → (refusal_number x ≡ 13) ⊎ (outcome s q room ≡ refused x)
 unfolding number_in
 tables_or s q rows ranges room x e =
     ⊎_elim (λ z. inl (sym (ap number_in e) ∙ ap number_in z.1)) (λ z. inr (sym z.1 ∙ e)) (by_tables s q rows ranges room)
@@ -194,20 +194,20 @@ module _ (s q : List ℕ) where
 
   -- ---- a refusal
 
-  lent_refusal : (rows ranges room n : ℕ) (r : Refusal) → tell_answered (answer.Refused r) ≡ tell_answered (answer_told (answer_of s q rows ranges room)) → n ≡ r.number
-      → (n ≡ 13) ⊎ ((x : Refusal) × (outcome s q room ≡ refused x) × (n ≡ x.number))
+  lent_refusal : (rows ranges room n : ℕ) (r : Refusal) → tell_answered (answer.Refused r) ≡ tell_answered (answer_told (answer_of s q rows ranges room)) → n ≡ refusal_number r
+      → (n ≡ 13) ⊎ ((x : Refusal) × (outcome s q room ≡ refused x) × (n ≡ refusal_number x))
   lent_refusal rows ranges room n r h g =
       let (x, is, number) = refusal_is (answer_of s q rows ranges room) r h in
       ⊎_elim (λ z. inl (g ∙ number ∙ z)) (λ z. inr (x, z, g ∙ number)) (tables_or s q rows ranges room x is)
 
-  exported_refusal : (room n : ℕ) → n ≡ number_in (hub_outcome s q room) → (n ≡ 0 → ⊥) → (n ≡ 13) ⊎ ((x : Refusal) × (outcome s q room ≡ refused x) × (n ≡ x.number))
+  exported_refusal : (room n : ℕ) → n ≡ number_in (hub_outcome s q room) → (n ≡ 0 → ⊥) → (n ≡ 13) ⊎ ((x : Refusal) × (outcome s q room ≡ refused x) × (n ≡ refusal_number x))
   unfolding number_in
   exported_refusal room n h g =
       let (x, is) = number_is (hub_outcome s q room) (λ z. g (h ∙ z)) in
       inr (x, sym (tables_enough s q room) ∙ is, h ∙ ap number_in is)
 
   -- 13, or the outcome's own
-  pub refusal_outcome : (room n : ℕ) → GivesRefusal s q room n → (n ≡ 13) ⊎ ((x : Refusal) × (outcome s q room ≡ refused x) × (n ≡ x.number))
+  pub refusal_outcome : (room n : ℕ) → GivesRefusal s q room n → (n ≡ 13) ⊎ ((x : Refusal) × (outcome s q room ≡ refused x) × (n ≡ refusal_number x))
   refusal_outcome room n (lent r rows rows' ranges ranges' out out' h e g) =
       lent_refusal (length rows) (length ranges) room n r (rw e at h.0) g
   refusal_outcome room n (exported out out' report report' h e g) = exported_refusal room n (rw e at h.0) g

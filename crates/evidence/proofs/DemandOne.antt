@@ -23,7 +23,7 @@ use Rattle.laws.specs.Bytes.{AllBytes}
 use Rattle.laws.specs.Once.{once}
 use Rattle.laws.specs.Placed.{placed}
 use Rattle.laws.proofs.Cases.{impossible}
-use Rattle.numbers.specs.Refusals.{longest_input, tell_wrote}
+use Rattle.numbers.specs.Refusals.{longest_input, tell_wrote, refusal_number}
 use Rattle.numbers.specs.declared.refusal.Refusal.{Refusal}
 use Rattle.store.specs.Tables.{most_elements}
 use Rattle.order.specs.Order.{ranked_numbers}
@@ -32,11 +32,10 @@ use Rattle.store.specs.Store.{store_walk, Stands, store_padding}
 use Rattle.store.specs.Written.{Content, package_front, package_bytes, elements_from, AllFit}
 use Rattle.store.proofs.PackageWritten.{package_written}
 use Rattle.request.specs.Message.{request_in}
-use Rattle.request.specs.declared.message.Request.TheVariants as request
+use Rattle.request.specs.Results.Request as request
 use Rattle.pages.specs.Answer.{Ask, page_ranges, number_in, tell_answered, answer_of, TellsLength, WritesAnswer, knowledge_numbers}
 use Rattle.pages.specs.Cases.{Asks, OverLong, TooShort}
-use Rattle.pages.specs.declared.answer.Answered.{Answered}
-use Rattle.pages.specs.declared.answer.Answered.TheVariants.{Sent, Refused}
+use Rattle.pages.specs.Results.Answered.{Answered, Refused, Sent}
 use Rattle.pages.proofs.TwoCalls.{pair_tables}
 use Rattle.client.specs.AskWritten.{ask_bytes}
 use Rattle.client.specs.Ask.{ask_wrote}
@@ -88,7 +87,7 @@ pub record ExportKeeps (IsFault : Refusal → Type 0) (Gives : Type 0) (Reason :
   -- "gets its result or one of the numbered refusals of document 01, with the place of the fault"
   pub gets : ((number ≡ 0) × Gives) ⊎ RefusedWith IsFault Reason number report report'
   -- a refusal is given wherever there is a reason
-  pub given : (x : Refusal) → Reason x → (number ≡ x.number) × (report' ≡ placed (refusal_report x) report)
+  pub given : (x : Refusal) → Reason x → (number ≡ refusal_number x) × (report' ≡ placed (refusal_report x) report)
   -- "A refusal leaves output and tables untouched." (The tables are the call's own.)
   pub untouched : (number ≡ 0 → ⊥) → Untouched
 
@@ -265,5 +264,5 @@ demand_one_good_request id limit f k out out' report report' a b h =
 
 -- where both inputs are read and the tables long enough, what is left are the refusals of a page: 9 and 14
 pub demand_one_good : (s q : List ℕ) (id limit place count known rows ranges room : ℕ) → Tables rows ranges → Stands (store_walk s).last
-    → request_in q [] ≡ request.Asked id limit place count known → (x : Refusal) → Why s q rows ranges room x → (x.number ≡ 9) ⊎ (x.number ≡ 14)
+    → request_in q [] ≡ request.Asked id limit place count known → (x : Refusal) → Why s q rows ranges room x → (refusal_number x ≡ 9) ⊎ (refusal_number x ≡ 14)
 demand_one_good s q id limit place count known rows ranges room t g h x w = only_pages s q rows ranges room x t g (λ y e. impossible (cc)) w

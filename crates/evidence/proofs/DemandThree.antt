@@ -32,8 +32,8 @@ use Rattle.request.proofs.RequestFits.{known_fit, known_normal}
 use Rattle.pages.specs.Answer.{Ask, known_in, page_bytes, TellsLength, WritesAnswer}
 use Rattle.pages.specs.Choice.{knows_key}
 use Rattle.pages.specs.Cases.{Few, smallest, Asks}
-use Rattle.pages.specs.declared.answer.Answered.{Answered}
-use Rattle.pages.specs.declared.answer.Answered.TheVariants as answer
+use Rattle.pages.specs.Results.Answered.{Answered}
+use Rattle.pages.specs.Results.Answered as answer
 use Rattle.client.specs.Ask.{knowledge_of}
 use Rattle.hub.specs.Call.{HubTellsLength, HubWritesAnswer}
 use Rattle.evidence.specs.Bench.{knows_by, said_by}

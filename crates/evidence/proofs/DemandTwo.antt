@@ -20,7 +20,7 @@ use Rattle.store.specs.declared.element.Key.{Key}
 use Rattle.store.specs.Store.{store_walk, Stands}
 use Rattle.store.specs.Held.{ranges_with, storage_index}
 use Rattle.request.specs.Message.{filters_of, request_in}
-use Rattle.request.specs.declared.message.Request.TheVariants.{Asked}
+use Rattle.request.specs.Results.Request.{Asked}
 use Rattle.pages.specs.Answer.{Ask, ask_of, known_in, page_measure}
 use Rattle.pages.specs.Choice.{knows_key, lets_group, wanted_in}
 use Rattle.pages.specs.Decision.{most_carried, sendable}

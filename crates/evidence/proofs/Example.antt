@@ -22,17 +22,17 @@ use Rattle.numbers.specs.Guid.{guid_at, guid_bytes, tagged_bytes, swapped}
 use Rattle.numbers.specs.ExtendedGuid.{extended_guid_bytes, named_bytes, short_bytes, read_extended_guid, form_of_id, short_form, named_of}
 use Rattle.numbers.specs.Refusals.{too_short, tell_wrote}
 use Rattle.numbers.specs.Serial.{serial_bytes, read_serial, numbered}
-use Rattle.numbers.specs.declared.extended_guid.ExtendedGuid.TheVariants.{Null}
+use Rattle.numbers.specs.Results.ExtendedGuid.{Null}
 use Rattle.objects.specs.Header.{start_bytes, long_start, end_bytes, start_number, start_of, end_of, sized, header_of, header_at, length_at}
 use Rattle.objects.specs.Nesting.{run_at}
-use Rattle.objects.specs.Steps.{place_of, value_of, valued, need, number, number_is, null_id, fixed_in, skip, start_here, length_is, start_of_length, run_here, closed_at, inside, end_here, next_is, finish, id_here, on_id, serial_here, guid_here, on_guid}
-use Rattle.objects.specs.declared.reading.Reading.TheVariants.{At}
+use Rattle.objects.specs.Steps.{place_of, value_of, valued, need, number, number_is, null_id, fixed_in, skip, start_here, length_is, start_of_length, run_here, closed_at, inside, end_here, next_is, finish, id_here, serial_here, guid_here, on_field}
+use Rattle.objects.specs.Results.Reading.{At}
 use Rattle.talk.specs.Page.{grow, page_count}
 use Rattle.talk.specs.Ranges.{within, holds, is_before, joined, absorb, insert}
 use Rattle.talk.specs.Wanted.{keep, is_wanted, wanted}
 use Rattle.talk.specs.declared.range.Range.{Range}
-use Rattle.store.specs.Element.{same_key, named_key, numbered_key, fresh_key, key_here, on_key, id_field, serial_field, fields_of, data_of, element_on, element_at}
-use Rattle.store.specs.Knowledge.{guid_in, range_fields, item_of, range_item, item_next, item_at, on_item, united, items_from, is_cell, specialized_guid, cell_from, specialized_from, knowledge_turn, to_go, knowledge_from, knowledge_at}
+use Rattle.store.specs.Element.{same_key, named_key, numbered_key, fresh_key, key_here, id_field, serial_field, fields_of, data_of, element_on, element_at}
+use Rattle.store.specs.Knowledge.{guid_in, range_fields, item_of, range_item, item_next, item_at, united, items_from, is_cell, specialized_guid, cell_from, specialized_from, knowledge_turn, to_go, knowledge_from, knowledge_at}
 use Rattle.ranges.specs.Ranged.{range_of, knows}
 use Rattle.store.specs.KnowledgeWritten as knowledge
 use Rattle.store.specs.KnowledgeWritten.{range_data, range_bytes, ranges_bytes, cell_front, cell_back, knowledge_bytes}
@@ -56,8 +56,8 @@ use Rattle.client.specs.Ask.{no_more, filters_given, knowledge_of, knowledge_giv
 use Rattle.client.specs.AskWritten.{user_agent_bytes, sub_request_data, sub_request_bytes, identified_bytes, query_bytes, argument_data, argument_bytes, constraint_bytes, ask_front, ask_ends, ask_bytes}
 use Rattle.client.specs.Read.{status_byte, response_fields, response_start, package_in, sub_response_fields, sub_response, changes_fields, changes, knowledge_in, ends_of, received_from, rest_of, answer_end, answer_on, answer_in, received_numbers, id_numbers, tell_read_answer}
 use Rattle.client.specs.declared.answer.Received.{Received}
-use Rattle.client.specs.declared.answer.ReadAnswer.{ReadAnswer}
-use Rattle.client.specs.declared.answer.ReadAnswer.TheVariants as read
+use Rattle.client.specs.Results.ReadAnswer.{ReadAnswer}
+use Rattle.client.specs.Results.ReadAnswer as read
 use Rattle.report.specs.Report.{numbers_bytes}
 use Rattle.hub.specs.Call.{report_bytes, hub_outcome}
 use Rattle.hub.specs.Bench.{wrote_report, report_after}
@@ -75,16 +75,16 @@ numbers = tt
 
 -- headers, and the steps of a layout
 objects : Unit {0}
-unfolding numbers start_bytes long_start end_bytes start_number start_of end_of sized header_of header_at length_at run_at iterate turns place_of value_of valued need number number_is null_id fixed_in skip start_here length_is start_of_length run_here closed_at inside end_here next_is finish id_here on_id serial_here guid_here on_guid
+unfolding numbers start_bytes long_start end_bytes start_number start_of end_of sized header_of header_at length_at run_at iterate turns place_of value_of valued need number number_is null_id fixed_in skip start_here length_is start_of_length run_here closed_at inside end_here next_is finish id_here on_field serial_here guid_here
 objects = tt
 
 -- stores and knowledge
 stores : Unit {0}
-unfolding objects seen same_key named_key numbered_key fresh_key key_here on_key id_field serial_field fields_of data_of element_on element_at package_start walk_from store_walk field_bytes written_element written_elements package_front package_bytes
+unfolding objects seen same_key named_key numbered_key fresh_key key_here on_field id_field serial_field fields_of data_of element_on element_at package_start walk_from store_walk field_bytes written_element written_elements package_front package_bytes
 stores = tt
 
 unfoldable pub knowledges : Unit {0}
-unfolding objects range_of guid_in range_fields item_of range_item item_next item_at on_item united knows items_from is_cell specialized_guid cell_from specialized_from knowledge_turn to_go knowledge_from knowledge_at knowledge.range_guid range_data range_bytes ranges_bytes cell_front cell_back knowledge_bytes within holds is_before joined absorb insert
+unfolding objects range_of guid_in range_fields item_of range_item item_next item_at on_field united knows items_from is_cell specialized_guid cell_from specialized_from knowledge_turn to_go knowledge_from knowledge_at knowledge.range_guid range_data range_bytes ranges_bytes cell_front cell_back knowledge_bytes within holds is_before joined absorb insert
 knowledges = tt
 
 -- requests, written and read

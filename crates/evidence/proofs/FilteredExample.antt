@@ -9,7 +9,7 @@ use mathlib.Core.Bool.{true, false}
 use mathlib.Core.List.{List, [], ◌∷◌, ◌++◌, map}
 use Prim.Native.Nat.{ℕ, ◌+◌, ◌*◌}
 use native.Mathlib.Omega.{arith}
-use Rattle.objects.specs.declared.reading.Reading.TheVariants.{At}
+use Rattle.objects.specs.Results.Reading.{At}
 use Rattle.talk.specs.Series.{Chain}
 use Rattle.talk.specs.Series.Chain.{done, next}
 use Rattle.talk.specs.declared.range.Range.{Range}
@@ -18,7 +18,7 @@ use Rattle.store.specs.declared.element.Key.{Key}
 use Rattle.request.specs.Filter.{kind_taken, filter_fields, type_part, ids_from, ids_field, ids_part, kind_part, filter_opened, filter_at}
 use Rattle.request.specs.Meaning.{Filter, key_in, keys_from, keys_in, filter_read, matches, set_by}
 use Rattle.request.specs.Message.{filters_of, request_in}
-use Rattle.request.specs.declared.message.Request.TheVariants.{Asked}
+use Rattle.request.specs.Results.Request.{Asked}
 use Rattle.pages.specs.Answer.{Outcome, answered, outcome}
 use Rattle.client.specs.Ask.{filters_given}
 use Rattle.evidence.specs.Bench.{filters_in, knows_by, BenchTalk}

@@ -9,6 +9,7 @@ use mathlib.Core.Logic.{⊎_elim}
 use Prim.Native.Nat.{ℕ, ◌≤◌}
 use native.Mathlib.Omega.{arith}
 use lib.ListN.{length, take}
+use Rattle.std.specs.Prelude.{Ok}
 use Rattle.laws.specs.Bytes.{AllBytes}
 use Rattle.laws.proofs.Cases.{impossible}
 use Rattle.numbers.specs.declared.refusal.Refusal.{Refusal}
@@ -28,8 +29,8 @@ use Rattle.request.specs.Meaning.{Filter}
 use Rattle.request.specs.Message.{filters_of}
 use Rattle.request.proofs.RequestFits.{known_fit, known_normal}
 use Rattle.pages.specs.Answer.{Ask, answered, number_in, answer_told, known_in, outcome, page_bytes, page_ranges, TellsLength, WritesAnswer}
-use Rattle.pages.specs.declared.answer.Answered.{Answered}
-use Rattle.pages.specs.declared.answer.Answered.TheVariants as answer
+use Rattle.pages.specs.Results.Answered.{Answered}
+use Rattle.pages.specs.Results.Answered as answer
 use Rattle.pages.specs.Choice.{knows_key, lets_group, wanted_in}
 use Rattle.pages.specs.Cases.{Few, smallest, Asks}
 use Rattle.pages.proofs.PageCases.{page_answered}
@@ -156,11 +157,11 @@ module _ (s q : List ℕ) (a : Ask) (asks : Asks s q a) (few : Few a) where
       × ((t : Answered) (rowsThen rowsThen' rangesThen rangesThen' out out' : List ℕ) → Tables (length rowsThen) (length rangesThen) → length out ≡ n
       → WritesAnswer s q t rowsThen rowsThen' rangesThen rangesThen' out out' → t ≡ r)
   pair_sent_lem (answer.Refused x) offered rows rows' ranges ranges' t l h = absurd (none_told x offered rows rows' ranges ranges' t l h)
-  pair_sent_lem (answer.Sent n rowCount rangeCount) offered rows rows' ranges ranges' t l h = (
-    n,
-    rowCount,
-    rangeCount,
+  pair_sent_lem (Ok x) offered rows rows' ranges ranges' t l h = (
+    x.length,
+    x.rows,
+    x.ranges,
     refl,
     λ t rowsThen rowsThen' rangesThen rangesThen' out out' long e k.
-        (pair_gives s q offered rows ranges n rowCount rangeCount rows' ranges' h t rowsThen rowsThen' rangesThen rangesThen' out out' long.0 long.1 e k).0,
+        (pair_gives s q offered rows ranges x.length x.rows x.ranges rows' ranges' h t rowsThen rowsThen' rangesThen rangesThen' out out' long.0 long.1 e k).0,
   )

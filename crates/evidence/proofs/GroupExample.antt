@@ -8,7 +8,7 @@ use mathlib.Core.List.{List, [], ◌∷◌, ◌++◌}
 use Prim.Native.Nat.{ℕ}
 use lib.ListN.{length}
 use Rattle.numbers.specs.Refusals.{too_short}
-use Rattle.objects.specs.declared.reading.Reading.TheVariants.{At}
+use Rattle.objects.specs.Results.Reading.{At}
 use Rattle.talk.specs.declared.range.Range.{Range}
 use Rattle.store.specs.Store.{walked, store_walk}
 use Rattle.order.specs.Groups.{Group, single}

@@ -31,7 +31,7 @@ use Rattle.request.specs.Meaning.{Filter}
 use Rattle.enter.proofs.Keys.{member_seen}
 use Rattle.client.specs.Read.{answer_in}
 use Rattle.client.specs.declared.answer.Received.{Received}
-use Rattle.client.specs.declared.answer.ReadAnswer.TheVariants as answer
+use Rattle.client.specs.Results.ReadAnswer as answer
 use Rattle.evidence.specs.Book.{LetIn, InStep, HoldsAll, Standing, KeptAsk, KeptTalk, Throughout, Unmarked}
 use Rattle.evidence.specs.Talk.{KeyFits, elements_of, groups_of, leaves_in, wanted_of, AnsweredAsk, Talk, AllReadAs}
 use Rattle.evidence.proofs.Holding.{shares, one_group, stored_fits, let_in_stored, nothing_known_lem}

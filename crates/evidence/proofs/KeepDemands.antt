@@ -25,7 +25,7 @@ use Rattle.client.specs.Read.{longest_answer, package_in, answer_end}
 use Rattle.client.proofs.AnswerWithin.{answer_within}
 use Rattle.book.specs.Keep.{Outcome, refused, kept, in_book, in_answer, keep_outcome, keep_told, book_after, GivesBook}
 use Rattle.book.specs.Refusing.{new_book, WhyKeep}
-use Rattle.book.specs.declared.keep.Keeping.TheVariants as keeping
+use Rattle.book.specs.Results.Keeping as keeping
 use Rattle.book.proofs.AfterKeep.{after_keep, unnamed_kept, kept_again}
 use Rattle.book.proofs.Refusals.{nothing_refused, why_refused, why_keep}
 use Rattle.hub.specs.Keep.{keep_number, keep_report, HubGivesBook, HubKeeps}

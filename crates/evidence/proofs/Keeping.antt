@@ -17,8 +17,8 @@ use Rattle.laws.specs.Bytes.{AllBytes}
 use Rattle.laws.specs.Once.{seen, once}
 use Rattle.laws.specs.Pick.{pick}
 use Rattle.laws.proofs.Cases.{by_bool, impossible}
-use Rattle.objects.specs.declared.reading.Reading.{Reading}
-use Rattle.objects.specs.declared.reading.Reading.TheVariants as reading
+use Rattle.objects.specs.Results.Reading.{Reading}
+use Rattle.objects.specs.Results.Reading as reading
 use Rattle.talk.specs.Wanted.{is_wanted, wanted}
 use Rattle.store.specs.Accessor.{element_in, found_on, bytes_at}
 use Rattle.store.specs.Element.{same_key}
@@ -45,7 +45,7 @@ use Rattle.client.specs.Accessor.{received_at, received_bytes}
 use Rattle.client.specs.Back.{placed_at, set_down}
 use Rattle.client.specs.Read.{package_in, answer_end, answer_on, answer_in}
 use Rattle.client.specs.declared.answer.Received.{Received}
-use Rattle.client.specs.declared.answer.ReadAnswer.TheVariants as answer
+use Rattle.client.specs.Results.ReadAnswer as answer
 use Rattle.evidence.specs.Book.{Holds, PageKept, Standing, KeptAsk}
 use Rattle.evidence.specs.Talk.{elements_of, in_row_order, groups_of, leaves_in, wanted_of}
 use Rattle.evidence.proofs.DemandTwo.{DemandTwo}

@@ -14,8 +14,8 @@ use Rattle.laws.specs.Placed.{placed}
 use Rattle.request.specs.Meaning.{Filter}
 use Rattle.client.specs.Read.{answer_in, received_numbers, tell_read_answer}
 use Rattle.client.specs.declared.answer.Received.{Received}
-use Rattle.client.specs.declared.answer.ReadAnswer.{ReadAnswer}
-use Rattle.client.specs.declared.answer.ReadAnswer.TheVariants as answer
+use Rattle.client.specs.Results.ReadAnswer.{ReadAnswer}
+use Rattle.client.specs.Results.ReadAnswer as answer
 use Rattle.report.specs.Report.{three_numbers}
 use Rattle.hub.specs.Bench.{report_after, HubReads}
 use Rattle.evidence.specs.Book.{InStep, HoldsAll, Standing, KeptTalk, Unmarked}

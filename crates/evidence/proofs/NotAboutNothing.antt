@@ -14,7 +14,7 @@ use native.Mathlib.Omega.{arith}
 use lib.ListN.{length}
 use Rattle.laws.specs.Bytes.{AllBytes}
 use Rattle.numbers.specs.Refusals.{longest_input}
-use Rattle.objects.specs.declared.reading.Reading.TheVariants.{At}
+use Rattle.objects.specs.Results.Reading.{At}
 use Rattle.talk.specs.Each.{Each}
 use Rattle.talk.specs.Series.{Answer, joined_pages, FirstUnmarked}
 use Rattle.talk.proofs.Series.{all_sent_lem}

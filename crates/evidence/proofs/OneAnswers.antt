@@ -11,37 +11,37 @@ use Rattle.numbers.specs.Calls.{ReadsCompact, ReadsExtendedGuid, ReadsSerial, Wr
 use Rattle.numbers.specs.Compact.{compact_bytes}
 use Rattle.numbers.specs.ExtendedGuid.{extended_guid_bytes}
 use Rattle.numbers.specs.Serial.{serial_bytes}
-use Rattle.numbers.specs.declared.compact.Compact.{Compact}
-use Rattle.numbers.specs.declared.extended_guid.ExtendedGuid.{ExtendedGuid}
-use Rattle.numbers.specs.declared.extended_guid.ReadExtendedGuid.{ReadExtendedGuid}
+use Rattle.numbers.specs.Results.Compact.{Compact}
+use Rattle.numbers.specs.Results.ExtendedGuid.{ExtendedGuid}
+use Rattle.numbers.specs.Results.ReadExtendedGuid.{ReadExtendedGuid}
 use Rattle.numbers.specs.declared.guid.Guid.{Guid}
-use Rattle.numbers.specs.declared.refusal.Wrote.{Wrote}
-use Rattle.numbers.specs.declared.serial.Serial.{Serial}
-use Rattle.numbers.specs.declared.serial.ReadSerial.{ReadSerial}
+use Rattle.numbers.specs.Results.Wrote.{Wrote}
+use Rattle.numbers.specs.Results.Serial.{Serial}
+use Rattle.numbers.specs.Results.ReadSerial.{ReadSerial}
 use Rattle.numbers.proofs.OneAnswers as numbers
 use Rattle.objects.specs.Calls.{ReadsHeader, WritesStart, WritesEnd}
 use Rattle.objects.specs.Header.{start_bytes, end_bytes}
-use Rattle.objects.specs.declared.header.Header.{Header}
+use Rattle.objects.specs.Results.Header.{ReadHeader}
 use Rattle.objects.proofs.OneAnswers as objects
 use Rattle.store.specs.Accessor.{FindsElement, element_bytes}
-use Rattle.store.specs.declared.accessor.Found.{Found}
+use Rattle.store.specs.Results.Found.{Found}
 use Rattle.store.proofs.OneAnswers as store
 use Rattle.pages.specs.Answer.{TellsLength, WritesAnswer}
-use Rattle.pages.specs.declared.answer.Answered.{Answered}
+use Rattle.pages.specs.Results.Answered.{Answered}
 use Rattle.pages.proofs.OneAnswers as pages
 use Rattle.puts.specs.Applied.{Puts}
-use Rattle.puts.specs.declared.apply.Applied.{Applied}
+use Rattle.puts.specs.Results.Applied.{Applied}
 use Rattle.puts.proofs.OneAnswers as puts
 use Rattle.client.specs.Accessor.{FindsReceived, received_bytes}
 use Rattle.client.specs.Ask.{WritesRequest}
 use Rattle.client.specs.Read.{ReadsAnswer}
 use Rattle.client.specs.PutWritten.{WritesPut}
 use Rattle.client.specs.ReadPut.{ReadsPutAnswer}
-use Rattle.client.specs.declared.answer.ReadAnswer.{ReadAnswer}
-use Rattle.client.specs.declared.put_answer.ReadPutAnswer.{ReadPutAnswer}
+use Rattle.client.specs.Results.ReadAnswer.{ReadAnswer}
+use Rattle.client.specs.Results.ReadPutAnswer.{ReadPutAnswer}
 use Rattle.client.proofs.OneAnswers as client
 use Rattle.book.specs.Keep.{KeepsAnswer}
-use Rattle.book.specs.declared.keep.Keeping.{Keeping}
+use Rattle.book.specs.Results.Keeping.{Keeping}
 use Rattle.book.proofs.OneAnswers as book
 use Rattle.hub.specs.Bench.{HubAsks, HubReads, HubFinds}
 use Rattle.hub.specs.Call.{HubTellsLength, HubWritesAnswer}
@@ -79,7 +79,7 @@ read_extended_guid_lem s x y a b = numbers.read_extended_guid_one s x y a b
 pub read_serial_lem : (s : List ℕ) → One {A = ReadSerial} (λ r. ReadsSerial s r)
 read_serial_lem s x y a b = numbers.read_serial_one s x y a b
 
-pub read_header : (s : List ℕ) → One {A = Header} (λ r. ReadsHeader s r)
+pub read_header : (s : List ℕ) → One {A = ReadHeader} (λ r. ReadsHeader s r)
 read_header s x y a b = objects.read_header_one s x y a b
 
 pub write_compact : (v : ℕ) (out : List ℕ) → One {A = Wrote × List ℕ} (λ r. WritesCompact v out r.0 r.1)

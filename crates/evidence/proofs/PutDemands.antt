@@ -16,12 +16,12 @@ use Rattle.laws.specs.Bytes.{AllBytes}
 use Rattle.laws.specs.Once.{once}
 use Rattle.laws.proofs.Cases.{by_eq, impossible}
 use Rattle.numbers.specs.ExtendedGuid.{ExtendedGuidFits}
-use Rattle.numbers.specs.declared.extended_guid.ExtendedGuid.{ExtendedGuid}
+use Rattle.numbers.specs.Results.ExtendedGuid.{ExtendedGuid}
 use Rattle.numbers.specs.Guid.{GuidFits}
 use Rattle.numbers.specs.Refusals.{longest_input}
 use Rattle.numbers.specs.declared.guid.Guid.{Guid}
-use Rattle.objects.specs.declared.reading.Reading.{Reading}
-use Rattle.objects.specs.declared.reading.Reading.TheVariants as reading
+use Rattle.objects.specs.Results.Reading.{Reading}
+use Rattle.objects.specs.Results.Reading as reading
 use Rattle.store.specs.Element.{same_key}
 use Rattle.store.specs.Held.{storage_index}
 use Rattle.store.specs.Store.{store_walk, Stands}
@@ -33,7 +33,7 @@ use Rattle.pages.specs.Choice.{knows_key}
 use Rattle.puts.specs.Applied.{entered, put_outcome, last_number}
 use Rattle.enter.specs.Entering.{Kept, replaced_by, new_to, enter}
 use Rattle.puts.specs.Put.{put_front, put_walk, put_read, put_in}
-use Rattle.puts.specs.declared.put.Put.TheVariants as handed
+use Rattle.puts.specs.Results.Put as handed
 use Rattle.puts.specs.NewStore.{entering_from, first_number, new_elements, staying}
 use Rattle.client.specs.Back.{PutBack}
 use Rattle.client.specs.PutWritten.{put_bytes}
@@ -125,7 +125,7 @@ demand_one_good_put id named low high number e out out' report report' a b c h =
 -- and one that is written with the storage index of a store, as the answer to a query tells it, does not meet 15 there
 read_expected : (c : Reading) (i m : ℕ) (y : ExtendedGuid) (id n : ℕ) (x : ExtendedGuid) → put_read c i y m ≡ handed.Handed id x n → y ≡ x
 unfolding put_read
-read_expected (reading.At p v) i m y id n x h = cc
+read_expected (reading.At p v) i m y id n x h = grind arith
 read_expected (reading.Refused r) i m y id n x h = impossible (cc)
 
 pub good_put_expects : (id named low high number : ℕ) (e out out' report report' s : List ℕ) → id < 2 ^ 64 → low < 2 ^ 64 → high < 2 ^ 64

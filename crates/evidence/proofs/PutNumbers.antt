@@ -8,10 +8,10 @@ use Prim.Native.Nat.{ℕ, ◌≤◌, ◌<◌}
 use native.Mathlib.Omega.{arith}
 use lib.ListN.{length}
 use Rattle.laws.proofs.Cases.{by_lt}
-use Rattle.numbers.specs.Refusals.{fault_at, too_short, longest_input}
+use Rattle.numbers.specs.Refusals.{fault_at, too_short, longest_input, refusal_number}
 use Rattle.numbers.specs.declared.guid.Guid.{Guid}
 use Rattle.numbers.specs.declared.refusal.Refusal.{Refusal}
-use Rattle.objects.specs.declared.reading.Reading.TheVariants.{Refused}
+use Rattle.objects.specs.Results.Reading.{Refused}
 use Rattle.objects.proofs.InputFaults.{input_told}
 use Rattle.store.specs.Store.{store_walk, Stands}
 use Rattle.store.specs.Tables.{most_elements}
@@ -29,7 +29,7 @@ use Rattle.evidence.proofs.Results.{gives, refuses}
 -- what a call told: 0 where there is no reason, else the number of the one refusal that has a reason
 pub data PutTold (s q : List ℕ) (g : Guid) (storeRoom room number : ℕ) : Type 0 where
   nothing : number ≡ 0 → ((r : Refusal) → WhyPut s q g storeRoom room r → ⊥) → PutTold s q g storeRoom room number
-  because : (r : Refusal) → number ≡ r.number → WhyPut s q g storeRoom room r → ((x : Refusal) → WhyPut s q g storeRoom room x → r ≡ x) → PutTold s q g storeRoom room number
+  because : (r : Refusal) → number ≡ refusal_number r → WhyPut s q g storeRoom room r → ((x : Refusal) → WhyPut s q g storeRoom room x → r ≡ x) → PutTold s q g storeRoom room number
 
 told_by : (s q : List ℕ) (low high number : ℕ) (new new' out out' report report' : List ℕ) → HubPutComes s q low high number new new' out out' report report'
     → PutTold s q (guid_of low high) (length new) (length out) number
@@ -40,31 +40,31 @@ pub why_told : (s q : List ℕ) (low high number : ℕ) (new new' out out' repor
     → PutTold s q (guid_of low high) (length new) (length out) number
 why_told s q low high number new new' out out' report report' h = told_by s q low high number new new' out out' report report' (hub_put_comes s q low high number new new' out out' report report' h)
 
-told_number_lem : {s q : List ℕ} {g : Guid} {storeRoom room number : ℕ} → PutTold s q g storeRoom room number → (r : Refusal) → WhyPut s q g storeRoom room r → number ≡ r.number
+told_number_lem : {s q : List ℕ} {g : Guid} {storeRoom room number : ℕ} → PutTold s q g storeRoom room number → (r : Refusal) → WhyPut s q g storeRoom room r → number ≡ refusal_number r
 told_number_lem (nothing z none) r w = absurd (none r w)
-told_number_lem (because x e v one) r w = e ∙ ap (λ (y : Refusal). y.number) (one r w)
+told_number_lem (because x e v one) r w = e ∙ ap refusal_number (one r w)
 
 told_reason : {s q : List ℕ} {g : Guid} {storeRoom room number : ℕ} → PutTold s q g storeRoom room number → (number ≡ 0 → ⊥)
-    → (r : Refusal) × (number ≡ r.number) × WhyPut s q g storeRoom room r
+    → (r : Refusal) × (number ≡ refusal_number r) × WhyPut s q g storeRoom room r
 told_reason (nothing z none) n = absurd (n z)
 told_reason (because x e v one) n = (x, e, v)
 
-number_of : {r x : Refusal} → r ≡ x → r.number ≡ x.number
-number_of e = ap (λ (y : Refusal). y.number) e
+number_of : {r x : Refusal} → r ≡ x → refusal_number r ≡ refusal_number x
+number_of e = ap refusal_number e
 
 module _ (s q : List ℕ) (g : Guid) (storeRoom room : ℕ) where
   abbrev Reason : Refusal → Type 0
   Reason r = WhyPut s q g storeRoom room r
 
-  of_store : (r : Refusal) → (store_walk s).last ≡ Refused r → r.number ≤ 12
+  of_store : (r : Refusal) → (store_walk s).last ≡ Refused r → refusal_number r ≤ 12
   of_store r h = (input_told longest_input s r (store_fault s r h)).most
 
-  of_put : (x r : Refusal) → (put_walk q).last ≡ Refused x → r ≡ in_request x → r.number ≤ 12
+  of_put : (x r : Refusal) → (put_walk q).last ≡ Refused x → r ≡ in_request x → refusal_number r ≤ 12
   of_put x r h e = let m = (input_told longest_input q x (put_fault q x h)).most in let z = number_of e in omega arith
 
   -- ---- from the number to its test
 
-  fifteen_why : (r : Refusal) → Reason r → r.number ≡ 15 → BothRead s q × (Expects s q → ⊥)
+  fifteen_why : (r : Refusal) → Reason r → refusal_number r ≡ 15 → BothRead s q × (Expects s q → ⊥)
   fifteen_why r (WhyPut.store h) n = let m = of_store r h in absurd (omega arith)
   fifteen_why r (WhyPut.put x a h e) n = let m = of_put x r h e in absurd (omega arith)
   fifteen_why r (WhyPut.another_index b i e) n = (b, i)
@@ -74,7 +74,7 @@ module _ (s q : List ℕ) (g : Guid) (storeRoom room : ℕ) where
   fifteen_why r (WhyPut.buffer_short b i l c m k e) n = let z = number_of e in absurd (omega arith)
   fifteen_why r (WhyPut.output_short b i l c m k o e) n = let z = number_of e in absurd (omega arith)
 
-  sixteen_why : (r : Refusal) → Reason r → r.number ≡ 16 → BothRead s q × Expects s q × (last_number < last_given s q g)
+  sixteen_why : (r : Refusal) → Reason r → refusal_number r ≡ 16 → BothRead s q × Expects s q × (last_number < last_given s q g)
   sixteen_why r (WhyPut.store h) n = let m = of_store r h in absurd (omega arith)
   sixteen_why r (WhyPut.put x a h e) n = let m = of_put x r h e in absurd (omega arith)
   sixteen_why r (WhyPut.another_index b i e) n = let z = number_of e in absurd (omega arith)
@@ -84,7 +84,7 @@ module _ (s q : List ℕ) (g : Guid) (storeRoom room : ℕ) where
   sixteen_why r (WhyPut.buffer_short b i l c m k e) n = let z = number_of e in absurd (omega arith)
   sixteen_why r (WhyPut.output_short b i l c m k o e) n = let z = number_of e in absurd (omega arith)
 
-  nine_why : BothRead s q → (r : Refusal) → Reason r → r.number ≡ 9 → Expects s q × (last_given s q g ≤ last_number) × (most_elements < length (elements_behind s q g))
+  nine_why : BothRead s q → (r : Refusal) → Reason r → refusal_number r ≡ 9 → Expects s q × (last_given s q g ≤ last_number) × (most_elements < length (elements_behind s q g))
   nine_why p r (WhyPut.store h) n = absurd (subst Stands h p.0)
   nine_why p r (WhyPut.put x a h e) n = absurd (subst Stands h p.1)
   nine_why p r (WhyPut.another_index b i e) n = let z = number_of e in absurd (omega arith)
@@ -94,7 +94,7 @@ module _ (s q : List ℕ) (g : Guid) (storeRoom room : ℕ) where
   nine_why p r (WhyPut.buffer_short b i l c m k e) n = let z = number_of e in absurd (omega arith)
   nine_why p r (WhyPut.output_short b i l c m k o e) n = let z = number_of e in absurd (omega arith)
 
-  one_why : BothRead s q → (r : Refusal) → Reason r → r.number ≡ 1
+  one_why : BothRead s q → (r : Refusal) → Reason r → refusal_number r ≡ 1
       → Expects s q × (last_given s q g ≤ last_number) × (length (elements_behind s q g) ≤ most_elements) × (longest_input < length (store_behind s q g))
   one_why p r (WhyPut.store h) n = absurd (subst Stands h p.0)
   one_why p r (WhyPut.put x a h e) n = absurd (subst Stands h p.1)
@@ -110,7 +110,7 @@ module _ (s q : List ℕ) (g : Guid) (storeRoom room : ℕ) where
       BothRead s q × Expects s q × (last_given s q g ≤ last_number) × (length (elements_behind s q g) ≤ most_elements) × (length (store_behind s q g) ≤ longest_input)
       × ((storeRoom < length (store_behind s q g)) ⊎ (room < length (answer_to s q g)))
 
-  fourteen_why : (r : Refusal) → Reason r → r.number ≡ 14 → Short
+  fourteen_why : (r : Refusal) → Reason r → refusal_number r ≡ 14 → Short
   fourteen_why r (WhyPut.store h) n = let m = of_store r h in absurd (omega arith)
   fourteen_why r (WhyPut.put x a h e) n = let m = of_put x r h e in absurd (omega arith)
   fourteen_why r (WhyPut.another_index b i e) n = let z = number_of e in absurd (omega arith)

@@ -10,12 +10,12 @@ use native.Mathlib.Omega.{arith}
 use lib.ListN.{length}
 use borrow.Author.Tests.{lt-ltb, le-ltb, eq-eqb, ne_eqb}
 use Rattle.laws.proofs.Cases.{by_lt, by_eq, impossible}
-use Rattle.numbers.specs.Refusals.{fault_at, longest_input, tell_wrote}
+use Rattle.numbers.specs.Refusals.{fault_at, longest_input, tell_wrote, refusal_number}
 use Rattle.numbers.specs.declared.refusal.Refusal.{Refusal}
-use Rattle.numbers.specs.declared.refusal.Wrote.{Wrote}
-use Rattle.numbers.specs.declared.refusal.Wrote.TheVariants as wrote
-use Rattle.objects.specs.declared.reading.Reading.{Reading}
-use Rattle.objects.specs.declared.reading.Reading.TheVariants as reading
+use Rattle.numbers.specs.Results.Wrote.{Wrote}
+use Rattle.numbers.specs.Results.Wrote as wrote
+use Rattle.objects.specs.Results.Reading.{Reading}
+use Rattle.objects.specs.Results.Reading as reading
 use Rattle.objects.proofs.InputFaults.{input_told}
 use Rattle.store.specs.Store.{Stands}
 use Rattle.store.proofs.Contents.{place_value}
@@ -25,8 +25,8 @@ use Rattle.client.specs.PutWritten.{put_bytes, elements_given, put_wrote}
 use Rattle.client.specs.Read.{longest_answer}
 use Rattle.client.specs.ReadPut.{put_answer_end, put_answer_on, put_answer_in, tell_read_put_answer}
 use Rattle.client.specs.declared.put_answer.ReceivedPut.{ReceivedPut}
-use Rattle.client.specs.declared.put_answer.ReadPutAnswer.{ReadPutAnswer}
-use Rattle.client.specs.declared.put_answer.ReadPutAnswer.TheVariants as answer
+use Rattle.client.specs.Results.ReadPutAnswer.{ReadPutAnswer}
+use Rattle.client.specs.Results.ReadPutAnswer as answer
 use Rattle.client.proofs.AnswerWithin.{put_answer_within}
 use Rattle.client.proofs.PutGiven.{elements_fault}
 use Rattle.hub.specs.Bench.{wrote_report, HubWrites}
@@ -116,7 +116,7 @@ module _ (id named low high number : ℕ) (e : List ℕ) (room : ℕ) (r : Refus
   why_ask_put_fault (WhyAskPut.short f g l m z) = rw z (short_fault e [] (length sent))
 
   -- 14 is given only where the put is not over-long and longer than the output
-  pub why_ask_put_short : AskPutWhy → r.number ≡ 14 → (length sent ≤ longest_input) × (room < length sent)
+  pub why_ask_put_short : AskPutWhy → refusal_number r ≡ 14 → (length sent ≤ longest_input) × (room < length sent)
   why_ask_put_short (WhyAskPut.wide n l e) z = let m : ◌≡◌ {A = ℕ} 3 14 = rw e at z in absurd (omega arith)
   why_ask_put_short (WhyAskPut.elements f h) z = let m = (input_told longest_input e r (elements_fault e r h)).most in absurd (omega arith)
   why_ask_put_short (WhyAskPut.long f g l e) z = let m : ◌≡◌ {A = ℕ} 1 14 = rw e at z in absurd (omega arith)

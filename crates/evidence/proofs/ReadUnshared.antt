@@ -12,20 +12,19 @@ use Rattle.laws.proofs.Cases.{by_bool}
 use Rattle.laws.proofs.Twice.{once_before}
 use Rattle.laws.specs.Pick.{pick}
 use Rattle.numbers.specs.Refusals.{longest_input, over_long}
-use Rattle.objects.specs.Steps.{run_here, nothing_open, finish, next_is}
+use Rattle.objects.specs.Steps.{run_here, nothing_open, finish, next_is, on_field}
 use Rattle.objects.specs.Types.{element_type}
-use Rattle.objects.specs.declared.reading.Reading.{Reading}
-use Rattle.objects.specs.declared.reading.Reading.TheVariants as reading
-use Rattle.store.specs.Element.{same_key, fresh_key, key_here, on_key, id_field, serial_field, fields_of, opened, data_of, element_on, element_at, ids_in}
+use Rattle.objects.specs.Results.Reading.{Reading}
+use Rattle.objects.specs.Results.Reading as reading
+use Rattle.store.specs.Element.{same_key, fresh_key, key_here, id_field, serial_field, fields_of, opened, data_of, element_on, element_at, ids_in}
 use Rattle.store.specs.Store.{store_padding, store_strictness, package_start, Walk, walked, on_element, finished, walk_from, store_walk, Stands}
 use Rattle.store.specs.Tables.{most_elements}
 use Rattle.store.specs.declared.element.Element.{Element}
 use Rattle.store.specs.declared.element.Fields.{Fields}
 use Rattle.store.specs.declared.element.Key.{Key}
-use Rattle.store.specs.declared.element.ReadElement.{ReadElement}
-use Rattle.store.specs.declared.element.ReadElement.TheVariants as element
-use Rattle.store.specs.declared.element.ReadingKey.{ReadingKey}
-use Rattle.store.specs.declared.element.ReadingKey.TheVariants.{At, Refused}
+use Rattle.store.specs.Results.ReadElement.{ReadElement}
+use Rattle.store.specs.Results.ReadElement as element
+use Rattle.store.specs.Results.ReadingKey.{At, ReadingKey, Refused}
 use Rattle.store.proofs.Chains.{same_turn}
 use Rattle.evidence.specs.Base.{base_serial_field, base_fields_of, base_data_of, base_element_at, base_walk_from, base_walk}
 use Rattle.evidence.specs.Talk.{serial_of, elements_of}
@@ -58,10 +57,10 @@ module _ (ids serials : List Key) (s : List ℕ) (c : Reading) where
   data_run = run_here s (opened store_padding s c)
 
   abbrev now_read : ReadingKey
-  now_read = serial_field true data_run (on_key (id_field ids data_run))
+  now_read = serial_field true data_run (on_field (id_field ids data_run))
 
   module _ (unseen : seen same_key (key_here now_read) serials ≡ false) where
-    same_serial : base_serial_field serials data_run (on_key (id_field ids data_run)) ≡ now_read
+    same_serial : base_serial_field serials data_run (on_field (id_field ids data_run)) ≡ now_read
     unfolding base_serial_field
     same_serial = rw unseen (fresh_unseen _ now_read)
 

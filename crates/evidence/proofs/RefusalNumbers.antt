@@ -11,7 +11,7 @@ use Rattle.numbers.specs.Refusals.{Told}
 use Rattle.order.specs.Order.{ranked_numbers}
 use Rattle.pages.specs.Answer.{Ask, Outcome, refused, answered, number_in, page_ranges, tell_answered, answer_told, outcome, answer_of, knowledge_numbers}
 use Rattle.pages.specs.Cases.{Asks, OverLong, TooShort}
-use Rattle.pages.specs.declared.answer.Answered.{Answered}
+use Rattle.pages.specs.Results.Answered.{Answered}
 use Rattle.pages.proofs.Refusing.{tables_fine, thirteen_if, thirteen_only_if, one_only_if, one_if_store, one_if_request, fourteen_of_call, call_of_fourteen, nine_of_call, call_of_nine}
 use Rattle.evidence.specs.Refusing.{Tables, IfAndOnlyIf}
 use Rattle.evidence.proofs.Calling.{number_outcome}

@@ -9,22 +9,23 @@ use native.Mathlib.Omega.{arith}
 use lib.ListN.{length}
 use borrow.Author.Tests.{lt-ltb, le-ltb, eq-eqb, ne_eqb}
 use Rattle.laws.proofs.Cases.{by_lt, by_eq, impossible}
-use Rattle.numbers.specs.Refusals.{fault_at, too_short, longest_input, tell_wrote}
+use Rattle.numbers.proofs.Faults.{number_of_fault}
+use Rattle.numbers.specs.Refusals.{fault_at, too_short, longest_input, tell_wrote, refusal_number}
 use Rattle.numbers.specs.declared.refusal.Refusal.{Refusal}
-use Rattle.numbers.specs.declared.refusal.Wrote.{Wrote}
-use Rattle.numbers.specs.declared.refusal.Wrote.TheVariants as wrote
-use Rattle.objects.specs.declared.reading.Reading.{Reading}
-use Rattle.objects.specs.declared.reading.Reading.TheVariants as reading
+use Rattle.numbers.specs.Results.Wrote.{Wrote}
+use Rattle.numbers.specs.Results.Wrote as wrote
+use Rattle.objects.specs.Results.Reading.{Reading}
+use Rattle.objects.specs.Results.Reading as reading
 use Rattle.objects.proofs.InputFaults.{InputTold, input_told}
 use Rattle.order.specs.Order.{ranked_numbers}
 use Rattle.store.specs.Store.{store_walk, Stands}
 use Rattle.store.specs.Accessor.{element_in, found_on, found_in}
-use Rattle.store.specs.declared.accessor.Found.TheVariants as found
+use Rattle.store.specs.Results.Found as found
 use Rattle.store.specs.declared.element.Element.{Element}
 use Rattle.store.proofs.Found.{found_none}
 use Rattle.store.proofs.Places.{store_fault}
 use Rattle.request.specs.Message.{in_request, request_in}
-use Rattle.request.specs.declared.message.Request.TheVariants as request'
+use Rattle.request.specs.Results.Request as request'
 use Rattle.request.proofs.Places.{request_fault}
 use Rattle.pages.specs.Answer.{Ask, Outcome, refused, page_bytes, page_ranges, page_outcome, on_request, on_store, outcome, answer_of, knowledge_numbers}
 use Rattle.pages.specs.Cases.{smallest, Few, Asks}
@@ -34,7 +35,7 @@ use Rattle.client.specs.AskWritten.{ask_bytes}
 use Rattle.client.specs.Ask.{filters_given, knowledge_given, written_in, judged_second, judged_first, ask_wrote}
 use Rattle.client.specs.Read.{longest_answer, package_in, answer_end, answer_on, answer_in}
 use Rattle.client.specs.Accessor.{received_at}
-use Rattle.client.specs.declared.answer.ReadAnswer.TheVariants as answer
+use Rattle.client.specs.Results.ReadAnswer as answer
 use Rattle.client.proofs.AnswerRest.{answer_fault}
 use Rattle.client.proofs.AnswerWithin.{answer_within}
 use Rattle.client.proofs.AskFaults.{filters_fault, knowledge_fault}
@@ -116,7 +117,9 @@ second_fault x y r t =
 
 -- at the front of the first: it falls on no item
 pub front_fault : (x : List ℕ) (more : List (List ℕ)) (k : ℕ) → 1 ≤ k → k ≤ 14 → Fault (x ∷ more) (fault_at k 0)
-front_fault x more k a b = record { least = a; most = b; input = omega arith; place = omega arith; needed = λ z. refl }
+front_fault x more k a b =
+    let e = number_of_fault k a (omega arith) in
+    record { least = omega arith; most = omega arith; input = omega arith; place = omega arith; needed = λ z. refl }
 
 pub short_fault : (x : List ℕ) (more : List (List ℕ)) (n : ℕ) → Fault (x ∷ more) (too_short n)
 short_fault x more n = record { least = omega arith; most = omega arith; input = omega arith; place = omega arith; needed = λ z. absurd (z refl) }
@@ -138,13 +141,13 @@ why_fault s q rows ranges room r (Why.short t a x f l e) = rw e (short_fault s (
 
 -- with tables that are long enough, a store and a request that are read, only the refusals of a page are left: 9 and 14
 pub only_pages : (s q : List ℕ) (rows ranges room : ℕ) (r : Refusal) → Tables rows ranges → Stands (store_walk s).last
-    → ((x : Refusal) → request_in q [] ≡ request'.Refused x → ⊥) → Why s q rows ranges room r → (r.number ≡ 9) ⊎ (r.number ≡ 14)
+    → ((x : Refusal) → request_in q [] ≡ request'.Refused x → ⊥) → Why s q rows ranges room r → (refusal_number r ≡ 9) ⊎ (refusal_number r ≡ 14)
 only_pages s q rows ranges room r t g h (Why.tables (inl l) e) = let w = t.0 in absurd (omega arith)
 only_pages s q rows ranges room r t g h (Why.tables (inr l) e) = let w = t.1 in absurd (omega arith)
 only_pages s q rows ranges room r t g h (Why.store u e) = absurd (subst Stands e g)
 only_pages s q rows ranges room r t g h (Why.request u w e) = absurd (h r e)
-only_pages s q rows ranges room r t g h (Why.crowded u a y p c e) = inl (ap (λ (z : Refusal). z.number) e)
-only_pages s q rows ranges room r t g h (Why.short u a y f l e) = inr (ap (λ (z : Refusal). z.number) e)
+only_pages s q rows ranges room r t g h (Why.crowded u a y p c e) = inl (ap refusal_number e)
+only_pages s q rows ranges room r t g h (Why.short u a y f l e) = inr (ap refusal_number e)
 
 -- ---- bytes written into an output, behind an input that is judged first
 
@@ -253,9 +256,9 @@ module _ (id limit : ℕ) (f k : List ℕ) (room : ℕ) (r : Refusal) where
   ask_fault h = why_ask_fault (ask_why h)
 
   -- 14 is given only where the request is not over-long and longer than the output
-  pub why_ask_short : AskWhy → r.number ≡ 14 → (length sent ≤ longest_input) × (room < length sent)
+  pub why_ask_short : AskWhy → refusal_number r ≡ 14 → (length sent ≤ longest_input) × (room < length sent)
   why_ask_short (WhyAsk.filters h) z = let m = (filters_told h).most in absurd (omega arith)
-  why_ask_short (WhyAsk.knowledge x a h e) z = let m = (knowledge_told x h).most in let n : x.number ≡ 14 = rw e at z in absurd (omega arith)
+  why_ask_short (WhyAsk.knowledge x a h e) z = let m = (knowledge_told x h).most in let n : refusal_number x ≡ 14 = rw e at z in absurd (omega arith)
   why_ask_short (WhyAsk.long a b l e) z = let n : ◌≡◌ {A = ℕ} 1 14 = rw e at z in absurd (omega arith)
   why_ask_short (WhyAsk.short a b l m e) z = (l, m)
 

@@ -11,11 +11,11 @@ use Rattle.laws.specs.Placed.{placed}
 use Rattle.laws.proofs.Cases.{by_lt}
 use Rattle.laws.proofs.Numbers.{length_bytes, le_bytes}
 use Rattle.laws.proofs.Placing.{placed_fits, placed_short, length_placed}
-use Rattle.numbers.specs.declared.extended_guid.ExtendedGuid.{ExtendedGuid}
-use Rattle.numbers.specs.declared.extended_guid.ExtendedGuid.TheVariants as id
+use Rattle.numbers.specs.Results.ExtendedGuid.{ExtendedGuid}
+use Rattle.numbers.specs.Results.ExtendedGuid as id
 use Rattle.client.specs.Read.{id_numbers, received_numbers}
 use Rattle.client.specs.declared.answer.Received.{Received}
-use Rattle.client.specs.declared.answer.ReadAnswer.TheVariants as answer
+use Rattle.client.specs.Results.ReadAnswer as answer
 use Rattle.report.specs.Report.{numbers_bytes, three_numbers}
 use Rattle.hub.specs.Bench.{received_report, report_after}
 use Rattle.report.proofs.Numbers.{length_numbers}

@@ -2,6 +2,7 @@
 -- refused, and with the one refusal that has a reason. DemandOne.antt says it in the demand's words; who reads that file can skip all of
 -- this one.
 -- Assumes nothing.
+use native.Mathlib.Omega.{arith}
 use mathlib.Core.Path.{◌≡◌, refl, ap, subst, ◌∙◌}
 use mathlib.Core.Logic.{◌⊎◌, inl, inr}
 use mathlib.Core.List.{List, [], ◌∷◌}
@@ -9,27 +10,27 @@ use Prim.Native.Nat.{ℕ}
 use lib.ListN.{length}
 use Rattle.laws.specs.Placed.{placed}
 use Rattle.laws.proofs.Cases.{impossible}
+use Rattle.numbers.specs.Refusals.{refusal_number}
 use Rattle.numbers.specs.declared.refusal.Refusal.{Refusal}
-use Rattle.numbers.specs.declared.refusal.Wrote.{Wrote}
-use Rattle.numbers.specs.declared.refusal.Wrote.TheVariants as wrote
+use Rattle.numbers.specs.Results.Wrote.{Wrote}
+use Rattle.numbers.specs.Results.Wrote as wrote
 use Rattle.talk.specs.declared.range.Range.{Range}
 use Rattle.order.specs.Order.{ranked_numbers}
 use Rattle.store.specs.Accessor.{tell_found}
-use Rattle.store.specs.declared.accessor.Found.{Found}
-use Rattle.store.specs.declared.accessor.Found.TheVariants as found
+use Rattle.store.specs.Results.Found.{Found}
+use Rattle.store.specs.Results.Found as found
 use Rattle.store.specs.declared.element.Element.{Element}
 use Rattle.pages.specs.Answer.{Outcome, refused, answered, number_in, answer_told, rows_after, ranges_after, answer_of, Tells, Gives, TellsLength, WritesAnswer, output_after as answerAfter, knowledge_numbers}
 use Rattle.pages.specs.Cases.{Sends}
-use Rattle.pages.specs.declared.answer.Answered.{Answered}
-use Rattle.pages.specs.declared.answer.Answered.TheVariants.{Sent, Refused}
+use Rattle.pages.specs.Results.Answered.{Answered, Refused, Sent}
 use Rattle.pages.proofs.OneAnswers.{answer_telling_lem}
 use Rattle.pages.proofs.Refusing.{answered_asks, call_sends}
 use Rattle.pages.proofs.TwoCalls.{pair_gives}
 use Rattle.client.specs.AskWritten.{ask_bytes}
 use Rattle.client.specs.Ask.{ask_wrote, ask_output as requestAfter}
 use Rattle.client.specs.Read.{answer_in, tell_read_answer}
-use Rattle.client.specs.declared.answer.ReadAnswer.{ReadAnswer}
-use Rattle.client.specs.declared.answer.ReadAnswer.TheVariants as answer
+use Rattle.client.specs.Results.ReadAnswer.{ReadAnswer}
+use Rattle.client.specs.Results.ReadAnswer as answer
 use Rattle.report.specs.Report.{refusal_report}
 use Rattle.hub.specs.Call.{report_bytes, hub_outcome, HubTells, HubGives, HubTellsLength, HubWritesAnswer}
 use Rattle.hub.specs.Bench.{wrote_report, HubWrites, report_after, element_found, found_report, HubAsks, HubReads, HubFinds}
@@ -56,7 +57,7 @@ LentComes s q rows ranges room Given Untouched r = Comes Given (LentRefused s q 
 
 -- .. and an exported call returns its number, and tells it in the report
 abbrev pub ExportRefused : (Refusal → Type 0) → Type 0 → ℕ → List ℕ → List ℕ → Refusal → Type 0
-ExportRefused IsFault Untouched number report report' x = (number ≡ x.number) × IsFault x × Untouched × (report' ≡ placed (refusal_report x) report)
+ExportRefused IsFault Untouched number report report' x = (number ≡ refusal_number x) × IsFault x × Untouched × (report' ≡ placed (refusal_report x) report)
 
 abbrev pub ExportComes : (Refusal → Type 0) → Type 0 → (Refusal → Type 0) → Type 0 → ℕ → List ℕ → List ℕ → Type 0
 ExportComes IsFault Given Reason Untouched number report report' =
@@ -141,9 +142,9 @@ module _ (s q : List ℕ) (offered n rowCount rangeCount : ℕ) (rows rows' rang
   pair_by (refused x) e h k long = let i = answer_telling_lem (Sent n rowCount rangeCount) (Refused x) h.0 in impossible (cc)
   pair_by (answered w all l) e h k long =
       let i = answer_telling_lem (Sent n rowCount rangeCount) (Sent (length w) (length all) (length l)) h.0 in
-      let a : n ≡ length w = cc (i) in
-      let b : rowCount ≡ length all = cc (i) in
-      let c : rangeCount ≡ length l = cc (i) in
+      let a : n ≡ length w = grind (arith, i) in
+      let b : rowCount ≡ length all = grind (arith, i) in
+      let c : rangeCount ≡ length l = grind (arith, i) in
       let x = result_of s q (length rows) (length ranges) offered w all l e in
       let written : out' ≡ w = all_written s q (answered w all l) w all l refl out out' (long ∙ a) k.3 in
       rw (a, b, c) (x.0, rw (← x.1, ← x.2) (h.1, h.2), rw (← x.1, ← x.2) (k.1, k.2), rw (← x.3) written)
@@ -252,7 +253,7 @@ lent_kept s q rows ranges room Given Untouched r sent (refuses x (i, f, kept) w 
 pub export_kept : (IsFault : Refusal → Type 0) (Given : Type 0) (Reason : Refusal → Type 0) (Untouched : Type 0) (number : ℕ) (report report' : List ℕ)
     → ExportComes IsFault Given Reason Untouched number report report'
     → (((number ≡ 0) × Given) ⊎ RefusedWith IsFault Reason number report report')
-    × ((x : Refusal) → Reason x → (number ≡ x.number) × (report' ≡ placed (refusal_report x) report))
+    × ((x : Refusal) → Reason x → (number ≡ refusal_number x) × (report' ≡ placed (refusal_report x) report))
     × ((number ≡ 0 → ⊥) → Untouched)
 export_kept IsFault Given Reason Untouched number report report' (gives (e, g) none) = (inl (e, g), λ x w. absurd (none x w), λ z. absurd (z e))
 export_kept IsFault Given Reason Untouched number report report' (refuses x (e, f, u, t) w one) = (

@@ -12,8 +12,7 @@ use Rattle.laws.specs.Bytes.{AllBytes}
 use Rattle.laws.proofs.Cases.{pick_all}
 use Rattle.numbers.specs.Refusals.{longest_input}
 use Rattle.objects.specs.Steps.{next_is}
-use Rattle.objects.specs.declared.reading.Reading.{Reading}
-use Rattle.objects.specs.declared.reading.Reading.TheVariants.{At}
+use Rattle.objects.specs.Results.Reading.{At, Reading}
 use Rattle.talk.specs.Ranges.{Normal, AllFit}
 use Rattle.talk.specs.declared.range.Range.{Range}
 use Rattle.store.specs.Knowledge.{most_said, Knowing, item_at, united, knowledge_at}

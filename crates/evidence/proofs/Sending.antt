@@ -9,6 +9,7 @@ use native.Mathlib.Omega.{arith}
 use lib.Dec.{ltb}
 use lib.ListN.{length, take, drop}
 use lib.Seq.{length-take-le}
+use Rattle.std.specs.Prelude.{Ok, Err}
 use Rattle.laws.specs.Bytes.{AllBytes}
 use Rattle.laws.specs.Once.{once}
 use Rattle.laws.proofs.Cases.{impossible}
@@ -34,15 +35,14 @@ use Rattle.order.proofs.Grouping.{each_grouped, length_groups, serials_once}
 use Rattle.order.proofs.Ordering.{rearranged, length_ordered}
 use Rattle.store.proofs.ElementFits.{KeysFit, keys_fit}
 use Rattle.request.specs.Message.{filters_of, request_in}
-use Rattle.request.specs.declared.message.Request.TheVariants as request
+use Rattle.request.specs.Results.Request as request
 use Rattle.request.proofs.RequestFits.{known_normal}
 use Rattle.pages.specs.Answer.{Ask, answered, ask_of, known_in, outcome, on_decided, page_decided, page_outcome, page_measure, page_ranges, page_bytes}
 use Rattle.pages.specs.Choice.{knows_key, lets_group, wanted_in}
 use Rattle.pages.specs.Decision.{sendable}
 use Rattle.pages.specs.Written.{answer_bytes}
 use Rattle.pages.specs.Cases.{Asks}
-use Rattle.pages.specs.declared.page.Decided.{Decided}
-use Rattle.pages.specs.declared.page.Decided.TheVariants.{Sent, Crowded, Short}
+use Rattle.pages.specs.Results.Decided.{Decided}
 use Rattle.pages.proofs.Refusing.{asked_outcome}
 use Rattle.pages.proofs.Stops.{sent_law}
 use Rattle.client.specs.Back.{ReadsBack}
@@ -57,11 +57,10 @@ use Rattle.evidence.proofs.Serials.{knows_groups}
 decided_some : (a : Ask) (room : ℕ) (d : Decided) → page_decided a room ≡ d → (w : List ℕ) (all : List Element) (l : List Range) → on_decided a d ≡ answered w all l
     → (k : ℕ) × Greatest (sendable a.most a.limit room (page_measure a)) (length a.wanted) k × (0 < length a.wanted → 0 < k)
 unfolding on_decided page_decided
-decided_some a room (Sent k whole ranges more) e w all l h =
-    let z = sent_law a.most a.limit room (page_measure a) (length a.wanted) k whole ranges more e in
-    (k, z.greatest, z.some)
-decided_some a room Crowded e w all l h = impossible (cc (h))
-decided_some a room (Short n) e w all l h = impossible (cc (h))
+decided_some a room (Ok x) e w all l h =
+    let z = sent_law a.most a.limit room (page_measure a) (length a.wanted) x.count x.length x.ranges x.more e in
+    (x.count, z.greatest, z.some)
+decided_some a room (Err x) e w all l h = impossible (cc (h))
 
 sent_some : (s q : List ℕ) (a : Ask) (room : ℕ) → Asks s q a → (w : List ℕ) (all : List Element) (l : List Range) → outcome s q room ≡ answered w all l → (k : ℕ)
     → Greatest (sendable a.most a.limit room (page_measure a)) (length a.wanted) k → 0 < length a.wanted → 0 < k

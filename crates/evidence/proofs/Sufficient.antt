@@ -17,8 +17,8 @@ use Rattle.laws.specs.Bytes.{AllBytes}
 use Rattle.laws.proofs.Cases.{by_lt, by_eq}
 use Rattle.numbers.specs.Refusals.{longest_input, tell_wrote}
 use Rattle.numbers.specs.declared.refusal.Refusal.{Refusal}
-use Rattle.numbers.specs.declared.refusal.Wrote.{Wrote}
-use Rattle.numbers.specs.declared.refusal.Wrote.TheVariants as wrote
+use Rattle.numbers.specs.Results.Wrote.{Wrote}
+use Rattle.numbers.specs.Results.Wrote as wrote
 use Rattle.talk.specs.Page.{Greatest}
 use Rattle.talk.proofs.PageRule.{greatest_one}
 use Rattle.store.specs.Knowledge.{most_said}

@@ -10,7 +10,7 @@ use lib.ListN.{length, take, drop, length-take, length-drop}
 use lib.Seq.{take_at}
 use Rattle.laws.specs.Bytes.{AllBytes}
 use Rattle.laws.specs.Placed.{placed}
-use Rattle.numbers.specs.declared.refusal.Wrote.{Wrote}
+use Rattle.numbers.specs.Results.Wrote.{Wrote}
 use Rattle.objects.specs.Steps.{value_of}
 use Rattle.talk.specs.Series.Chain.{done, next}
 use Rattle.talk.specs.Series.Trace.{over, then}
@@ -25,8 +25,8 @@ use Rattle.client.specs.AskWritten.{ask_bytes}
 use Rattle.client.specs.Read.{answer_in}
 use Rattle.client.specs.Back.{ReadBack}
 use Rattle.client.specs.declared.answer.Received.{Received}
-use Rattle.client.specs.declared.answer.ReadAnswer.{ReadAnswer}
-use Rattle.client.specs.declared.answer.ReadAnswer.TheVariants as answer
+use Rattle.client.specs.Results.ReadAnswer.{ReadAnswer}
+use Rattle.client.specs.Results.ReadAnswer as answer
 use Rattle.client.proofs.AskAgain.{knowledge_size, knowledge_sent_back}
 use Rattle.client.proofs.AskRead.{ask_read}
 use Rattle.client.proofs.NextAsk.{filters_fine, knowledge_fine, room_enough}

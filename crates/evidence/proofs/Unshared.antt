@@ -9,9 +9,10 @@ use mathlib.Core.Bool.{Bool, true, not}
 use mathlib.Core.List.{List, [], ◌∷◌, map}
 use Prim.Native.Nat.{ℕ}
 use lib.ListN.{length, take, length-map}
+use Rattle.std.specs.Prelude.{Ok, Err}
 use Rattle.laws.specs.Once.{once}
-use Rattle.objects.specs.declared.reading.Reading.{Reading}
-use Rattle.objects.specs.declared.reading.Reading.TheVariants as reading
+use Rattle.objects.specs.Results.Reading.{Reading}
+use Rattle.objects.specs.Results.Reading as reading
 use Rattle.talk.specs.Wanted.{is_wanted, wanted}
 use Rattle.talk.specs.declared.range.Range.{Range}
 use Rattle.talk.proofs.Delivery.{once_keep}
@@ -28,14 +29,13 @@ use Rattle.order.proofs.Ordering.{rearranged}
 use Rattle.order.proofs.Rearranged.{once_rearranged}
 use Rattle.request.specs.Meaning.{Filter, left_in}
 use Rattle.request.specs.Message.{filters_of, request_in}
-use Rattle.request.specs.declared.message.Request.{Request}
-use Rattle.request.specs.declared.message.Request.TheVariants as request
+use Rattle.request.specs.Results.Request.{Request}
+use Rattle.request.specs.Results.Request as request
 use Rattle.pages.specs.Answer.{Outcome, Ask, ask_for, page_ranges, page_bytes, page_measure, page_decided, on_decided, page_outcome, on_request, on_store, outcome, answer_of, Tells, TellsLength, Gives, WritesAnswer}
 use Rattle.pages.specs.Choice.{knows_key, lets_group, wanted_in}
 use Rattle.pages.specs.Decision.{most_carried}
-use Rattle.pages.specs.declared.answer.Answered.{Answered}
-use Rattle.pages.specs.declared.page.Decided.{Decided}
-use Rattle.pages.specs.declared.page.Decided.TheVariants.{Sent, Crowded, Short}
+use Rattle.pages.specs.Results.Answered.{Answered}
+use Rattle.pages.specs.Results.Decided.{Decided}
 use Rattle.pages.proofs.Lumps.{take_map}
 use Rattle.evidence.specs.Base.{base_wanted, BaseAsk, base_ranges, base_bytes, base_measure, base_decided, on_base_decided, base_page, base_ask_for, on_base_request, on_base_store, base_outcome, base_answer_of}
 use Rattle.evidence.specs.Talk.{serial_of, elements_of, in_row_order, wanted_of}
@@ -116,9 +116,8 @@ module _ (a : BaseAsk) where
 
   single_on : (d : Decided) → on_decided (as_single a) d ≡ on_base_decided a d
   unfolding on_decided on_base_decided
-  single_on (Sent k whole ranges more) = rw (single_bytes k, single_ranges k)
-  single_on Crowded = refl
-  single_on (Short n) = refl
+  single_on (Ok x) = rw (single_bytes x.count, single_ranges x.count)
+  single_on (Err e) = refl
 
   single_page : (room : ℕ) → page_outcome (as_single a) room ≡ base_page a room
   unfolding page_outcome base_page
@@ -148,8 +147,8 @@ module _ (s : List ℕ) (all : List Element) (differ : Unshared all) (q : List �
 
   request_unshared : (room : ℕ) (r : Request) → on_request s all q room r ≡ on_base_request s all q room r
   unfolding on_request on_base_request
-  request_unshared room (request.Asked id limit place count rows) =
-      ap (λ (a : Ask). page_outcome a room) (ask_single most_carried id limit) ∙ single_page (base_ask_for most_carried s all q id limit) room
+  request_unshared room (Ok x) =
+      ap (λ (a : Ask). page_outcome a room) (ask_single most_carried x.id x.limit) ∙ single_page (base_ask_for most_carried s all q x.id x.limit) room
   request_unshared room (request.Refused r) = refl
 
   store_unshared : (room : ℕ) (c : Reading) → on_store s all q room c ≡ on_base_store s all q room c

@@ -20,8 +20,8 @@ use Rattle.store.proofs.Chains.{same_turn}
 use Rattle.request.specs.Meaning.{Filter}
 use Rattle.client.specs.Read.{answer_in}
 use Rattle.client.specs.declared.answer.Received.{Received}
-use Rattle.client.specs.declared.answer.ReadAnswer.{ReadAnswer}
-use Rattle.client.specs.declared.answer.ReadAnswer.TheVariants as read
+use Rattle.client.specs.Results.ReadAnswer.{ReadAnswer}
+use Rattle.client.specs.Results.ReadAnswer as read
 use Rattle.evidence.specs.Calling.{GivesAnswer}
 use Rattle.evidence.specs.Talk.{KeyFits, groups_of, leaves_in, wanted_of, AnsweredAsk}
 use Rattle.order.specs.Groups.{members_of, group_serial}

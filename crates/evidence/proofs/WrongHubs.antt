@@ -13,13 +13,14 @@ use Prim.Native.Nat.{ℕ, ◌+◌, ◌*◌, ◌≤◌, ◌<◌}
 use native.Mathlib.Omega.{arith}
 use lib.ListN.{length, get_or, take, drop, length-append}
 use lib.Seq.{take_at, drop_at}
+use Rattle.std.specs.Prelude.{Ok}
 use Rattle.laws.specs.Bytes.{AllBytes, bytes}
 use Rattle.laws.specs.Once.{seen}
 use Rattle.laws.specs.Placed.{placed}
 use Rattle.laws.specs.Pick.{pick}
 use Rattle.laws.proofs.Cases.{neither, impossible}
 use Rattle.laws.proofs.Twice.{seen_append}
-use Rattle.numbers.specs.Refusals.{too_short}
+use Rattle.numbers.specs.Refusals.{too_short, refusal_number}
 use Rattle.numbers.specs.declared.refusal.Refusal.{Refusal}
 use Rattle.talk.specs.Series.{Answer, is_some, joined_pages}
 use Rattle.talk.specs.Wanted.{is_wanted, wanted}
@@ -36,20 +37,19 @@ use Rattle.enter.proofs.Members.{of_each}
 use Rattle.request.specs.Meaning.{Filter}
 use Rattle.request.specs.Message.{filters_of, request_in}
 use Rattle.request.specs.Response.{version_bytes}
-use Rattle.request.specs.declared.message.Request.{Request}
-use Rattle.request.specs.declared.message.Request.TheVariants as request
+use Rattle.request.specs.Results.Request.{Request}
+use Rattle.request.specs.Results.Request as request
 use Rattle.pages.specs.Answer.{Ask, number_in, known_in, page_bytes, range_rows, outcome, TellsLength, WritesAnswer}
 use Rattle.pages.specs.Cases.{Few, smallest, Asks}
 use Rattle.pages.specs.Choice.{knows_key}
 use Rattle.pages.specs.Written.{answer_bytes}
-use Rattle.pages.specs.declared.answer.Answered.{Answered}
-use Rattle.pages.specs.declared.answer.Answered.TheVariants.{Sent, Refused}
+use Rattle.pages.specs.Results.Answered.{Answered, Refused, Sent}
 use Rattle.pages.proofs.Copying.{length_range_rows}
 use Rattle.client.specs.Back.{set_down}
 use Rattle.client.specs.Read.{package_in, answer_in}
 use Rattle.client.specs.declared.answer.Received.{Received}
-use Rattle.client.specs.declared.answer.ReadAnswer.{ReadAnswer}
-use Rattle.client.specs.declared.answer.ReadAnswer.TheVariants as read
+use Rattle.client.specs.Results.ReadAnswer.{ReadAnswer}
+use Rattle.client.specs.Results.ReadAnswer as read
 use Rattle.report.specs.Report.{refusal_report}
 use Rattle.hub.specs.Call.{HubTellsLength, HubWritesAnswer}
 use Rattle.hub.proofs.Laws.{tables_enough}
@@ -101,7 +101,7 @@ hub_refuses_one number out out' report report' room h z = hub_tells_not_one numb
 -- ---- one that returns one fixed answer: "demand 2 fixes the bytes". Two requests that are answered by the same bytes have the same id
 
 abbrev pub id_asked : Request → ℕ
-id_asked (request.Asked id limit place count known) = id
+id_asked (Ok x) = x.id
 id_asked (request.Refused r) = 0
 
 abbrev id_read : ReadAnswer → ℕ
@@ -158,9 +158,9 @@ same_sent : (n rowCount rangeCount m rowCount' rangeCount' : ℕ) (rows rows' ra
     → Sent n rowCount rangeCount ≡ Sent m rowCount' rangeCount' → LaterKept m rowCount' rangeCount' rows rows' ranges ranges' out out'
     → LaterKept n rowCount rangeCount rows rows' ranges ranges' out out'
 same_sent n rowCount rangeCount m rowCount' rangeCount' rows rows' ranges ranges' out out' e k =
-    let a : n ≡ m = cc in
-    let b : rowCount ≡ rowCount' = cc in
-    let c : rangeCount ≡ rangeCount' = cc in
+    let a : n ≡ m = grind arith in
+    let b : rowCount ≡ rowCount' = grind arith in
+    let c : rangeCount ≡ rangeCount' = grind arith in
     rw (a, b, c) k
 
 pub later_cleared : (s q : List ℕ) (n rowCount rangeCount : ℕ) (rows rows' ranges ranges' out out' : List ℕ)
@@ -196,9 +196,9 @@ rows_filled s q offered rows rows' ranges ranges' n rowCount rangeCount x t =
 not_filled : (s q : List ℕ) (offered n rowCount rangeCount : ℕ) (rows rows' ranges ranges' : List ℕ)
     → ((x : Result s q offered n rowCount rangeCount) → RowsFilled x rows rows' ranges ranges' → ⊥) → LengthTold s q offered (Sent n rowCount rangeCount) rows rows' ranges ranges' → ⊥
 not_filled s q offered n rowCount rangeCount rows rows' ranges ranges' z (m, rowCount', rangeCount', e, x, t) =
-    let a : n ≡ m = cc (e) in
-    let b : rowCount ≡ rowCount' = cc (e) in
-    let c : rangeCount ≡ rangeCount' = cc (e) in
+    let a : n ≡ m = grind (arith, e) in
+    let b : rowCount ≡ rowCount' = grind (arith, e) in
+    let c : rangeCount ≡ rangeCount' = grind (arith, e) in
     let y : Result s q offered n rowCount rangeCount =
     record {
       asked = x.asked;
@@ -386,14 +386,14 @@ then_empty s b fs know know' first second others t x y e f p n m =
 
 abbrev needed_in : Answered → ℕ
 needed_in (Refused r) = r.needed
-needed_in (Sent n rows ranges) = 0
+needed_in (Ok x) = 0
 
 -- what is asked, and how long its smallest page is
 abbrev pub Needed : List ℕ → List ℕ → ℕ → Type 0
 Needed s q n = (a : Ask) × Asks s q a × (n ≡ length (page_bytes a (smallest a)))
 
 pub invented_length : (s q : List ℕ) (r : Refusal) (rows rows' ranges ranges' out out' : List ℕ) → WritesAnswer s q (Refused r) rows rows' ranges ranges' out out'
-    → r.number ≡ 14 → (Needed s q r.needed → ⊥) → ⊥
+    → refusal_number r ≡ 14 → (Needed s q r.needed → ⊥) → ⊥
 invented_length s q r rows rows' ranges ranges' out out' h e z =
     let (tables, a, t) = (demand_one_write_numbers s q (Refused r) rows rows' ranges ranges' out out' h).fourteen.0 e in
     let g = (demand_one_write s q (Refused r) rows rows' ranges ranges' out out' h).given (too_short (length (page_bytes a (smallest a)))) (short tables a t.asks t.few t.needs refl) in
@@ -408,7 +408,7 @@ hub_invented_length s q out out' report report' h z =
 
 -- and the call that tells the length does not invent it either
 pub invented_told : (s q : List ℕ) (offered : ℕ) (r : Refusal) (rows rows' ranges ranges' : List ℕ) → TellsLength s q offered (Refused r) rows rows' ranges ranges'
-    → r.number ≡ 14 → (Needed s q r.needed → ⊥) → ⊥
+    → refusal_number r ≡ 14 → (Needed s q r.needed → ⊥) → ⊥
 invented_told s q offered r rows rows' ranges ranges' h e z =
     let (tables, a, t) = (demand_one_length_numbers s q offered (Refused r) rows rows' ranges ranges' h).fourteen.0 e in
     let g = (demand_one_length s q (Refused r) rows rows' ranges ranges' offered h).given (too_short (length (page_bytes a (smallest a)))) (short tables a t.asks t.few t.needs refl) in

@@ -3,37 +3,36 @@
 -- serial number stands twice nothing has changed, and nothing else speaks of them. How a store was read is the last part, `base_walk`: with 11
 -- for a serial number that stands twice, too. A request is read as it was.
 -- Assumes nothing.
-use Rattle.std.specs.Prelude.{true, List, [], map, ℕ, zero, suc, length, take, ltb}
+use Rattle.std.specs.Prelude.{true, List, [], map, ℕ, zero, suc, length, take, ltb, Ok, Err}
 use Rattle.laws.specs.Pick.{pick}
-use Rattle.numbers.specs.Refusals.{fault_at, too_short, longest_input, over_long}
+use Rattle.numbers.specs.Refusals.{fault_at, longest_input, over_long}
 use Rattle.objects.specs.Types.{package_type, compound_bit, element_type, no_room}
-use Rattle.objects.specs.Steps.{place_of, value_of, run_here, closed, inside, nothing_open, start_here, next_is}
+use Rattle.objects.specs.Steps.{place_of, value_of, run_here, closed, inside, nothing_open, start_here, next_is, on_field}
 use Rattle.objects.specs.Steps as steps
-use Rattle.objects.specs.declared.reading.Reading.{Reading}
-use Rattle.objects.specs.declared.reading.Reading.TheVariants as reading
+use Rattle.objects.specs.Results.Reading.{Reading}
+use Rattle.objects.specs.Results.Reading as reading
 use Rattle.talk.specs.Wanted.{wanted}
 use Rattle.talk.specs.declared.range.Range.{Range}
 use Rattle.store.specs.Held.{ranges_with, storage_index}
-use Rattle.store.specs.Element.{key_here, on_key, judged, id_field, serial_field, opened, element_on, ids_in}
+use Rattle.store.specs.Element.{key_here, judged, id_field, serial_field, opened, element_on, ids_in}
 use Rattle.store.specs.Store.{store_padding, package_start, Walk, walked, closing, on_element, finished, store_walk}
 use Rattle.store.specs.Tables.{most_elements}
 use Rattle.store.specs.declared.element.Element.{Element}
 use Rattle.store.specs.declared.element.Fields.{Fields}
 use Rattle.store.specs.declared.element.Key.{Key}
-use Rattle.store.specs.declared.element.ReadElement.{ReadElement}
-use Rattle.store.specs.declared.element.ReadingKey.{ReadingKey}
+use Rattle.store.specs.Results.ReadElement.{ReadElement}
+use Rattle.store.specs.Results.ReadingKey.{ReadingKey}
 use Rattle.order.specs.Groups.{stored_length}
 use Rattle.order.specs.Order.{ordered, ranked_numbers}
 use Rattle.request.specs.Meaning.{Filter, left_in}
 use Rattle.request.specs.Message.{filters_of, request_in}
-use Rattle.request.specs.declared.message.Request.{Request}
-use Rattle.request.specs.declared.message.Request.TheVariants as request
+use Rattle.request.specs.Results.Request.{Request}
+use Rattle.request.specs.Results.Request as request
 use Rattle.pages.specs.Answer.{Outcome, refused, answered, known_in, knowledge_numbers}
 use Rattle.pages.specs.Choice.{knows_key}
-use Rattle.pages.specs.Decision.{Measure, most_carried, decision}
+use Rattle.pages.specs.Decision.{Measure, most_carried, decision, unsent_refusal}
 use Rattle.pages.specs.Written.{answer_bytes}
-use Rattle.pages.specs.declared.page.Decided.{Decided}
-use Rattle.pages.specs.declared.page.Decided.TheVariants.{Sent, Crowded, Short}
+use Rattle.pages.specs.Results.Decided.{Decided}
 use Rattle.evidence.specs.Talk.{serial_of}
 
 -- "Wanted = filters leave it in, and the knowledge lacks its serial number", in row order
@@ -71,9 +70,8 @@ unfoldable pub base_decided : BaseAsk → ℕ → Decided
 base_decided a room = decision a.most a.limit room (base_measure a) (length a.wanted)
 
 unfoldable pub on_base_decided : BaseAsk → Decided → Outcome
-on_base_decided a (Sent k whole ranges more) = answered (base_bytes a k) a.elements (base_ranges a k)
-on_base_decided a Crowded = refused (fault_at 9 0)
-on_base_decided a (Short n) = refused (too_short n)
+on_base_decided a (Ok x) = answered (base_bytes a x.count) a.elements (base_ranges a x.count)
+on_base_decided a (Err e) = refused (unsent_refusal e)
 
 unfoldable pub base_page : BaseAsk → ℕ → Outcome
 base_page a room = on_base_decided a (base_decided a room)
@@ -92,7 +90,7 @@ base_ask_for most s all q id limit =
     }
 
 unfoldable pub on_base_request : List ℕ → List Element → List ℕ → ℕ → Request → Outcome
-on_base_request s all q room (request.Asked id limit place count rows) = base_page (base_ask_for most_carried s all q id limit) room
+on_base_request s all q room (Ok x) = base_page (base_ask_for most_carried s all q x.id x.limit) room
 on_base_request s all q room (request.Refused r) = refused r
 
 -- the store's faults, then the request's
@@ -118,8 +116,8 @@ unfoldable pub base_fields_of : List Key → List Key → List ℕ → Fields
 base_fields_of ids serials d =
     record {
       id = key_here (id_field ids d);
-      serial = key_here (base_serial_field serials d (on_key (id_field ids d)));
-      last = steps.number store_padding d (on_key (base_serial_field serials d (on_key (id_field ids d))));
+      serial = key_here (base_serial_field serials d (on_field (id_field ids d)));
+      last = steps.number store_padding d (on_field (base_serial_field serials d (on_field (id_field ids d))));
     }
 
 unfoldable pub base_data_of : List Key → List Key → List ℕ → Reading → Reading

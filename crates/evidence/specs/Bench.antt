@@ -6,7 +6,7 @@
 use Rattle.std.specs.Prelude.{◌≡◌, Bool, List, [], ◌∷◌, ◌++◌, ℕ, ◌+◌, ◌-◌, ◌^◌, ◌≤◌, ◌<◌, length, take, drop}
 use Rattle.numbers.specs.Refusals.{longest_input}
 use Rattle.objects.specs.Steps.{value_of}
-use Rattle.objects.specs.declared.reading.Reading.TheVariants.{At}
+use Rattle.objects.specs.Results.Reading.{At}
 use Rattle.store.specs.Knowledge.{most_said}
 use Rattle.store.specs.Store.{store_walk, Stands}
 use Rattle.store.specs.Tables.{most_elements}

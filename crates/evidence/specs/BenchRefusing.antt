@@ -3,7 +3,7 @@
 use Rattle.std.specs.Prelude.{◌≡◌, List, ℕ, ◌≤◌, ◌<◌, length}
 use Rattle.numbers.specs.Refusals.{fault_at, too_short, longest_input}
 use Rattle.numbers.specs.declared.refusal.Refusal.{Refusal}
-use Rattle.objects.specs.declared.reading.Reading.TheVariants.{Refused}
+use Rattle.objects.specs.Results.Reading.{Refused}
 use Rattle.store.specs.Store.{store_walk, Stands}
 use Rattle.request.specs.Message.{in_request}
 use Rattle.client.specs.AskWritten.{ask_bytes}

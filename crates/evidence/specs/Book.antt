@@ -14,9 +14,9 @@ use Rattle.order.specs.Groups.{Group, members}
 use Rattle.request.specs.Meaning.{Filter}
 use Rattle.client.specs.Read.{answer_in}
 use Rattle.client.specs.declared.answer.Received.{Received}
-use Rattle.client.specs.declared.answer.ReadAnswer.TheVariants as answer
+use Rattle.client.specs.Results.ReadAnswer as answer
 use Rattle.book.specs.Keep.{KeepsAnswer}
-use Rattle.book.specs.declared.keep.Keeping.TheVariants.{Book}
+use Rattle.book.specs.Results.Keeping.{Book}
 use Rattle.hub.specs.Keep.{HubKeeps}
 use Rattle.evidence.specs.Calling.{report_number}
 use Rattle.evidence.specs.Puts.{is_new}

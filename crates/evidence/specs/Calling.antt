@@ -4,10 +4,10 @@
 -- Assumes nothing.
 use Rattle.std.specs.Prelude.{◌≡◌, List, ℕ, ◌*◌, ◌≤◌, length, take, drop}
 use Rattle.laws.specs.Bytes.{le}
+use Rattle.numbers.specs.Refusals.{refusal_number}
 use Rattle.numbers.specs.declared.refusal.Refusal.{Refusal}
 use Rattle.pages.specs.Answer.{TellsLength, WritesAnswer}
-use Rattle.pages.specs.declared.answer.Answered.{Answered}
-use Rattle.pages.specs.declared.answer.Answered.TheVariants.{Sent, Refused}
+use Rattle.pages.specs.Results.Answered.{Answered, Refused, Sent}
 use Rattle.hub.specs.Call.{HubTellsLength, HubWritesAnswer}
 use Rattle.evidence.specs.Refusing.{Tables}
 
@@ -34,9 +34,9 @@ pub data GivesAnswer (s q : List ℕ) (room : ℕ) (w : List ℕ) : Type 0 where
 -- they refuse with a number: the call that writes, or the one that tells the length
 pub data GivesRefusal (s q : List ℕ) (room number : ℕ) : Type 0 where
   lent : (r : Refusal) (rows rows' ranges ranges' out out' : List ℕ) → WritesAnswer s q (Refused r) rows rows' ranges ranges' out out' → length out ≡ room
-      → number ≡ r.number → GivesRefusal s q room number
+      → number ≡ refusal_number r → GivesRefusal s q room number
   exported : (out out' report report' : List ℕ) → HubWritesAnswer s q number out out' report report' → length out ≡ room → (number ≡ 0 → ⊥)
       → GivesRefusal s q room number
-  lent_told : (r : Refusal) (rows rows' ranges ranges' : List ℕ) → TellsLength s q room (Refused r) rows rows' ranges ranges' → number ≡ r.number
+  lent_told : (r : Refusal) (rows rows' ranges ranges' : List ℕ) → TellsLength s q room (Refused r) rows rows' ranges ranges' → number ≡ refusal_number r
       → GivesRefusal s q room number
   exported_told : (report report' : List ℕ) → HubTellsLength s q room number report report' → (number ≡ 0 → ⊥) → GivesRefusal s q room number

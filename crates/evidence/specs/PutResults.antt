@@ -7,13 +7,13 @@ use Rattle.laws.specs.Placed.{placed}
 use Rattle.numbers.specs.Refusals.{fault_at, too_short, longest_input}
 use Rattle.numbers.specs.declared.guid.Guid.{Guid}
 use Rattle.numbers.specs.declared.refusal.Refusal.{Refusal}
-use Rattle.objects.specs.declared.reading.Reading.TheVariants.{Refused}
+use Rattle.objects.specs.Results.Reading.{Refused}
 use Rattle.store.specs.Store.{Stands}
 use Rattle.puts.specs.Applied.{entered, put_outcome}
 use Rattle.client.specs.PutWritten.{put_bytes, elements_given}
 use Rattle.client.specs.ReadPut.{put_answer_in, put_answer_end}
 use Rattle.client.specs.declared.put_answer.ReceivedPut.{ReceivedPut}
-use Rattle.client.specs.declared.put_answer.ReadPutAnswer.TheVariants as answer
+use Rattle.client.specs.Results.ReadPutAnswer as answer
 use Rattle.report.specs.Report.{numbers_bytes, three_numbers}
 use Rattle.hub.specs.BenchPut.{widest_number, expected_of, put_report_after}
 

@@ -5,11 +5,11 @@ use Rattle.std.specs.Prelude.{◌≡◌, Bool, true, false, ℕ, suc, ◌+◌, �
 use mathlib.Core.List.{List, [], ◌∷◌, map, Memᴰ as In}
 use Rattle.laws.specs.Once.{seen}
 use Rattle.laws.specs.Pick.{pick}
-use Rattle.numbers.specs.Refusals.{fault_at, too_short, longest_input}
+use Rattle.numbers.specs.Refusals.{fault_at, too_short, longest_input, refusal_number}
 use Rattle.numbers.specs.declared.guid.Guid.{Guid}
 use Rattle.numbers.specs.declared.refusal.Refusal.{Refusal}
 use Rattle.objects.specs.Steps.{value_of}
-use Rattle.objects.specs.declared.reading.Reading.TheVariants.{Refused}
+use Rattle.objects.specs.Results.Reading.{Refused}
 use Rattle.talk.specs.declared.range.Range.{Range}
 use Rattle.store.specs.Element.{key_of, same_key}
 use Rattle.store.specs.Held.{storage_index, stored_bytes}
@@ -107,12 +107,12 @@ pub record KnewEverything (s : List ℕ) (g : Guid) (l : List Range) : Type 0 wh
 -- "one of the numbered refusals of document 01, with the place of the fault", and of Q-1's two: a number from 1 to 16, but not 13, since it is
 -- about tables; one of the inputs, a place that lies within it, and a needed length for 14 alone
 pub record PutFault (inputs : List (List ℕ)) (r : Refusal) : Type 0 where
-  pub least : 1 ≤ r.number
-  pub most : r.number ≤ 16
-  pub no_table : r.number ≡ 13 → ⊥
+  pub least : 1 ≤ refusal_number r
+  pub most : refusal_number r ≤ 16
+  pub no_table : refusal_number r ≡ 13 → ⊥
   pub input : r.input < length inputs
   pub place : r.place ≤ length (get_or inputs r.input [])
-  pub needed : (r.number ≡ 14 → ⊥) → r.needed ≡ 0
+  pub needed : (refusal_number r ≡ 14 → ⊥) → r.needed ≡ 0
 
 -- ---- why a put is refused: "after the request's faults come 15, 16, 9, 1 for the new store, 14 for its buffer, 14 for the output"
 

@@ -1,13 +1,13 @@
 -- What a refusal tells, and why an answering call gives one: "Order: 13; the store's faults; the request's; then 9 for a page; then 14."
 -- Assumes nothing.
 use Rattle.std.specs.Prelude.{◌≡◌, List, [], ◌⊎◌, ℕ, ◌≤◌, ◌<◌, length, get_or}
-use Rattle.numbers.specs.Refusals.{fault_at, too_short}
+use Rattle.numbers.specs.Refusals.{fault_at, too_short, refusal_number}
 use Rattle.numbers.specs.declared.refusal.Refusal.{Refusal}
-use Rattle.objects.specs.declared.reading.Reading.TheVariants as reading
+use Rattle.objects.specs.Results.Reading as reading
 use Rattle.store.specs.Store.{store_walk, Stands}
 use Rattle.order.specs.Order.{ranked_numbers}
 use Rattle.request.specs.Message.{request_in}
-use Rattle.request.specs.declared.message.Request.TheVariants as request'
+use Rattle.request.specs.Results.Request as request'
 use Rattle.pages.specs.Answer.{Ask, page_bytes, page_ranges, knowledge_numbers}
 use Rattle.pages.specs.Cases.{Few, smallest, Asks}
 
@@ -15,11 +15,11 @@ use Rattle.pages.specs.Cases.{Few, smallest, Asks}
 -- within it (an item's place is "where its first byte stands or would stand", so it may be the input's end), and a needed length for 14
 -- alone
 pub record Fault (inputs : List (List ℕ)) (r : Refusal) : Type 0 where
-  pub least : 1 ≤ r.number
-  pub most : r.number ≤ 14
+  pub least : 1 ≤ refusal_number r
+  pub most : refusal_number r ≤ 14
   pub input : r.input < length inputs
   pub place : r.place ≤ length (get_or inputs r.input [])
-  pub needed : (r.number ≡ 14 → ⊥) → r.needed ≡ 0
+  pub needed : (refusal_number r ≡ 14 → ⊥) → r.needed ≡ 0
 
 -- the tables are long enough
 abbrev pub Tables : ℕ → ℕ → Type 0

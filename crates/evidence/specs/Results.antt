@@ -4,20 +4,20 @@
 -- Assumes nothing.
 use Rattle.std.specs.Prelude.{◌≡◌, List, ◌++◌, ℕ, ◌*◌, length, drop}
 use Rattle.laws.specs.Placed.{placed}
+use Rattle.numbers.specs.Refusals.{refusal_number}
 use Rattle.numbers.specs.declared.refusal.Refusal.{Refusal}
 use Rattle.talk.specs.declared.range.Range.{Range}
 use Rattle.ranges.specs.RangeTable.{range_width}
 use Rattle.order.specs.Order.{ordered, ranked_rows, ranked_width}
-use Rattle.store.specs.declared.accessor.Found.TheVariants as found
+use Rattle.store.specs.Results.Found as found
 use Rattle.store.specs.declared.element.Element.{Element}
 use Rattle.pages.specs.Answer.{Ask, range_rows}
 use Rattle.pages.specs.Cases.{Asks, Sends}
-use Rattle.pages.specs.declared.answer.Answered.{Answered}
-use Rattle.pages.specs.declared.answer.Answered.TheVariants.{Sent}
+use Rattle.pages.specs.Results.Answered.{Answered, Sent}
 use Rattle.client.specs.AskWritten.{ask_bytes}
 use Rattle.client.specs.Read.{answer_in}
 use Rattle.client.specs.declared.answer.Received.{Received}
-use Rattle.client.specs.declared.answer.ReadAnswer.TheVariants as answer
+use Rattle.client.specs.Results.ReadAnswer as answer
 use Rattle.report.specs.Report.{three_numbers, refusal_report}
 use Rattle.hub.specs.Bench.{report_after, element_found}
 
@@ -96,7 +96,7 @@ ElementGiven kind s i report report' =
 -- takes; and its reason
 pub record RefusedWith (IsFault Reason : Refusal → Type 0) (number : ℕ) (report report' : List ℕ) : Type 0 where
   pub refusal : Refusal
-  pub number_is : number ≡ refusal.number
+  pub number_is : number ≡ refusal_number refusal
   pub fault : IsFault refusal
   pub reason : Reason refusal
   pub told : report' ≡ placed (refusal_report refusal) report

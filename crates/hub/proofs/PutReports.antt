@@ -7,18 +7,18 @@ use lib.ListN.{length, get_or}
 use borrow.Author.Tests.{lt-ltb, le-ltb, eq-eqb, ne_eqb}
 use Rattle.laws.specs.Placed.{placed}
 use Rattle.laws.proofs.Cases.{impossible}
-use Rattle.numbers.specs.Refusals.{fault_at}
-use Rattle.numbers.specs.declared.extended_guid.ExtendedGuid.TheVariants.{Null, Named}
+use Rattle.numbers.specs.Refusals.{fault_at, refusal_number}
+use Rattle.numbers.specs.Results.ExtendedGuid.{Named, Null}
 use Rattle.numbers.specs.declared.refusal.Refusal.{Refusal}
-use Rattle.numbers.specs.declared.refusal.Wrote.{Wrote}
-use Rattle.numbers.specs.declared.refusal.Wrote.TheVariants as wrote
+use Rattle.numbers.specs.Results.Wrote.{Wrote}
+use Rattle.numbers.specs.Results.Wrote as wrote
 use Rattle.numbers.proofs.OneAnswers.{values_of}
 use Rattle.client.specs.Ask.{ask_output, WroteAs}
 use Rattle.client.specs.PutWritten.{put_bytes, WritesPut}
 use Rattle.client.specs.ReadPut.{received_put_numbers, tell_read_put_answer}
 use Rattle.client.specs.declared.put_answer.ReceivedPut.{ReceivedPut}
-use Rattle.client.specs.declared.put_answer.ReadPutAnswer.{ReadPutAnswer}
-use Rattle.client.specs.declared.put_answer.ReadPutAnswer.TheVariants as answer
+use Rattle.client.specs.Results.ReadPutAnswer.{ReadPutAnswer}
+use Rattle.client.specs.Results.ReadPutAnswer as answer
 use Rattle.report.specs.Report.{refusal_report}
 use Rattle.hub.specs.BenchPut.{widest_number, expected_of, too_wide, put_asked, HubAsksPut, put_report_after, HubReadsPut}
 use Rattle.hub.proofs.Reports.{same_refusal}
@@ -62,7 +62,7 @@ put_told (answer.Is y) x e = (refl, λ report. same_put x y report (values_of _ 
 put_told (answer.Refused r) x e = let v = values_of _ _ e in impossible (cc)
 
 pub put_refused : (a : ReadPutAnswer) (r : Refusal) → tell_read_put_answer (answer.Refused r) ≡ tell_read_put_answer a
-    → (r.number ≡ (tell_read_put_answer a).number) × ((report : List ℕ) → placed (refusal_report r) report ≡ put_report_after a report)
+    → (refusal_number r ≡ (tell_read_put_answer a).number) × ((report : List ℕ) → placed (refusal_report r) report ≡ put_report_after a report)
 unfolding put_report_after
 put_refused (answer.Is y) r e = let v = values_of _ _ e in impossible (cc)
 put_refused (answer.Refused q) r e = let t = same_refusal r q e in (t.0, λ report. ap (λ (v : List ℕ). placed v report) t.1)

@@ -1,37 +1,38 @@
 -- What the answering calls tell, as number and report: their promises, from what deciding leaves behind.
 -- Assumes nothing.
+use native.Mathlib.Omega.{arith}
 use mathlib.Core.Path.{◌≡◌, refl, sym, ap, subst, ◌∙◌}
 use mathlib.Core.List.{List, [], ◌∷◌}
 use Prim.Native.Nat.{ℕ}
 use lib.ListN.{length}
+use Rattle.std.specs.Prelude.{Ok, Err}
 use Rattle.laws.specs.Bytes.{le}
 use Rattle.laws.specs.Placed.{laid, placed}
 use Rattle.laws.proofs.Cases.{impossible}
 use Rattle.laws.proofs.Placing.{laid_front}
-use Rattle.numbers.specs.Refusals.{Told, refuses}
+use Rattle.numbers.specs.Refusals.{Told, refuses, refusal_number}
 use Rattle.numbers.specs.declared.refusal.Refusal.{Refusal}
 use Rattle.objects.specs.Header.{header_at, header_of, sized, start_of, end_of, length_at}
 use Rattle.objects.specs.Steps.{start_of_length, length_is, place_of, start_here, skip, next_is, end_here, finish}
 use Rattle.store.specs.Store.{Walk, package_start, store_walk, nothing_of, beginning_of}
-use Rattle.store.specs.declared.package.Beginning.TheVariants as beginning
+use Rattle.store.specs.Results.Beginning as beginning
 use Rattle.store.proofs.Beginning.{begins_refused, begins_nothing, nothing_held}
 use Rattle.request.specs.Message.{request_in}
-use Rattle.request.specs.declared.message.Request.{Request}
-use Rattle.request.specs.declared.message.Request.TheVariants as request
+use Rattle.request.specs.Results.Request.{Request}
+use Rattle.request.specs.Results.Request as request
 use Rattle.pages.specs.Tables.{sent_bytes}
 use Rattle.pages.specs.Answer.{Ask, Outcome, refused, number_in, ask_of, page_decided, on_request, on_store, outcome, answer_of, output_after}
 use Rattle.pages.specs.Held.{SomeStore, reckoned_on, reckoned_for, Ready, Follows, RequestReckoned}
-use Rattle.pages.specs.declared.page.Decided.{Decided}
-use Rattle.pages.specs.declared.page.Decided.TheVariants as decided
-use Rattle.pages.specs.declared.deciding.Reckoned.{Reckoned}
-use Rattle.pages.specs.declared.deciding.Reckoned.TheVariants as reckoned
+use Rattle.pages.specs.Results.Decided.{Decided}
+use Rattle.pages.specs.Results.Reckoned.{Reckoned}
+use Rattle.pages.specs.Results.Reckoned as reckoned
 use Rattle.pages.specs.declared.write.Sending.{Sending}
 use Rattle.pages.proofs.Stored.{page_follows, refusal_follows}
 use Rattle.report.specs.Report.{three_numbers, refusal_report}
 use Rattle.hub.specs.Call.{report_bytes, HubTellsLength, HubWritesAnswer}
 
 -- two refusals that tell the same have one number and one report
-pub same_refusal : (r q : Refusal) → refuses r ≡ refuses q → (r.number ≡ q.number) × (refusal_report r ≡ refusal_report q)
+pub same_refusal : (r q : Refusal) → refuses r ≡ refuses q → (refusal_number r ≡ refusal_number q) × (refusal_report r ≡ refusal_report q)
 same_refusal r q e = (
   ap (λ (t : Told). t.number) e,
   rw (ap (λ (t : Told). t.input) e, ap (λ (t : Told). t.place) e, ap (λ (t : Told). t.needed) e),
@@ -49,15 +50,14 @@ nothing_outcome s q room h =
 -- a page tells how many elements the store has
 page_counted : (a : Ask) (d : Decided) (page : Sending) (whole n : ℕ) → reckoned_on a d ≡ reckoned.Page page whole n → n ≡ length a.elements
 unfolding reckoned_on
-page_counted a (decided.Sent k m ranges more) page whole n h = cc
-page_counted a decided.Crowded page whole n h = impossible (cc)
-page_counted a (decided.Short m) page whole n h = impossible (cc)
+page_counted a (Ok x) page whole n h = grind arith
+page_counted a (Err e) page whole n h = impossible (cc)
 
 counted_on : (s q : List ℕ) (room : ℕ) (r : Request) (page : Sending) (whole n : ℕ) → reckoned_for s q room r ≡ reckoned.Page page whole n
     → n ≡ length (store_walk s).elements
 unfolding reckoned_for
-counted_on s q room (request.Asked id limit place count rows) page whole n h =
-    page_counted (ask_of s (store_walk s).elements q id limit) (page_decided (ask_of s (store_walk s).elements q id limit) room) page whole n h
+counted_on s q room (Ok x) page whole n h =
+    page_counted (ask_of s (store_walk s).elements q x.id x.limit) (page_decided (ask_of s (store_walk s).elements q x.id x.limit) room) page whole n h
 counted_on s q room (request.Refused r) page whole n h = impossible (cc)
 
 -- so what deciding promises of whatever store stands in empty tables, it promises of this one
@@ -88,12 +88,12 @@ some_store = (0xAC ∷ 0x02 ∷ 0x00 ∷ 0x55 ∷ [], nothing_held (0xAC ∷ 0x0
 -- ---- a refusal
 
 pub refusal_told : (s q : List ℕ) (room : ℕ) (report report' : List ℕ) (r : Refusal) → outcome s q room ≡ refused r → report' ≡ placed (refusal_report r) report
-    → HubTellsLength s q room r.number report report'
+    → HubTellsLength s q room (refusal_number r) report report'
 unfolding answer_of number_in report_bytes
 refusal_told s q room report report' r e p = rw e (refl, p)
 
 pub refusal_written : (s q : List ℕ) (out report report' : List ℕ) (r : Refusal) → outcome s q (length out) ≡ refused r → report' ≡ placed (refusal_report r) report
-    → HubWritesAnswer s q r.number out out report report'
+    → HubWritesAnswer s q (refusal_number r) out out report report'
 unfolding answer_of number_in output_after report_bytes
 refusal_written s q out report report' r e p = rw e (refl, refl, p)
 

@@ -5,18 +5,18 @@ use Rattle.std.specs.Prelude.{◌≡◌, ℕ, List, ◌∷◌, length, eqb}
 use Rattle.laws.specs.Pick.{pick}
 use Rattle.laws.specs.Placed.{placed}
 use Rattle.numbers.specs.Refusals.{tell_wrote}
-use Rattle.numbers.specs.declared.refusal.Wrote.{Wrote}
-use Rattle.numbers.specs.declared.refusal.Wrote.TheVariants as wrote
+use Rattle.numbers.specs.Results.Wrote.{Wrote}
+use Rattle.numbers.specs.Results.Wrote as wrote
 use Rattle.store.specs.Accessor.{found_in, tell_found}
-use Rattle.store.specs.declared.accessor.Found.{Found}
-use Rattle.store.specs.declared.accessor.Found.TheVariants as found
+use Rattle.store.specs.Results.Found.{Found}
+use Rattle.store.specs.Results.Found as found
 use Rattle.client.specs.AskWritten.{ask_bytes}
 use Rattle.client.specs.Ask.{ask_wrote, ask_output}
 use Rattle.client.specs.Read.{answer_in, received_numbers, tell_read_answer}
 use Rattle.client.specs.Accessor.{received_at}
 use Rattle.client.specs.declared.answer.Received.{Received}
-use Rattle.client.specs.declared.answer.ReadAnswer.{ReadAnswer}
-use Rattle.client.specs.declared.answer.ReadAnswer.TheVariants as answer
+use Rattle.client.specs.Results.ReadAnswer.{ReadAnswer}
+use Rattle.client.specs.Results.ReadAnswer as answer
 use Rattle.report.specs.Report.{numbers_bytes, three_numbers, refusal_report}
 
 -- ---- a request written: on success 0, 0 and its length

@@ -5,14 +5,13 @@ use Rattle.std.specs.Prelude.{◌≡◌, Bool, false, ℕ, List, ◌∷◌, leng
 use Rattle.laws.specs.Pick.{pick}
 use Rattle.laws.specs.Placed.{placed}
 use Rattle.numbers.specs.Refusals.{fault_at}
-use Rattle.numbers.specs.declared.extended_guid.ExtendedGuid.{ExtendedGuid}
-use Rattle.numbers.specs.declared.extended_guid.ExtendedGuid.TheVariants.{Null, Named}
-use Rattle.numbers.specs.declared.refusal.Wrote.{Wrote}
-use Rattle.numbers.specs.declared.refusal.Wrote.TheVariants as wrote
+use Rattle.numbers.specs.Results.ExtendedGuid.{ExtendedGuid, Named, Null}
+use Rattle.numbers.specs.Results.Wrote.{Wrote}
+use Rattle.numbers.specs.Results.Wrote as wrote
 use Rattle.client.specs.PutWritten.{put_bytes, put_wrote}
 use Rattle.client.specs.ReadPut.{put_answer_in, received_put_numbers, tell_read_put_answer}
-use Rattle.client.specs.declared.put_answer.ReadPutAnswer.{ReadPutAnswer}
-use Rattle.client.specs.declared.put_answer.ReadPutAnswer.TheVariants as answer
+use Rattle.client.specs.Results.ReadPutAnswer.{ReadPutAnswer}
+use Rattle.client.specs.Results.ReadPutAnswer as answer
 use Rattle.report.specs.Report.{numbers_bytes, three_numbers, refusal_report}
 use Rattle.hub.specs.Bench.{HubWrites}
 

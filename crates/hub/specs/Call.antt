@@ -6,7 +6,7 @@ use Rattle.std.specs.Prelude.{◌≡◌, ℕ, List, length}
 use Rattle.laws.specs.Placed.{placed}
 use Rattle.store.specs.Store.{beginning_of}
 use Rattle.order.specs.Order.{ranked_numbers}
-use Rattle.store.specs.declared.package.Beginning.TheVariants.{Nothing}
+use Rattle.store.specs.Results.Beginning.{Nothing}
 use Rattle.pages.specs.Answer.{Outcome, refused, answered, number_in, knowledge_numbers, answer_of, output_after}
 use Rattle.report.specs.Report.{three_numbers, refusal_report}
 

@@ -1,6 +1,7 @@
 -- What keeping an answer promises in the form exported to C: it returns the refusal number or 0; the new book and the report at exit. On
 -- success the report has 0, 0 and the new book's length.
 -- Assumes nothing.
+use Rattle.numbers.specs.Refusals.{refusal_number}
 use Rattle.std.specs.Prelude.{◌≡◌, ℕ, List, length}
 use Rattle.laws.specs.Placed.{placed}
 use Rattle.book.specs.Keep.{Outcome, refused, kept, keep_outcome, book_after}
@@ -8,7 +9,7 @@ use Rattle.report.specs.Report.{three_numbers, refusal_report}
 
 -- "the refusal number or 0"
 unfoldable pub keep_number : Outcome → ℕ
-keep_number (refused r) = r.number
+keep_number (refused r) = refusal_number r
 keep_number (kept new) = 0
 
 unfoldable pub keep_report : Outcome → List ℕ

@@ -3,6 +3,7 @@
 -- Assumes nothing.
 use Rattle.std.specs.Prelude.{◌≡◌, ℕ, List, [], ◌∷◌, length}
 use Rattle.laws.specs.Placed.{placed}
+use Rattle.numbers.specs.Refusals.{refusal_number}
 use Rattle.numbers.specs.declared.guid.Guid.{Guid}
 use Rattle.puts.specs.Applied.{Outcome, refused, entered, put_outcome, store_after, output_after}
 use Rattle.report.specs.Report.{numbers_bytes, three_numbers, refusal_report}
@@ -13,7 +14,7 @@ guid_of low high = record { low = low; high = high }
 
 -- "the refusal number or 0"
 unfoldable pub put_number : Outcome → ℕ
-put_number (refused r) = r.number
+put_number (refused r) = refusal_number r
 put_number (entered w new) = 0
 
 unfoldable pub put_report : Outcome → List ℕ → List ℕ

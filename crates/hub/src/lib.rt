@@ -3,52 +3,57 @@
 // without elements none of these but for the ranges: to clear them is most of what such a call costs.
 #![tactic(auto)]
 
-ghost use Rattle.std.specs.Prelude.{◌≡◌, ◌∷◌, [], length};
-ghost use Rattle.laws.specs.Pick.{pick};
+ghost use Rattle.std.specs.Prelude.{◌≡◌, ◌≤◌, ◌∷◌, [], take, length};
 ghost use Rattle.store.specs.Accessor.{tell_found};
 ghost use Rattle.store.specs.Store.{beginning_of};
-ghost use Rattle.store.specs.declared.package.Beginning.TheVariants.{Nothing};
+ghost use Rattle.store.specs.Results.Beginning.{Nothing};
 ghost use Rattle.client.specs.Read.{id_numbers};
-ghost use Rattle.client.specs.declared.answer.ReadAnswer.TheVariants.{Is};
-ghost use Rattle.client.specs.declared.put_answer.ReadPutAnswer.TheVariants as put_answer;
+ghost use Rattle.client.specs.Results.ReadAnswer.{Is};
+ghost use Rattle.client.specs.Results.ReadPutAnswer as put_answer;
 ghost use Rattle.client.specs.Ask.{WroteAs};
 ghost use Rattle.client.specs.PutWritten.{put_bytes};
 ghost use Rattle.hub.specs.Call.{HubTellsLength, TellsOfNothing, HubWritesAnswer};
-ghost use Rattle.report.specs.Report.{numbers_bytes, three_numbers};
+ghost use Rattle.report.specs.Report.{numbers_bytes};
 ghost use Rattle.laws.specs.Placed.{placed};
 ghost use Rattle.hub.specs.Bench.{element_found, report_after, HubAsks, HubReads, HubFinds};
 ghost use Rattle.hub.specs.Put.{HubPuts};
 ghost use Rattle.hub.specs.Keep.{HubKeeps};
 ghost use Rattle.hub.specs.BenchPut.{expected_of, put_asked, put_report_after, HubAsksPut, HubReadsPut};
 
-use book::keep::{Keeping, keep};
+use book::keep::keep;
 use client::accessor::find_received;
-use client::answer::{ReadAnswer, Received, read_answer};
+use client::answer::{Received, read_answer};
 use client::ask::write_request;
 use client::put::write_put;
-use client::put_answer::{ReadPutAnswer, ReceivedPut, read_put_answer};
+use client::put_answer::{ReceivedPut, read_put_answer};
 use numbers::extended_guid::ExtendedGuid;
 use numbers::guid::Guid;
-use numbers::refusal::{Wrote, at_place};
-use pages::deciding::{Reckoned, decide_answer, decide_request};
+use numbers::refusal::{Fault, Wrote, at_place};
+use pages::deciding::{decide_answer, decide_request};
 use pages::write::write_answer;
-use puts::apply::{Applied, put};
+use puts::apply::put;
 use report::{done, put_report, refuse};
 use store::accessor::{Found, find_element};
 use store::knowledge::SAID_NUMBERS;
 use store::package::{Beginning, begin_store};
-use store::table::{ID_NUMBERS, MOST_ELEMENTS, ROW_NUMBERS};
+use store::table::{Elements, ID_NUMBERS, MOST_ELEMENTS, ROW_NUMBERS};
 
-// The length where the store has no elements: the working tables of elements are empty.
+// The length where the store has no elements: the working tables of elements are empty. (Neither this and the next nor the two that write
+// are one function: tables of elements, 20 kB, are not put on the stack, and not cleared, where the store has none.)
 fn length_of_nothing(request: &[u8], offered: usize, report: &mut [u8]) -> u64
     ensures { TellsOfNothing request.now offered result report.old report.new }
 {
     let none = [0u64; 0];
     let mut queue = [0u8; 0];
     let mut known = [0u64; SAID_NUMBERS];
-    match decide_request(request, &none, &none, 0, &mut known, &mut queue, offered) {
-        Reckoned::Refused(r) => refuse(report, r),
-        Reckoned::Page(_, whole, _) => done(report, 0, whole),
+    let all = Elements {
+        rows: &none,
+        ids: &none,
+        count: 0,
+    };
+    match decide_request(request, all, &mut known, &mut queue, offered) {
+        Err(r) => refuse(report, r),
+        Ok(x) => done(report, 0, x.length),
     }
 }
 
@@ -69,8 +74,8 @@ fn length_of_elements(store: &[u8], request: &[u8], offered: usize, report: &mut
         &mut known,
         &mut queue,
     ) {
-        Reckoned::Refused(r) => refuse(report, r),
-        Reckoned::Page(_, whole, _) => done(report, 0, whole),
+        Err(r) => refuse(report, r),
+        Ok(x) => done(report, 0, x.length),
     }
 }
 
@@ -80,9 +85,9 @@ pub fn hub_length(store: &[u8], request: &[u8], offered: u64, report: &mut [u8])
     ensures { HubTellsLength store.now request.now offered result report.old report.new }
 {
     match begin_store(store) {
-        Beginning::Refused(r) => refuse(report, r),
-        Beginning::Nothing => length_of_nothing(request, offered as usize, report),
-        Beginning::Elements => length_of_elements(store, request, offered as usize, report),
+        Err(r) => refuse(report, r),
+        Ok(Beginning::Nothing) => length_of_nothing(request, offered as usize, report),
+        Ok(Beginning::Elements) => length_of_elements(store, request, offered as usize, report),
     }
 }
 
@@ -94,11 +99,16 @@ fn write_of_nothing(store: &[u8], request: &[u8], out: &mut [u8], report: &mut [
     let none = [0u64; 0];
     let mut queue = [0u8; 0];
     let mut known = [0u64; SAID_NUMBERS];
-    match decide_request(request, &none, &none, 0, &mut known, &mut queue, out.len()) {
-        Reckoned::Refused(r) => refuse(report, r),
-        Reckoned::Page(page, whole, _) => {
-            write_answer(out, store, &none, &none, &queue, page, &known);
-            done(report, 0, whole)
+    let all = Elements {
+        rows: &none,
+        ids: &none,
+        count: 0,
+    };
+    match decide_request(request, all, &mut known, &mut queue, out.len()) {
+        Err(r) => refuse(report, r),
+        Ok(x) => {
+            write_answer(out, store, &none, &none, &queue, x.page, &known);
+            done(report, 0, x.length)
         }
     }
 }
@@ -120,10 +130,10 @@ fn write_of_elements(store: &[u8], request: &[u8], out: &mut [u8], report: &mut 
         &mut known,
         &mut queue,
     ) {
-        Reckoned::Refused(r) => refuse(report, r),
-        Reckoned::Page(page, whole, _) => {
-            write_answer(out, store, &elements, &ids, &queue, page, &known);
-            done(report, 0, whole)
+        Err(r) => refuse(report, r),
+        Ok(x) => {
+            write_answer(out, store, &elements, &ids, &queue, x.page, &known);
+            done(report, 0, x.length)
         }
     }
 }
@@ -134,18 +144,21 @@ pub fn hub_write(store: &[u8], request: &[u8], out: &mut [u8], report: &mut [u8]
     ensures { HubWritesAnswer store.now request.now result out.old out.new report.old report.new }
 {
     match begin_store(store) {
-        Beginning::Refused(r) => refuse(report, r),
-        Beginning::Nothing => write_of_nothing(store, request, out, report),
-        Beginning::Elements => write_of_elements(store, request, out, report),
+        Err(r) => refuse(report, r),
+        Ok(Beginning::Nothing) => write_of_nothing(store, request, out, report),
+        Ok(Beginning::Elements) => write_of_elements(store, request, out, report),
     }
 }
 
-// What is told of a put that entered: the answer's length and, in a report that has room for it, the new store's.
-fn put_entered(report: &mut [u8], n: usize, m: usize)
-    ensures { report.new ≡ placed (numbers_bytes (0 ∷ 0 ∷ n ∷ m ∷ [])) (placed (three_numbers 0 0 n) report.old) }
+// What is told on success by a call that has more to tell than `done`: all numbers in a report that has room for them, else the first
+// three; and 0.
+fn tell_all(report: &mut [u8], numbers: &[u64]) -> u64
+    requires { 3 ≤ length numbers.now }
+    ensures { (result ≡ 0) × (report.new ≡ placed (numbers_bytes numbers.now) (placed (numbers_bytes (take 3 numbers.now)) report.old)) }
 {
-    done(report, 0, n);
-    put_report(report, &[0, 0, n as u64, m as u64]);
+    put_report(report, &numbers[..3]);
+    put_report(report, numbers);
+    0
 }
 
 // A put applied to a store, under the hub's GUID as two little-endian numbers: 0 if the new store and the output have what they are to
@@ -167,11 +180,8 @@ pub fn hub_put(
         high: guidhigh,
     };
     match put(store, request, g, newstore, out) {
-        Applied::Refused(r) => refuse(report, r),
-        Applied::Entered(n, m) => {
-            put_entered(report, n, m);
-            0
-        }
+        Err(r) => refuse(report, r),
+        Ok((n, m)) => tell_all(report, &[0, 0, n as u64, m as u64]),
     }
 }
 
@@ -188,8 +198,8 @@ pub fn hub_ask(
     ensures { HubAsks id limit filters.now knowledge.now result out.old out.new report.old report.new }
 {
     match write_request(out, id, limit, filters, knowledge) {
-        Wrote::Refused(r) => refuse(report, r),
-        Wrote::Done(n) => done(report, 0, n),
+        Err(r) => refuse(report, r),
+        Ok(n) => done(report, 0, n),
     }
 }
 
@@ -206,13 +216,13 @@ fn index_numbers(x: ExtendedGuid) -> IndexNumbers
     ensures { id_numbers x ≡ result.named ∷ result.low ∷ result.high ∷ result.number ∷ [] }
 {
     match x {
-        ExtendedGuid::Null => IndexNumbers {
+        None => IndexNumbers {
             named: 0,
             low: 0,
             high: 0,
             number: 0,
         },
-        ExtendedGuid::Named(g, n) => IndexNumbers {
+        Some((g, n)) => IndexNumbers {
             named: 1,
             low: g.low,
             high: g.high,
@@ -221,29 +231,17 @@ fn index_numbers(x: ExtendedGuid) -> IndexNumbers
     }
 }
 
-// The mark as a number.
-fn mark_number(partial: bool) -> u64
-    ensures { result ≡ pick partial 1 0 }
-{
-    if partial {
-        return 1;
-    }
-    0
-}
-
 // Where the knowledge to send back stands; and, in a report that has room for it, all that came.
-fn put_received(report: &mut [u8], x: Received)
-    ensures { report.new ≡ report_after (Is x) report.old }
+fn tell_received(report: &mut [u8], x: Received) -> u64
+    ensures { (result ≡ 0) × (report.new ≡ report_after (Is x) report.old) }
 {
-    let named = x.index;
-    let index = index_numbers(named);
-    done(report, x.knowledge, x.length);
+    let index = index_numbers(x.index);
     let all = [
         0,
         x.knowledge as u64,
         x.length as u64,
         x.id,
-        mark_number(x.partial),
+        u64::from(x.partial),
         x.elements as u64,
         x.count as u64,
         index.named,
@@ -251,7 +249,7 @@ fn put_received(report: &mut [u8], x: Received)
         index.high,
         index.number,
     ];
-    put_report(report, &all);
+    tell_all(report, &all)
 }
 
 // An answer, read. Ruled out (proofs/WrongAnswers), of no bytes: 0; a report of one byte that is written to.
@@ -259,16 +257,10 @@ pub fn hub_read(answer: &[u8], report: &mut [u8]) -> u64
     ensures { HubReads answer.now result report.old report.new }
 {
     match read_answer(answer) {
-        ReadAnswer::Refused(r) => refuse(report, r),
-        ReadAnswer::Is(x) => {
-            put_received(report, x);
-            0
-        }
+        Err(r) => refuse(report, r),
+        Ok(x) => tell_received(report, x),
     }
 }
-
-// The number of an extended GUID has 32 bits.
-const WIDEST_NUMBER: u64 = 0xFFFFFFFF;
 
 // The put, with the storage index that is expected as numbers.
 fn ask_put(
@@ -283,13 +275,13 @@ fn ask_put(
     ensures { WroteAs (put_asked id named low high number elements.now (length out.old)) (put_bytes id (expected_of named low high number) elements.now) result out.old out.new }
 {
     if named == 0 {
-        return write_put(out, id, ExtendedGuid::Null, elements);
+        return write_put(out, id, None, elements);
     }
-    if WIDEST_NUMBER < number {
-        return Wrote::Refused(at_place(3, 0));
-    }
-    let g = Guid { low, high };
-    write_put(out, id, ExtendedGuid::Named(g, number as u32), elements)
+    // The number of an extended GUID has 32 bits.
+    let Ok(number) = u32::try_from(number) else {
+        return Err(at_place(Fault::NoForm, 0));
+    };
+    write_put(out, id, Some((Guid { low, high }, number)), elements)
 }
 
 // The put that a bench sends, of elements that stand one behind the other. It expects no storage index if `named` is 0, else the one
@@ -308,18 +300,16 @@ pub fn hub_ask_put(
     ensures { HubAsksPut id named guid_low guid_high number elements.now result out.old out.new report.old report.new }
 {
     match ask_put(out, id, named, guid_low, guid_high, number, elements) {
-        Wrote::Refused(r) => refuse(report, r),
-        Wrote::Done(n) => done(report, 0, n),
+        Err(r) => refuse(report, r),
+        Ok(n) => done(report, 0, n),
     }
 }
 
 // Where the knowledge stands that the answer to a put tells; and, in a report that has room for it, the id.
-fn put_handed(report: &mut [u8], x: ReceivedPut)
-    ensures { report.new ≡ put_report_after (put_answer.Is x) report.old }
+fn tell_handed(report: &mut [u8], x: ReceivedPut) -> u64
+    ensures { (result ≡ 0) × (report.new ≡ put_report_after (put_answer.Is x) report.old) }
 {
-    done(report, x.knowledge, x.length);
-    let all = [0, x.knowledge as u64, x.length as u64, x.id];
-    put_report(report, &all);
+    tell_all(report, &[0, x.knowledge as u64, x.length as u64, x.id])
 }
 
 // The answer to a put, read. Ruled out (proofs/WrongAnswers), of no bytes: 0; a report of one byte that is written to.
@@ -327,11 +317,8 @@ pub fn hub_read_put(answer: &[u8], report: &mut [u8]) -> u64
     ensures { HubReadsPut answer.now result report.old report.new }
 {
     match read_put_answer(answer) {
-        ReadPutAnswer::Refused(r) => refuse(report, r),
-        ReadPutAnswer::Is(x) => {
-            put_handed(report, x);
-            0
-        }
+        Err(r) => refuse(report, r),
+        Ok(x) => tell_handed(report, x),
     }
 }
 
@@ -351,8 +338,8 @@ pub fn hub_element(kind: u64, bytes: &[u8], position: u64, report: &mut [u8]) ->
     ensures { HubFinds kind bytes.now position result report.old report.new }
 {
     match find_in(kind, bytes, position as usize) {
-        Found::Refused(r) => refuse(report, r),
-        Found::At(at, n) => done(report, at, n),
+        Err(r) => refuse(report, r),
+        Ok((at, n)) => done(report, at, n),
     }
 }
 
@@ -363,7 +350,7 @@ pub fn hub_keep(book: &[u8], answer: &[u8], newbook: &mut [u8], report: &mut [u8
     ensures { HubKeeps book.now answer.now result newbook.old newbook.new report.old report.new }
 {
     match keep(book, answer, newbook) {
-        Keeping::Refused(r) => refuse(report, r),
-        Keeping::Book(n) => done(report, 0, n),
+        Err(r) => refuse(report, r),
+        Ok(n) => done(report, 0, n),
     }
 }

@@ -8,7 +8,7 @@ use borrow.Author.Tests.{lt-ltb, le-ltb}
 use Rattle.laws.proofs.Placing.{placed_fits, placed_short}
 use Rattle.numbers.specs.Refusals.{Told, refuses, longest_input, over_long, too_short}
 use Rattle.numbers.specs.Calls.{single, written, Writes}
-use Rattle.numbers.specs.declared.refusal.Wrote.TheVariants.{Done, Refused}
+use Rattle.numbers.specs.Results.Wrote.{Done, Refused}
 
 -- ---- reading
 

@@ -21,7 +21,7 @@ use Rattle.laws.proofs.Numbers.{length_bytes, le_lt, take_bytes}
 use Rattle.numbers.specs.Refusals.{fault}
 use Rattle.numbers.specs.Compact.{size_of, compact_value, read_form, read_compact, form_of, with_form, compact_bytes}
 use Rattle.numbers.specs.CompactTable.{FormRow, form_table, InRange, row_bytes, HasLowBits, row_value, row_reads, RuleFollows, row_at, ExactlyOneRow, RuleIsTable}
-use Rattle.numbers.specs.declared.compact.Compact.TheVariants.{Value, Refused}
+use Rattle.numbers.specs.Results.Compact.{Refused, Value}
 use Rattle.numbers.proofs.LowestBit.{zeros_lt, zeros_not_zero, zeros_with_form, zeros_low}
 use Rattle.numbers.proofs.Forms.{size_long, size_short, size_pos, pow_seven, form_is, form_of_le, form_of_least, form_of_most, compact_is, value_lt, value_fits}
 use Rattle.numbers.proofs.RoundTrip.{read_written}

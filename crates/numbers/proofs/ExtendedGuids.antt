@@ -19,10 +19,8 @@ use Rattle.numbers.specs.Guid.{guid_at, guid_bytes, tagged_bytes, GuidFits}
 use Rattle.numbers.specs.ExtendedGuid.{named_of, short_form, long_form, form_of_id, read_extended_guid, short_bytes, named_bytes, extended_guid_bytes, ExtendedGuidFits}
 use Rattle.numbers.specs.declared.guid.Guid.{Guid}
 use Rattle.numbers.specs.Refusals.{fault}
-use Rattle.numbers.specs.declared.extended_guid.ExtendedGuid.{ExtendedGuid}
-use Rattle.numbers.specs.declared.extended_guid.ExtendedGuid.TheVariants.{Null, Named}
-use Rattle.numbers.specs.declared.extended_guid.ReadExtendedGuid.{ReadExtendedGuid}
-use Rattle.numbers.specs.declared.extended_guid.ReadExtendedGuid.TheVariants.{Value, Refused}
+use Rattle.numbers.specs.Results.ExtendedGuid.{ExtendedGuid, Named, Null}
+use Rattle.numbers.specs.Results.ReadExtendedGuid.{ReadExtendedGuid, Refused, Value}
 use Rattle.numbers.proofs.LowestBit.{zeros_mod, zeros_with_form, zeros_low, with_form_value}
 use Rattle.numbers.proofs.Guids.{length_guid, length_tagged, tagged_parts, tagged_same, guid_read_written, guid_written_read, guid_at_fits}
 
@@ -190,7 +188,7 @@ named_read n g x least s i u e =
     (λ h.
     by_lt x least
     (λ k. let z : Refused (fault 3) ≡ Value i u = rw (le-ltb _ _ h, lt-ltb _ _ k) at e in impossible (cc))
-    (λ k. let z : Value (Named (guid_at (drop g s)) x) n ≡ Value i u = rw (le-ltb _ _ h, le-ltb _ _ k) at e in (h, k, cc, cc)))
+    (λ k. let z : Value (Named (guid_at (drop g s)) x) n ≡ Value i u = rw (le-ltb _ _ h, le-ltb _ _ k) at e in (h, k, grind arith, grind arith)))
 
 -- what a reader's answer must be: the bytes used are those that are written for the value, which fits
 abbrev Same : List ℕ → ExtendedGuid → ℕ → Type 0
@@ -253,8 +251,8 @@ extended_guid_written_read (c ∷ s) i u b r =
     by_eq c 0
     (λ e.
     let x : Value Null 1 ≡ Value i u = rw (ne_eqb _ _ n, eq-eqb c 0 e) at r in
-    let ei : i ≡ Null = cc in
-    let eu : u ≡ 1 = cc in
+    let ei : i ≡ Null = grind arith in
+    let eu : u ≡ 1 = grind arith in
     rw (ei, eu, e) (refl, tt))
     (λ z.
     let x : form_of_id (count_trailing_zeros 8 c) (c ∷ s) ≡ Value i u = rw (ne_eqb _ _ n, ne_eqb c 0 z) at r in

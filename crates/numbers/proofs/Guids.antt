@@ -107,7 +107,7 @@ guid_order a b =
     rw (← half_order a.low b.low, ← half_order b.low a.low, ← half_order a.high b.high)
     (before_append (bytes 8 a.low) (bytes 8 b.low) (bytes 8 a.high) (bytes 8 b.high) (length_bytes 8 a.low ∙ sym (length_bytes 8 b.low)))
 
--- the number that the code computes: each byte at its place from the other end
+-- each byte at its place from the other end
 pub swapped_is : (x : ℕ)
     → swapped x
     ≡ x % 256 * 72057594037927936 + x / 256 % 256 * 281474976710656 + x / 65536 % 256 * 1099511627776 + x / 16777216 % 256 * 4294967296

@@ -1,3 +1,4 @@
+pub mod Faults
 pub mod LowestBit
 pub mod Forms
 pub mod Calls

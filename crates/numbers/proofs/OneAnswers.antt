@@ -1,25 +1,27 @@
 -- Each call for a single item determines its answer, and the buffer that it is lent: any two that its promise allows are equal.
 -- Assumes nothing.
-use mathlib.Core.Path.{◌≡◌, ap}
+use mathlib.Core.Path.{◌≡◌, ap, sym, ◌∙◌}
 use mathlib.Core.Bool.{true, false}
 use Prim.Native.Nat.{ℕ}
 use mathlib.Core.List.{List, [], ◌∷◌}
 use Rattle.laws.proofs.Cases.{impossible}
 use Rattle.laws.proofs.OneAnswer.{Telling, one_answer, one_outcome}
-use Rattle.numbers.specs.Refusals.{Told, refuses, tell_wrote}
+use Rattle.numbers.specs.Refusals.{Told, refuses, tell_wrote, number_of, fault_of}
 use Rattle.numbers.specs.Calls.{tell_compact, tell_extended_guid, tell_serial, ReadsCompact, ReadsExtendedGuid, ReadsSerial, Writes}
+use Rattle.numbers.specs.declared.refusal.Fault.{Fault}
 use Rattle.numbers.specs.declared.refusal.Refusal.{Refusal}
+use Rattle.numbers.proofs.Faults.{fault_of_number}
 use Rattle.numbers.specs.declared.guid.Guid.{Guid}
-use Rattle.numbers.specs.declared.refusal.Wrote.{Wrote}
-use Rattle.numbers.specs.declared.refusal.Wrote.TheVariants as wrote
-use Rattle.numbers.specs.declared.compact.Compact.{Compact}
-use Rattle.numbers.specs.declared.compact.Compact.TheVariants as compact
-use Rattle.numbers.specs.declared.extended_guid.ExtendedGuid.TheVariants as id
-use Rattle.numbers.specs.declared.extended_guid.ReadExtendedGuid.{ReadExtendedGuid}
-use Rattle.numbers.specs.declared.extended_guid.ReadExtendedGuid.TheVariants as extended
-use Rattle.numbers.specs.declared.serial.Serial.TheVariants as number
-use Rattle.numbers.specs.declared.serial.ReadSerial.{ReadSerial}
-use Rattle.numbers.specs.declared.serial.ReadSerial.TheVariants as serial
+use Rattle.numbers.specs.Results.Wrote.{Wrote}
+use Rattle.numbers.specs.Results.Wrote as wrote
+use Rattle.numbers.specs.Results.Compact.{Compact}
+use Rattle.numbers.specs.Results.Compact as compact
+use Rattle.numbers.specs.Results.ExtendedGuid as id
+use Rattle.numbers.specs.Results.ReadExtendedGuid.{ReadExtendedGuid}
+use Rattle.numbers.specs.Results.ReadExtendedGuid as extended
+use Rattle.numbers.specs.Results.Serial as number
+use Rattle.numbers.specs.Results.ReadSerial.{ReadSerial}
+use Rattle.numbers.specs.Results.ReadSerial as serial
 
 -- ---- an answer is known by what it tells
 
@@ -27,11 +29,15 @@ use Rattle.numbers.specs.declared.serial.ReadSerial.TheVariants as serial
 pub values_of : (a b : Told) → a ≡ b → a.values ≡ b.values
 values_of a b e = ap (λ (t : Told). t.values) e
 
--- what holds four numbers, or two, is known by them
-abbrev refusal_of : ℕ → ℕ → ℕ → ℕ → Refusal
-refusal_of n i p d = record { number = n; input = i; place = p; needed = d }
+-- what holds a fault and three numbers, or two numbers, is known by them
+abbrev refusal_of : Fault → ℕ → ℕ → ℕ → Refusal
+refusal_of f i p d = record { fault = f; input = i; place = p; needed = d }
 
-same_refusal : {n i p d n' i' p' d' : ℕ} → n ≡ n' → i ≡ i' → p ≡ p' → d ≡ d' → refusal_of n i p d ≡ refusal_of n' i' p' d'
+-- faults of one number are the same
+same_fault : (f g : Fault) → number_of f ≡ number_of g → f ≡ g
+same_fault f g e = sym (fault_of_number f) ∙ (ap fault_of e ∙ fault_of_number g)
+
+same_refusal : {f f' : Fault} {i p d i' p' d' : ℕ} → f ≡ f' → i ≡ i' → p ≡ p' → d ≡ d' → refusal_of f i p d ≡ refusal_of f' i' p' d'
 same_refusal a b c d = cc
 
 abbrev pub guid_of_lem : ℕ → ℕ → Guid
@@ -42,7 +48,7 @@ same_guid a b = cc
 
 pub refuses_telling : Telling refuses
 refuses_telling r q e =
-    same_refusal (ap (λ (t : Told). t.number) e) (ap (λ (t : Told). t.input) e) (ap (λ (t : Told). t.place) e) (ap (λ (t : Told). t.needed) e)
+    same_refusal (same_fault r.fault q.fault (ap (λ (t : Told). t.number) e)) (ap (λ (t : Told). t.input) e) (ap (λ (t : Told). t.place) e) (ap (λ (t : Told). t.needed) e)
 
 pub wrote_telling : Telling tell_wrote
 wrote_telling (wrote.Done n) (wrote.Done m) e = let v = values_of _ _ e in cc

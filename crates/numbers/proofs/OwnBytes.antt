@@ -20,13 +20,11 @@ use Rattle.numbers.specs.Compact.{size_of, compact_value, read_form, read_compac
 use Rattle.numbers.specs.Guid.{guid_at}
 use Rattle.numbers.specs.ExtendedGuid.{named_of, short_form, long_form, form_of_id, read_extended_guid}
 use Rattle.numbers.specs.Serial.{numbered, read_serial}
-use Rattle.numbers.specs.declared.compact.Compact.TheVariants as compact
-use Rattle.numbers.specs.declared.extended_guid.ExtendedGuid.{ExtendedGuid}
-use Rattle.numbers.specs.declared.extended_guid.ExtendedGuid.TheVariants.{Named}
-use Rattle.numbers.specs.declared.extended_guid.ReadExtendedGuid.TheVariants as extended
-use Rattle.numbers.specs.declared.serial.Serial.{Serial}
-use Rattle.numbers.specs.declared.serial.Serial.TheVariants.{Numbered}
-use Rattle.numbers.specs.declared.serial.ReadSerial.TheVariants as serial
+use Rattle.numbers.specs.Results.Compact as compact
+use Rattle.numbers.specs.Results.ExtendedGuid.{ExtendedGuid, Named}
+use Rattle.numbers.specs.Results.ReadExtendedGuid as extended
+use Rattle.numbers.specs.Results.Serial.{Numbered, Serial}
+use Rattle.numbers.specs.Results.ReadSerial as serial
 use Rattle.numbers.proofs.RoundTrip.{accepted_value}
 
 -- the first byte
@@ -45,7 +43,7 @@ read_form_own k s t v n padded e a =
     (λ l. let x : compact.Refused (fault 2) ≡ compact.Value v n padded = rw (lt-ltb _ _ l) at e in impossible (cc))
     (λ l.
     let x : compact.Value (compact_value k s) (size_of k) (ltb (compact_value k s) (128 ^ k)) ≡ compact.Value v n padded = rw (le-ltb _ _ l) at e in
-    let q : size_of k ≡ n = cc in
+    let q : size_of k ≡ n = grind arith in
     let w : take (size_of k) t ≡ take (size_of k) s = rw q (sym a.same) in
     let m : size_of k ≤ length t = rw q a.long in
     rw (le-ltb _ _ m, w) x)
@@ -89,7 +87,7 @@ named_own n g x y least s t i u p l same e a =
     (λ k. let z : extended.Refused (fault 3) ≡ extended.Value i u = rw (le-ltb _ _ h, lt-ltb _ _ k) at e in impossible (cc))
     (λ k.
     let z : extended.Value (Named (guid_at (drop g s)) x) n ≡ extended.Value i u = rw (le-ltb _ _ h, le-ltb _ _ k) at e in
-    let q : n ≡ u = cc in
+    let q : n ≡ u = grind arith in
     let b : Agree s t n = rw q a in
     let m : n ≤ length t = b.long in
     rw (← same b, le-ltb _ _ m, le-ltb _ _ k, ← guid_own s t n g l b) z))
@@ -137,7 +135,7 @@ numbered_own s t i n e a =
     (λ h. let z : serial.Refused (fault 2) ≡ serial.Value i n = rw (lt-ltb _ _ h) at e in impossible (cc))
     (λ h.
     let z : serial.Value (Numbered (guid_at (drop 1 s)) (le (take 8 (drop 17 s)))) 25 ≡ serial.Value i n = rw (le-ltb _ _ h) at e in
-    let q : 25 ≡ n = cc in
+    let q : 25 ≡ n = grind arith in
     let b : Agree s t 25 = rw q a in
     let m : 25 ≤ length t = b.long in
     rw (le-ltb _ _ m, ← guid_own s t 25 1 (omega arith) b, ← same_part s t 25 17 8 (omega arith) b.same) z)

@@ -17,7 +17,7 @@ use Rattle.laws.specs.Bytes.{AllBytes}
 use Rattle.laws.proofs.Cases.{by_lt, by_eq, impossible}
 use Rattle.numbers.specs.Refusals.{fault}
 use Rattle.numbers.specs.Compact.{size_of, compact_value, read_form, read_compact, padding_refused, accepted, compact_for, form_of, compact_bytes}
-use Rattle.numbers.specs.declared.compact.Compact.TheVariants.{Value, Refused}
+use Rattle.numbers.specs.Results.Compact.{Refused, Value}
 use Rattle.numbers.proofs.LowestBit.{zeros_lt}
 use Rattle.numbers.proofs.Forms.{size_short, size_over, form_of_least, length_compact}
 use Rattle.numbers.proofs.RoundTrip.{read_written, written_unpadded, accepted_value, value_read_fits, taken_fits, written_read}
@@ -59,7 +59,7 @@ marked_not_written s v n b e w =
     read_written v (value_read_fits s v n true b e) (drop n s) in
     let y : compact_bytes v ++ drop n s ≡ s = ap (λ (u : List ℕ). u ++ drop n s) (sym w) ∙ take-append-drop n s in
     let z : Value v n true ≡ Value v (length (compact_bytes v)) false = sym e ∙ ap read_compact (sym y) ∙ x in
-    impossible (cc)
+    impossible (grind arith)
 
 -- a value below a form's range is written in fewer bytes
 form_shorter : (k v : ℕ) → k ≤ 7 → v ≢ 0 → v < 128 ^ k → length (compact_bytes v) < size_of k
@@ -80,16 +80,16 @@ padded_longer s v n b e z =
     (λ o. let x : Refused (fault 2) ≡ Value v n true = rw (eq-eqb _ _ o) at e in impossible (cc))
     (λ o.
     by_eq (get_or s 0 0) 0
-    (λ f. let x : Value 0 1 false ≡ Value v n true = rw (ne_eqb _ _ o, eq-eqb _ _ f) at e in impossible (cc))
+    (λ f. let x : Value 0 1 false ≡ Value v n true = rw (ne_eqb _ _ o, eq-eqb _ _ f) at e in impossible (grind arith))
     (λ f.
     let k = count_trailing_zeros 8 (get_or s 0 0) in
     by_lt (length s) (size_of k)
     (λ l. let x : Refused (fault 2) ≡ Value v n true = rw (ne_eqb _ _ o, ne_eqb _ _ f, lt-ltb _ _ l) at e in impossible (cc))
     (λ l.
     let x : Value (compact_value k s) (size_of k) (ltb (compact_value k s) (128 ^ k)) ≡ Value v n true = rw (ne_eqb _ _ o, ne_eqb _ _ f, le-ltb _ _ l) at e in
-    let ev : compact_value k s ≡ v = cc in
-    let en : size_of k ≡ n = cc in
-    let el : ltb (compact_value k s) (128 ^ k) ≡ true = cc in
+    let ev : compact_value k s ≡ v = grind arith in
+    let en : size_of k ≡ n = grind arith in
+    let el : ltb (compact_value k s) (128 ^ k) ≡ true = grind arith in
     let low : compact_value k s < 128 ^ k = ltb-true _ _ el in
     rw (← en) (form_shorter k v (omega (arith, zeros_lt 8 (get_or s 0 0) (b 0) f)) z (rw ev at low)))))
 

@@ -18,8 +18,7 @@ use Rattle.laws.proofs.Cases.{by_lt, by_eq, impossible}
 use Rattle.laws.proofs.Numbers.{take_bytes, length_bytes, le_bytes, bytes_le, first_byte, low_byte}
 use Rattle.numbers.specs.Refusals.{fault}
 use Rattle.numbers.specs.Compact.{size_of, compact_value, read_form, read_compact, accepted, compact_for, form_of, with_form, compact_bytes}
-use Rattle.numbers.specs.declared.compact.Compact.{Compact}
-use Rattle.numbers.specs.declared.compact.Compact.TheVariants.{Value, Refused}
+use Rattle.numbers.specs.Results.Compact.{Compact, Refused, Value}
 use Rattle.numbers.proofs.LowestBit.{zeros_lt, zeros_not_zero, zeros_mod, zeros_with_form, zeros_low, with_form_value}
 use Rattle.numbers.proofs.Forms.{size_pos, form_is, form_of_le, form_of_least, with_form_lt, compact_is, length_compact, value_lt, value_fits}
 
@@ -70,14 +69,14 @@ value_read_fits s v n padded b e =
     (λ z. let x : Refused (fault 2) ≡ Value v n padded = rw (eq-eqb _ _ z) at e in impossible (cc))
     (λ z.
     by_eq (get_or s 0 0) 0
-    (λ f. let x : Value 0 1 false ≡ Value v n padded = rw (ne_eqb _ _ z, eq-eqb _ _ f) at e in let q : 0 ≡ v = cc in rw (← q) (omega arith))
+    (λ f. let x : Value 0 1 false ≡ Value v n padded = rw (ne_eqb _ _ z, eq-eqb _ _ f) at e in let q : 0 ≡ v = grind arith in rw (← q) (omega arith))
     (λ f.
     let k = count_trailing_zeros 8 (get_or s 0 0) in
     by_lt (length s) (size_of k)
     (λ l. let x : Refused (fault 2) ≡ Value v n padded = rw (ne_eqb _ _ z, ne_eqb _ _ f, lt-ltb _ _ l) at e in impossible (cc))
     (λ l.
     let x : Value (compact_value k s) (size_of k) (ltb (compact_value k s) (128 ^ k)) ≡ Value v n padded = rw (ne_eqb _ _ z, ne_eqb _ _ f, le-ltb _ _ l) at e in
-    let q : compact_value k s ≡ v = cc in
+    let q : compact_value k s ≡ v = grind arith in
     rw (← q) (value_fits k s b (zeros_lt 8 (get_or s 0 0) (b 0) f)))))
 
 -- what a caller takes is what is there
@@ -111,9 +110,9 @@ form_read s k v n b ek hk r =
     (λ l. let x : Refused (fault 2) ≡ Value v n false = rw (lt-ltb _ _ l) at r in impossible (cc))
     (λ l.
     let x : Value (compact_value k s) (size_of k) (ltb (compact_value k s) (128 ^ k)) ≡ Value v n false = rw (le-ltb _ _ l) at r in
-    let ev : compact_value k s ≡ v = cc in
-    let en : size_of k ≡ n = cc in
-    let el : ltb (compact_value k s) (128 ^ k) ≡ false = cc in
+    let ev : compact_value k s ≡ v = grind arith in
+    let en : size_of k ≡ n = grind arith in
+    let el : ltb (compact_value k s) (128 ^ k) ≡ false = grind arith in
     rw (← ev, ← en) (value_written s k b ek hk l (ltb-false _ _ el)))
 
 bytes_written : (s : List ℕ) (v n : ℕ) → AllBytes s → read_compact s ≡ Value v n false → take n s ≡ compact_bytes v
@@ -123,8 +122,8 @@ bytes_written (c ∷ s) v n b r =
     by_eq c 0
     (λ e.
     let x : Value 0 1 false ≡ Value v n false = simp (ne_eqb (suc (length s)) 0 (omega arith), eq-eqb c 0 e) at r in
-    let ev : 0 ≡ v = cc in
-    let en : 1 ≡ n = cc in
+    let ev : 0 ≡ v = grind arith in
+    let en : 1 ≡ n = grind arith in
     rw (← ev, ← en, e))
     (λ z.
     let x : read_form (count_trailing_zeros 8 c) (c ∷ s) ≡ Value v n false = simp (ne_eqb (suc (length s)) 0 (omega arith), ne_eqb c 0 z) at r in

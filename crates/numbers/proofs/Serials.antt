@@ -13,9 +13,8 @@ use Rattle.numbers.specs.Refusals.{fault}
 use Rattle.numbers.specs.Guid.{guid_at, guid_bytes, tagged_bytes, GuidFits}
 use Rattle.numbers.specs.Serial.{numbered, read_serial, serial_bytes, SerialFits}
 use Rattle.numbers.specs.declared.guid.Guid.{Guid}
-use Rattle.numbers.specs.declared.serial.Serial.{Serial}
-use Rattle.numbers.specs.declared.serial.Serial.TheVariants.{Null, Numbered}
-use Rattle.numbers.specs.declared.serial.ReadSerial.TheVariants.{Value, Refused}
+use Rattle.numbers.specs.Results.Serial.{Null, Numbered, Serial}
+use Rattle.numbers.specs.Results.ReadSerial.{Refused, Value}
 use Rattle.numbers.proofs.Guids.{tagged_parts, tagged_same, length_tagged}
 
 -- ---- what was written reads back
@@ -50,8 +49,8 @@ numbered_same s i u b e r =
     (λ h. let z : Refused (fault 2) ≡ Value i u = rw (lt-ltb _ _ h) at r in impossible (cc))
     (λ h.
     let z : Value (Numbered (guid_at (drop 1 s)) (le (take 8 (drop 17 s)))) 25 ≡ Value i u = rw (le-ltb _ _ h) at r in
-    let ei : i ≡ Numbered (guid_at (drop 1 s)) (le (take 8 (drop 17 s))) = cc in
-    let eu : u ≡ 25 = cc in
+    let ei : i ≡ Numbered (guid_at (drop 1 s)) (le (take 8 (drop 17 s))) = grind arith in
+    let eu : u ≡ 25 = grind arith in
     rw (ei, eu) (tagged_same 8 s b e h))
 
 pub serial_written_read : (s : List ℕ) (i : Serial) (u : ℕ) → AllBytes s → read_serial s ≡ Value i u → (take u s ≡ serial_bytes i) × SerialFits i
@@ -62,8 +61,8 @@ serial_written_read (c ∷ s) i u b r =
     by_eq c 0
     (λ e.
     let x : Value Null 1 ≡ Value i u = rw (ne_eqb _ _ n, eq-eqb c 0 e) at r in
-    let ei : i ≡ Null = cc in
-    let eu : u ≡ 1 = cc in
+    let ei : i ≡ Null = grind arith in
+    let eu : u ≡ 1 = grind arith in
     rw (ei, eu, e) (refl, tt))
     (λ z.
     by_eq c 128

@@ -16,12 +16,12 @@ use Rattle.numbers.specs.Compact.{size_of, read_form, read_compact, accepted, co
 use Rattle.numbers.specs.ExtendedGuid.{named_of, short_form, long_form, form_of_id, read_extended_guid}
 use Rattle.numbers.specs.Serial.{numbered, read_serial}
 use Rattle.numbers.specs.declared.refusal.Refusal.{Refusal}
-use Rattle.numbers.specs.declared.compact.Compact.{Compact}
-use Rattle.numbers.specs.declared.compact.Compact.TheVariants as compact
-use Rattle.numbers.specs.declared.extended_guid.ReadExtendedGuid.{ReadExtendedGuid}
-use Rattle.numbers.specs.declared.extended_guid.ReadExtendedGuid.TheVariants as extended
-use Rattle.numbers.specs.declared.serial.ReadSerial.{ReadSerial}
-use Rattle.numbers.specs.declared.serial.ReadSerial.TheVariants as serial
+use Rattle.numbers.specs.Results.Compact.{Compact}
+use Rattle.numbers.specs.Results.Compact as compact
+use Rattle.numbers.specs.Results.ReadExtendedGuid.{ReadExtendedGuid}
+use Rattle.numbers.specs.Results.ReadExtendedGuid as extended
+use Rattle.numbers.specs.Results.ReadSerial.{ReadSerial}
+use Rattle.numbers.specs.Results.ReadSerial as serial
 use Rattle.numbers.proofs.Forms.{size_pos}
 
 -- u bytes of the n that the part has

@@ -17,12 +17,12 @@ use Rattle.numbers.specs.ExtendedGuid.{named_of, short_form, form_of_id, read_ex
 use Rattle.numbers.specs.Serial.{numbered, read_serial, serial_bytes}
 use Rattle.numbers.specs.Calls.{single, written, ReadsCompact, ReadsExtendedGuid, ReadsSerial, WritesCompact, WritesExtendedGuid, WritesSerial}
 use Rattle.numbers.specs.declared.guid.Guid.{Guid}
-use Rattle.numbers.specs.declared.refusal.Wrote.TheVariants as wrote
-use Rattle.numbers.specs.declared.compact.Compact.TheVariants as compact
-use Rattle.numbers.specs.declared.extended_guid.ExtendedGuid.TheVariants as id
-use Rattle.numbers.specs.declared.extended_guid.ReadExtendedGuid.TheVariants as extended
-use Rattle.numbers.specs.declared.serial.Serial.TheVariants as number
-use Rattle.numbers.specs.declared.serial.ReadSerial.TheVariants as serial
+use Rattle.numbers.specs.Results.Wrote as wrote
+use Rattle.numbers.specs.Results.Compact as compact
+use Rattle.numbers.specs.Results.ExtendedGuid as id
+use Rattle.numbers.specs.Results.ReadExtendedGuid as extended
+use Rattle.numbers.specs.Results.Serial as number
+use Rattle.numbers.specs.Results.ReadSerial as serial
 
 unfoldable zeros : List ℕ
 zeros = 0 ∷ 0 ∷ 0 ∷ 0 ∷ 0 ∷ 0 ∷ 0 ∷ 0 ∷ 0 ∷ 0 ∷ 0 ∷ 0 ∷ 0 ∷ 0 ∷ 0 ∷ 0 ∷ []

@@ -7,8 +7,7 @@ use Rattle.std.specs.Int.Count.{count_trailing_zeros}
 use Rattle.laws.specs.Pick.{pick}
 use Rattle.laws.specs.Bytes.{le, bytes}
 use Rattle.numbers.specs.Refusals.{fault}
-use Rattle.numbers.specs.declared.compact.Compact.{Compact}
-use Rattle.numbers.specs.declared.compact.Compact.TheVariants.{Value, Refused}
+use Rattle.numbers.specs.Results.Compact.{Compact, Refused, Value}
 
 -- how many bytes form k takes: the table's column 'bytes'
 unfoldable pub size_of : ℕ → ℕ

@@ -7,8 +7,7 @@ use Rattle.laws.specs.Pick.{pick}
 use Rattle.laws.specs.Bytes.{AllBytes, le, bytes}
 use Rattle.numbers.specs.Refusals.{fault}
 use Rattle.numbers.specs.Compact.{read_compact, compact_bytes}
-use Rattle.numbers.specs.declared.compact.Compact.{Compact}
-use Rattle.numbers.specs.declared.compact.Compact.TheVariants.{Value, Refused}
+use Rattle.numbers.specs.Results.Compact.{Compact, Refused, Value}
 
 pub record FormRow : Type 0 where
   pub form : ℕ  -- the document's name, which is how many bits there are for the value; the rule counts the same forms by k

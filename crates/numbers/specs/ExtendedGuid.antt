@@ -8,10 +8,8 @@ use Rattle.numbers.specs.Refusals.{fault}
 use Rattle.numbers.specs.Compact.{with_form}
 use Rattle.numbers.specs.Guid.{guid_at, guid_bytes, tagged_bytes, GuidFits}
 use Rattle.numbers.specs.declared.guid.Guid.{Guid}
-use Rattle.numbers.specs.declared.extended_guid.ExtendedGuid.{ExtendedGuid}
-use Rattle.numbers.specs.declared.extended_guid.ExtendedGuid.TheVariants.{Null, Named}
-use Rattle.numbers.specs.declared.extended_guid.ReadExtendedGuid.{ReadExtendedGuid}
-use Rattle.numbers.specs.declared.extended_guid.ReadExtendedGuid.TheVariants.{Value, Refused}
+use Rattle.numbers.specs.Results.ExtendedGuid.{ExtendedGuid, Named, Null}
+use Rattle.numbers.specs.Results.ReadExtendedGuid.{ReadExtendedGuid, Refused, Value}
 
 -- an item of n bytes at the front of s, with the GUID behind its first g and the number x: 2 where it runs past the end, 3
 -- where the number is below the form's range

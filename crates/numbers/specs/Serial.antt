@@ -5,10 +5,8 @@ use Rattle.laws.specs.Pick.{pick}
 use Rattle.laws.specs.Bytes.{le}
 use Rattle.numbers.specs.Refusals.{fault}
 use Rattle.numbers.specs.Guid.{guid_at, tagged_bytes, GuidFits}
-use Rattle.numbers.specs.declared.serial.Serial.{Serial}
-use Rattle.numbers.specs.declared.serial.Serial.TheVariants.{Null, Numbered}
-use Rattle.numbers.specs.declared.serial.ReadSerial.{ReadSerial}
-use Rattle.numbers.specs.declared.serial.ReadSerial.TheVariants.{Value, Refused}
+use Rattle.numbers.specs.Results.Serial.{Null, Numbered, Serial}
+use Rattle.numbers.specs.Results.ReadSerial.{ReadSerial, Refused, Value}
 
 -- byte 128, GUID, number: 2 where it runs past the end
 unfoldable pub numbered : List ℕ → ReadSerial

@@ -8,11 +8,8 @@ pub fn read_le(s: &[u8], n: usize) -> u64
     ensures { result ≡ le (take n s.now) }
 {
     let mut x: u64 = 0;
-    let mut i = n;
-    while 0 < i {
-        i -= 1;
-        let b = s[i] as u64;
-        x = x * 256 + b;
+    for i in (0..n).rev() {
+        x = x * 256 + s[i] as u64;
     }
     x
 }
@@ -23,10 +20,8 @@ pub fn put_le(out: &mut [u8], n: usize, x: u64)
     ensures { out.new ≡ bytes n x ++ drop n out.old }
 {
     let mut rest = x;
-    let mut i = 0;
-    while i < n {
-        out[i] = (rest % 256) as u8;
+    for byte in &mut out[..n] {
+        *byte = (rest % 256) as u8;
         rest /= 256;
-        i += 1;
     }
 }

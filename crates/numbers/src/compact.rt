@@ -6,14 +6,11 @@ ghost use Rattle.numbers.specs.Compact.{size_of, compact_value, read_form, read_
 ghost use Rattle.numbers.specs.Calls.{ReadsCompact, Writes, WritesCompact};
 
 use crate::bytes::{put_le, read_le};
-use crate::refusal::{LONGEST_INPUT, Refusal, Wrote, at_front, over_long, too_short};
+use crate::refusal::{Fault, Refusal, Wrote, at_front, too_short, within_limit};
 
 // A compact integer: the value, the bytes used, and the mark that it was padded, as a shorter form would do.
-#[derive(Drop)]
-pub enum Compact {
-    Value(u64, usize, bool),
-    Refused(Refusal),
-}
+// The value, the bytes used, and the mark that it was padded, as a shorter form would do.
+pub type Compact = Result<(u64, usize, bool), Refusal>;
 
 // Whether a caller takes a padded number; where it is refused, it is 3.
 pub const PADDING_TAKEN: bool = true;
@@ -21,6 +18,7 @@ pub const PADDING_TAKEN: bool = true;
 pub const PADDING_REFUSED: bool = false;
 
 // How many bytes form k takes.
+#[tactic(auto, unfolding(crate::specs::Compact::size_of))]
 fn size_of(k: usize) -> usize
     requires { k ≤ 7 }
     ensures { result ≡ size_of k }
@@ -44,11 +42,11 @@ fn read_form(s: &[u8], k: usize) -> Compact
 {
     let n = size_of(k);
     if s.len() < n {
-        return Compact::Refused(at_front(2));
+        return Err(at_front(Fault::RunsPast));
     }
     let v = value_of(s, k, n);
     let least: u64 = 1 << (7 * k);
-    Compact::Value(v, n, v < least)
+    Ok((v, n, v < least))
 }
 
 // The compact integer at the front of s, with its mark.
@@ -56,11 +54,11 @@ fn form_at(s: &[u8]) -> Compact
     ensures { result ≡ read_compact s.now }
 {
     if s.len() == 0 {
-        return Compact::Refused(at_front(2));
+        return Err(at_front(Fault::RunsPast));
     }
     let b = s[0];
     if b == 0 {
-        return Compact::Value(0, 1, false);
+        return Ok((0, 1, false));
     }
     let k = u8::trailing_zeros(b) as usize;
     read_form(s, k)
@@ -71,28 +69,20 @@ fn form_at(s: &[u8]) -> Compact
 pub fn item(s: &[u8], padding: bool) -> Compact
     ensures { result ≡ compact_for padding s.now }
 {
-    match form_at(s) {
-        Compact::Value(v, n, padded) => {
-            if padded {
-                if padding {
-                    return Compact::Value(v, n, padded);
-                }
-                return Compact::Refused(at_front(3));
-            }
-            Compact::Value(v, n, padded)
-        }
-        Compact::Refused(r) => Compact::Refused(r),
+    let (v, n, padded) = form_at(s)?;
+    if padded && !padding {
+        return Err(at_front(Fault::NoForm));
     }
+    Ok((v, n, padded))
 }
 
 // A single compact integer. Ruled out (proofs/WrongAnswers): `02 00` without the mark that it was padded; `02 02` with it; telling 2
 // of `01`, whose every byte is there.
+#[tactic(auto, unfolding(crate::specs::Calls::single))]
 pub fn read_compact(s: &[u8]) -> Compact
     ensures { ReadsCompact s.now result }
 {
-    if LONGEST_INPUT < s.len() {
-        return Compact::Refused(over_long());
-    }
+    within_limit(s)?;
     form_at(s)
 }
 
@@ -100,13 +90,23 @@ pub fn read_compact(s: &[u8]) -> Compact
 fn form_of(v: u64) -> usize
     ensures { result ≡ form_of v }
 {
-    let mut k = 0;
     let mut rest = v;
-    while 128 <= rest && k < 7 {
+    for k in 0..7 {
+        if rest < 128 {
+            return k;
+        }
         rest /= 128;
-        k += 1;
     }
-    k
+    7
+}
+
+// The number that stands for v in form k.
+pub(crate) fn with_form(k: usize, v: u64) -> u64
+    requires { (k ≤ 7) × (with_form k v < 2 ^ 64) }
+    ensures { result ≡ with_form k v }
+{
+    let low: u64 = 1 << k;
+    v * (low * 2) + low
 }
 
 fn put_form(out: &mut [u8], k: usize, v: u64)
@@ -118,8 +118,7 @@ fn put_form(out: &mut [u8], k: usize, v: u64)
         put_le(&mut out[1..], 8, v);
         return;
     }
-    let low: u64 = 1 << k;
-    put_le(out, k + 1, v * (low * 2) + low)
+    put_le(out, k + 1, with_form(k, v));
 }
 
 // The byte 0: the number 0, a null extended GUID, a null serial number.
@@ -127,10 +126,10 @@ pub(crate) fn write_zero(out: &mut [u8]) -> Wrote
     ensures { Writes (0 ∷ []) out.old result out.new }
 {
     if out.len() < 1 {
-        return Wrote::Refused(too_short(1));
+        return Err(too_short(1));
     }
     out[0] = 0;
-    Wrote::Done(1)
+    Ok(1)
 }
 
 // A single compact integer, in its shortest form. Ruled out (proofs/WrongAnswers): 128 in one byte; a needed length of 1
@@ -144,10 +143,10 @@ pub fn write_compact(out: &mut [u8], v: u64) -> Wrote
     let k = form_of(v);
     let n = size_of(k);
     if out.len() < n {
-        return Wrote::Refused(too_short(n));
+        return Err(too_short(n));
     }
     put_form(out, k, v);
-    Wrote::Done(n)
+    Ok(n)
 }
 
 // How many bytes v takes.

@@ -5,22 +5,15 @@ ghost use Rattle.numbers.specs.ExtendedGuid.{short_form, long_form, read_extende
 ghost use Rattle.numbers.specs.Calls.{ReadsExtendedGuid, Writes, WritesExtendedGuid};
 
 use crate::bytes::{put_le, read_le};
-use crate::compact::write_zero;
+use crate::compact::{with_form, write_zero};
 use crate::guid::{Guid, guid_at, put_guid, write_tagged};
-use crate::refusal::{LONGEST_INPUT, Refusal, Wrote, at_front, over_long, too_short};
+use crate::refusal::{Fault, Refusal, Wrote, at_front, too_short, within_limit};
 
-#[derive(Clone, Copy)]
-pub enum ExtendedGuid {
-    Null,
-    Named(Guid, u32),
-}
+// None is null.
+pub type ExtendedGuid = Option<(Guid, u32)>;
 
 // An extended GUID and the bytes used.
-#[derive(Drop)]
-pub enum ReadExtendedGuid {
-    Value(ExtendedGuid, usize),
-    Refused(Refusal),
-}
+pub type ReadExtendedGuid = Result<(ExtendedGuid, usize), Refusal>;
 
 // A number of m bytes, less its k + 1 low bits, and then the GUID.
 fn read_short(s: &[u8], k: usize, m: usize, least: u64) -> ReadExtendedGuid
@@ -29,14 +22,14 @@ fn read_short(s: &[u8], k: usize, m: usize, least: u64) -> ReadExtendedGuid
 {
     let n = m + 16;
     if s.len() < n {
-        return ReadExtendedGuid::Refused(at_front(2));
+        return Err(at_front(Fault::RunsPast));
     }
     let x = read_le(s, m) >> (k + 1);
     if x < least {
-        return ReadExtendedGuid::Refused(at_front(3));
+        return Err(at_front(Fault::NoForm));
     }
     let g = guid_at(&s[m..]);
-    ReadExtendedGuid::Value(ExtendedGuid::Named(g, x as u32), n)
+    Ok((Some((g, x as u32)), n))
 }
 
 // Byte 128, the GUID, and a number of four bytes.
@@ -44,14 +37,14 @@ fn read_long(s: &[u8]) -> ReadExtendedGuid
     ensures { result ≡ long_form s.now }
 {
     if s.len() < 21 {
-        return ReadExtendedGuid::Refused(at_front(2));
+        return Err(at_front(Fault::RunsPast));
     }
     let x = read_le(&s[17..], 4);
     if x < 0x20000 {
-        return ReadExtendedGuid::Refused(at_front(3));
+        return Err(at_front(Fault::NoForm));
     }
     let g = guid_at(&s[1..]);
-    ReadExtendedGuid::Value(ExtendedGuid::Named(g, x as u32), 21)
+    Ok((Some((g, x as u32)), 21))
 }
 
 // The extended GUID at the front of a part.
@@ -59,11 +52,11 @@ pub fn item(s: &[u8]) -> ReadExtendedGuid
     ensures { result ≡ read_extended_guid s.now }
 {
     if s.len() == 0 {
-        return ReadExtendedGuid::Refused(at_front(2));
+        return Err(at_front(Fault::RunsPast));
     }
     let b = s[0];
     if b == 0 {
-        return ReadExtendedGuid::Value(ExtendedGuid::Null, 1);
+        return Ok((None, 1));
     }
     let k = u8::trailing_zeros(b);
     match k {
@@ -71,18 +64,17 @@ pub fn item(s: &[u8]) -> ReadExtendedGuid
         5 => read_short(s, 5, 2, 0x20),
         6 => read_short(s, 6, 3, 0x400),
         7 => read_long(s),
-        _ => ReadExtendedGuid::Refused(at_front(3)),
+        _ => Err(at_front(Fault::NoForm)),
     }
 }
 
 // A single extended GUID. Ruled out (proofs/WrongAnswers): the number 31 from the 10-bit form; null from `04` and sixteen
 // zero bytes, which is a zero GUID.
+#[tactic(auto, unfolding(crate::specs::Calls::single))]
 pub fn read_extended_guid(s: &[u8]) -> ReadExtendedGuid
     ensures { ReadsExtendedGuid s.now result }
 {
-    if LONGEST_INPUT < s.len() {
-        return ReadExtendedGuid::Refused(over_long());
-    }
+    within_limit(s)?;
     item(s)
 }
 
@@ -93,12 +85,11 @@ fn write_short(out: &mut [u8], k: usize, m: usize, g: Guid, x: u64) -> Wrote
 {
     let n = m + 16;
     if out.len() < n {
-        return Wrote::Refused(too_short(n));
+        return Err(too_short(n));
     }
-    let low: u64 = 1 << k;
-    put_le(out, m, x * (low * 2) + low);
+    put_le(out, m, with_form(k, x));
     put_guid(&mut out[m..], g);
-    Wrote::Done(n)
+    Ok(n)
 }
 
 fn write_named(out: &mut [u8], g: Guid, x: u32) -> Wrote
@@ -123,8 +114,8 @@ pub fn write_extended_guid(out: &mut [u8], id: ExtendedGuid) -> Wrote
     ensures { WritesExtendedGuid id out.old result out.new }
 {
     match id {
-        ExtendedGuid::Null => write_zero(out),
-        ExtendedGuid::Named(g, x) => write_named(out, g, x),
+        None => write_zero(out),
+        Some((g, x)) => write_named(out, g, x),
     }
 }
 
@@ -133,8 +124,8 @@ pub fn extended_guid_length(id: ExtendedGuid) -> usize
     ensures { (result ≡ length (extended_guid_bytes id)) × (result ≤ 21) }
 {
     match id {
-        ExtendedGuid::Null => 1,
-        ExtendedGuid::Named(_, x) => {
+        None => 1,
+        Some((_, x)) => {
             if x < 0x20 {
                 return 17;
             }

@@ -15,6 +15,7 @@ pub struct Guid {
 }
 
 // The GUID at the front of s.
+#[tactic(auto, unfolding(crate::specs::Guid::guid_at))]
 pub fn guid_at(s: &[u8]) -> Guid
     requires { 16 ≤ length s.now }
     ensures { result ≡ guid_at s.now }
@@ -50,22 +51,15 @@ pub(crate) fn write_tagged(out: &mut [u8], n: usize, g: Guid, x: u64) -> Wrote
 {
     let needed = n + 17;
     if out.len() < needed {
-        return Wrote::Refused(too_short(needed));
+        return Err(too_short(needed));
     }
     put_tagged(out, n, g, x);
-    Wrote::Done(needed)
+    Ok(needed)
 }
 
 // Eight bytes as the number whose order is theirs.
 pub fn swap(x: u64) -> u64
     ensures { result ≡ swapped x }
 {
-    x % 256 * 72057594037927936
-        + x / 256 % 256 * 281474976710656
-        + x / 65536 % 256 * 1099511627776
-        + x / 16777216 % 256 * 4294967296
-        + x / 4294967296 % 256 * 16777216
-        + x / 1099511627776 % 256 * 65536
-        + x / 281474976710656 % 256 * 256
-        + x / 72057594037927936 % 256
+    x.swap_bytes()
 }

@@ -6,31 +6,24 @@ ghost use Rattle.numbers.specs.Calls.{ReadsSerial, WritesSerial};
 use crate::bytes::read_le;
 use crate::compact::write_zero;
 use crate::guid::{Guid, guid_at, write_tagged};
-use crate::refusal::{LONGEST_INPUT, Refusal, Wrote, at_front, over_long};
+use crate::refusal::{Fault, Refusal, Wrote, at_front, within_limit};
 
-#[derive(Clone, Copy)]
-pub enum Serial {
-    Null,
-    Numbered(Guid, u64),
-}
+// None is null.
+pub type Serial = Option<(Guid, u64)>;
 
 // A serial number and the bytes used.
-#[derive(Drop)]
-pub enum ReadSerial {
-    Value(Serial, usize),
-    Refused(Refusal),
-}
+pub type ReadSerial = Result<(Serial, usize), Refusal>;
 
 // Byte 128, the GUID, and a number of eight bytes.
 fn read_numbered(s: &[u8]) -> ReadSerial
     ensures { result ≡ numbered s.now }
 {
     if s.len() < 25 {
-        return ReadSerial::Refused(at_front(2));
+        return Err(at_front(Fault::RunsPast));
     }
     let g = guid_at(&s[1..]);
     let x = read_le(&s[17..], 8);
-    ReadSerial::Value(Serial::Numbered(g, x), 25)
+    Ok((Some((g, x)), 25))
 }
 
 // The serial number at the front of a part.
@@ -38,26 +31,25 @@ pub fn item(s: &[u8]) -> ReadSerial
     ensures { result ≡ read_serial s.now }
 {
     if s.len() == 0 {
-        return ReadSerial::Refused(at_front(2));
+        return Err(at_front(Fault::RunsPast));
     }
     let b = s[0];
     if b == 0 {
-        return ReadSerial::Value(Serial::Null, 1);
+        return Ok((None, 1));
     }
     if b == 128 {
         return read_numbered(s);
     }
-    ReadSerial::Refused(at_front(3))
+    Err(at_front(Fault::NoForm))
 }
 
 // A single serial number. Ruled out (proofs/WrongAnswers): telling 2 of `81`, a first byte in no form; telling 3 of `80`
 // alone, whose form is there and whose bytes are not.
+#[tactic(auto, unfolding(crate::specs::Calls::single))]
 pub fn read_serial(s: &[u8]) -> ReadSerial
     ensures { ReadsSerial s.now result }
 {
-    if LONGEST_INPUT < s.len() {
-        return ReadSerial::Refused(over_long());
-    }
+    within_limit(s)?;
     item(s)
 }
 
@@ -66,7 +58,7 @@ pub fn write_serial(out: &mut [u8], serial: Serial) -> Wrote
     ensures { WritesSerial serial out.old result out.new }
 {
     match serial {
-        Serial::Null => write_zero(out),
-        Serial::Numbered(g, x) => write_tagged(out, 8, g, x),
+        None => write_zero(out),
+        Some((g, x)) => write_tagged(out, 8, g, x),
     }
 }

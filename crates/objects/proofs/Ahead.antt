@@ -20,12 +20,11 @@ use Rattle.numbers.specs.Refusals.{fault_at}
 use Rattle.numbers.specs.declared.refusal.Refusal.{Refusal}
 use Rattle.objects.specs.Header.{header_at, length_at}
 use Rattle.objects.specs.Nesting.{data_on, data_past, and_on, onward, run_turn, run_of, object_by, object_d, object_at, run_at}
-use Rattle.objects.specs.declared.header.Header.{Header}
-use Rattle.objects.specs.declared.header.Header.TheVariants as header
-use Rattle.objects.specs.declared.header.Length.{Length}
-use Rattle.objects.specs.declared.header.Length.TheVariants as length'
-use Rattle.objects.specs.declared.nesting.Passed.{Passed}
-use Rattle.objects.specs.declared.nesting.Passed.TheVariants.{To, Refused}
+use Rattle.objects.specs.Results.Header.{ReadHeader}
+use Rattle.objects.specs.Results.Header as header
+use Rattle.objects.specs.Results.Length.{Length}
+use Rattle.objects.specs.Results.Length as length'
+use Rattle.objects.specs.Results.Passed.{Passed, Refused, To}
 use Rattle.objects.proofs.HeaderLaws.{Fits, header_fits, LengthFits, length_fits}
 
 -- 2, 3, 4 or 6 of the first input, with no needed length
@@ -83,7 +82,7 @@ and_on_ahead : (s : List ℕ) (at from : ℕ) (p : Passed) (go : ℕ → Passed)
 and_on_ahead s at from (To e) go h l w f = let x = w.1 l in further s at e (go e) (omega arith) x (f e)
 and_on_ahead s at from (Refused r) go h l w f = (omega arith, λ q. w.1 l, w.2)
 
-object_by_ahead : (padding : Bool) (inside : ℕ → Passed → Passed) (s : List ℕ) (at : ℕ) (h : Header) → Fits at (length s - at) h
+object_by_ahead : (padding : Bool) (inside : ℕ → Passed → Passed) (s : List ℕ) (at : ℕ) (h : ReadHeader) → Fits at (length s - at) h
     → ((k from : ℕ) (p : Passed) → at < from → from ≤ length s → AtLeast s from p → Ahead s at (inside k p)) → Ahead s at (object_by padding inside s at h)
 object_by_ahead padding inside s at (header.Refused r) w f = rw w (here s at 2 (two at))
 object_by_ahead padding inside s at (header.End k u) w f = here s at 4 (four at)
@@ -112,7 +111,7 @@ ahead_falls s at (more e) a = omega arith
 ahead_falls s at (done r) a = tt
 
 module _ (s : List ℕ) (object : ℕ → Passed) (kind : ℕ) (ahead : (i : ℕ) → Ahead s i (object i)) where
-  turn_ahead : (i : ℕ) (h : Header) → Fits i (length s - i) h → AheadTurn s i (run_turn object kind i h)
+  turn_ahead : (i : ℕ) (h : ReadHeader) → Fits i (length s - i) h → AheadTurn s i (run_turn object kind i h)
   turn_ahead i (header.Refused r) w = rw w (here s i 2 (two i))
   turn_ahead i (header.End k u) w = pick_all (Ahead s i) (eqb k kind) (To (i + u)) (Refused (fault_at 4 i)) (λ t. omega arith) (λ t. here s i 4 (four i))
   turn_ahead i (header.Start k c n u) w = onward_ahead s i (object i) (ahead i)
@@ -156,27 +155,27 @@ run_next padding s at d kind e q = subst (Ahead s at) q (run_ahead padding s at 
 -- ---- the equations, at a header that is known
 
 -- an object
-abbrev pub object_step : Bool → List ℕ → ℕ → ℕ → Header → Passed
+abbrev pub object_step : Bool → List ℕ → ℕ → ℕ → ReadHeader → Passed
 object_step padding s at d h = object_by padding (λ k p. pick (eqb d 0) (Refused (fault_at 6 at)) (and_on p (λ e. run_at padding s e (d - 1) k))) s at h
 
-object_eq : (padding : Bool) (s : List ℕ) (at d : ℕ) (h : Header) → header_at s at ≡ h → object_d padding d s at ≡ object_step padding s at d h
+object_eq : (padding : Bool) (s : List ℕ) (at d : ℕ) (h : ReadHeader) → header_at s at ≡ h → object_d padding d s at ≡ object_step padding s at d h
 unfolding object_d run_at object_at
-object_eq padding s at zero h e = ap (λ (x : Header). object_by padding (λ k p. Refused (fault_at 6 at)) s at x) e
+object_eq padding s at zero h e = ap (λ (x : ReadHeader). object_by padding (λ k p. Refused (fault_at 6 at)) s at x) e
 object_eq padding s at (suc d) h e =
-    ap (λ (x : Header). object_by padding (λ k p. and_on p (λ e. run_of (λ i. object_d padding d s i) s k e)) s at x) e
+    ap (λ (x : ReadHeader). object_by padding (λ k p. and_on p (λ e. run_of (λ i. object_d padding d s i) s k e)) s at x) e
     ∙ simp (eqb-suc-zero d, sub-one)
 
-pub object_at_lem : (padding : Bool) (s : List ℕ) (at d : ℕ) (h : Header) → header_at s at ≡ h → object_at padding s at d ≡ object_step padding s at d h
+pub object_at_lem : (padding : Bool) (s : List ℕ) (at d : ℕ) (h : ReadHeader) → header_at s at ≡ h → object_at padding s at d ≡ object_step padding s at d h
 unfolding object_at
 object_at_lem padding s at d h e = object_eq padding s at d h e
 
 -- a run
-pub run_at_lem : (padding : Bool) (s : List ℕ) (at d kind : ℕ) (h : Header) → header_at s at ≡ h
+pub run_at_lem : (padding : Bool) (s : List ℕ) (at d kind : ℕ) (h : ReadHeader) → header_at s at ≡ h
     → run_at padding s at d kind ≡ after (λ i. run_at padding s i d kind) (run_turn (λ i. object_at padding s i d) kind at h)
 unfolding run_at
 run_at_lem padding s at d kind h e =
     run_of_lem s (λ i. object_at padding s i d) kind (λ i. object_ahead padding s i d) at (run_turn (λ i. object_at padding s i d) kind at h)
-    (ap (λ (x : Header). run_turn (λ i. object_at padding s i d) kind at x) e)
+    (ap (λ (x : ReadHeader). run_turn (λ i. object_at padding s i d) kind at x) e)
 
 -- a run that begins with an object is that object and then a run
 pub run_start : (padding : Bool) (s : List ℕ) (at d kind k : ℕ) (c : Bool) (n u : ℕ) → header_at s at ≡ header.Start k c n u → (r : Passed) → object_at padding s at d ≡ r

@@ -6,8 +6,7 @@ use mathlib.Core.List.{List}
 use borrow.Author.Tests.{lt-ltb, le-ltb}
 use Rattle.numbers.specs.Refusals.{fault}
 use Rattle.numbers.specs.Calls.{Writes}
-use Rattle.numbers.specs.declared.refusal.Wrote.{Wrote}
-use Rattle.numbers.specs.declared.refusal.Wrote.TheVariants.{Refused}
+use Rattle.numbers.specs.Results.Wrote.{Refused, Wrote}
 use Rattle.objects.specs.Calls.{WritesTyped}
 
 pub typed_over : (k : ℕ) (w s : List ℕ) → 0x3FFF < k → WritesTyped k w s (Refused (fault 3)) s

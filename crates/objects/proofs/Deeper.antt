@@ -9,15 +9,15 @@ use lib.ListN.{drop}
 use lib.Dec.{eqb}
 use Rattle.laws.proofs.Cases.{by_bool, impossible}
 use Rattle.numbers.specs.Compact.{compact_for}
-use Rattle.numbers.specs.declared.compact.Compact.{Compact}
-use Rattle.numbers.specs.declared.compact.Compact.TheVariants as compact
+use Rattle.numbers.specs.Results.Compact.{Compact}
+use Rattle.numbers.specs.Results.Compact as compact
 use Rattle.numbers.proofs.Padding.{Takes}
 use Rattle.objects.specs.Header.{header_at, escape, length_on, length_at}
 use Rattle.objects.specs.Nesting.{data_on, data_past, object_at, run_at}
-use Rattle.objects.specs.declared.header.Header.TheVariants.{Start}
-use Rattle.objects.specs.declared.header.Length.{Length}
-use Rattle.objects.specs.declared.header.Length.TheVariants as length'
-use Rattle.objects.specs.declared.nesting.Passed.TheVariants.{To}
+use Rattle.objects.specs.Results.Header.{Start}
+use Rattle.objects.specs.Results.Length.{Length}
+use Rattle.objects.specs.Results.Length as length'
+use Rattle.objects.specs.Results.Passed.{To}
 use Rattle.objects.proofs.Rules.{no_place, object_plain, object_compound, run_end, run_object, Kept, object_ind, run_ind}
 
 module _ (padding other : Bool) (takes : Takes padding other) where

@@ -11,26 +11,24 @@ use lib.Dec.{ltb, eqb}
 use borrow.Author.Tests.{ltb-false}
 use Rattle.laws.specs.Bytes.{le}
 use Rattle.laws.proofs.Cases.{pick_all}
-use Rattle.numbers.specs.Refusals.{fault, fault_at}
+use Rattle.numbers.specs.Refusals.{fault, fault_at, refusal_number}
 use Rattle.numbers.specs.Compact.{read_compact, compact_for}
 use Rattle.numbers.specs.declared.refusal.Refusal.{Refusal}
-use Rattle.numbers.specs.declared.compact.Compact.{Compact}
-use Rattle.numbers.specs.declared.compact.Compact.TheVariants as compact
+use Rattle.numbers.specs.Results.Compact.{Compact}
+use Rattle.numbers.specs.Results.Compact as compact
 use Rattle.numbers.proofs.Within.{CompactWithin, compact_within, ItemFault}
 use Rattle.objects.specs.Header.{start_of, end_of, sized, header_of, header_at, escape, length_on, length_at}
-use Rattle.objects.specs.declared.header.Header.{Header}
-use Rattle.objects.specs.declared.header.Header.TheVariants.{Start, End, Refused}
-use Rattle.objects.specs.declared.header.Length.{Length}
-use Rattle.objects.specs.declared.header.Length.TheVariants.{Is}
-use Rattle.objects.specs.declared.header.Length.TheVariants as length'
+use Rattle.objects.specs.Results.Header.{End, ReadHeader, Refused, Start}
+use Rattle.objects.specs.Results.Length.{Is, Length}
+use Rattle.objects.specs.Results.Length as length'
 
 -- u bytes at a place from which m are left; a header's own fault is 2 at its place
-abbrev pub Fits : ℕ → ℕ → Header → Type 0
+abbrev pub Fits : ℕ → ℕ → ReadHeader → Type 0
 Fits at m (Start k c n u) = (0 < u) × (u ≤ m)
 Fits at m (End k u) = (0 < u) × (u ≤ m)
 Fits at m (Refused r) = r ≡ fault_at 2 at
 
-sized_fits : (at n : ℕ) (form : ℕ → ℕ → Header) (t : List ℕ) → ((w : ℕ) → n ≤ length t → Fits at (length t) (form n w)) → Fits at (length t) (sized at n form t)
+sized_fits : (at n : ℕ) (form : ℕ → ℕ → ReadHeader) (t : List ℕ) → ((w : ℕ) → n ≤ length t → Fits at (length t) (form n w)) → Fits at (length t) (sized at n form t)
 unfolding sized
 sized_fits at n form t f =
     pick_all (Fits at (length t)) (ltb (length t) n) _ _ (λ e. refl) (λ e. f (le (take n t)) (ltb-false _ _ e))
@@ -58,7 +56,7 @@ pub header_fits : (s : List ℕ) (at : ℕ) → Fits at (length s - at) (header_
 unfolding header_at
 header_fits s at = subst (λ (m : ℕ). Fits at m (header_of at (drop at s))) (length-drop at s) (header_of_fits at (drop at s))
 
-pub header_fits_at : (s : List ℕ) (at : ℕ) (h : Header) → header_at s at ≡ h → Fits at (length s - at) h
+pub header_fits_at : (s : List ℕ) (at : ℕ) (h : ReadHeader) → header_at s at ≡ h → Fits at (length s - at) h
 header_fits_at s at h e = subst (Fits at (length s - at)) e (header_fits s at)
 
 -- behind the input
@@ -85,7 +83,7 @@ abbrev pub LengthFits : List ℕ → ℕ → Length → Type 0
 LengthFits s at (Is v from) = (at ≤ from) × (at ≤ length s → from ≤ length s)
 LengthFits s at (length'.Refused r) = (r ≡ fault_at 2 at) ⊎ (r ≡ fault_at 3 at)
 
-fault_at_lem : (at : ℕ) (r : Refusal) → ItemFault r → (fault_at r.number at ≡ fault_at 2 at) ⊎ (fault_at r.number at ≡ fault_at 3 at)
+fault_at_lem : (at : ℕ) (r : Refusal) → ItemFault r → (fault_at (refusal_number r) at ≡ fault_at 2 at) ⊎ (fault_at (refusal_number r) at ≡ fault_at 3 at)
 fault_at_lem at r (inl e) = inl (rw e)
 fault_at_lem at r (inr e) = inr (rw e)
 

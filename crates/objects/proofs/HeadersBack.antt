@@ -20,14 +20,13 @@ use Rattle.laws.proofs.Numbers.{length_bytes, le_bytes, first_byte}
 use Rattle.numbers.specs.Compact.{padding_taken, compact_bytes}
 use Rattle.numbers.proofs.RoundTrip.{written_unpadded}
 use Rattle.objects.specs.Header.{start_of, end_of, sized, header_of, header_at, escape, length_at, whole_header, start_number, start_bytes, end_bytes}
-use Rattle.objects.specs.declared.header.Header.{Header}
-use Rattle.objects.specs.declared.header.Header.TheVariants.{Start, End}
-use Rattle.objects.specs.declared.header.Length.TheVariants.{Is}
+use Rattle.objects.specs.Results.Header.{End, ReadHeader, Start}
+use Rattle.objects.specs.Results.Length.{Is}
 use Rattle.objects.proofs.HeaderForms.{short_start, by_start, length_short, length_own, length_behind, end_short, end_long, length_end_short, length_end_long}
 
 -- ---- the form that the lowest two bits tell
 
-abbrev form_for : ℕ → ℕ → List ℕ → Header
+abbrev form_for : ℕ → ℕ → List ℕ → ReadHeader
 form_for low at t =
     pick (eqb low 0) (sized at 2 (start_of (2 ^ 6)) t)
     (pick (eqb low 1) (sized at 1 end_of t)
@@ -38,7 +37,7 @@ unfolding header_of
 by_low at t n = rw (ne_eqb (length t) 0 n)
 
 -- the number w of `size` bytes at the front, of the form that its lowest bits tell
-number_back : (low size w : ℕ) (form : ℕ → ℕ → Header) (t : List ℕ) (at : ℕ) → 0 < size → w < 256 ^ size → w % 4 ≡ low
+number_back : (low size w : ℕ) (form : ℕ → ℕ → ReadHeader) (t : List ℕ) (at : ℕ) → 0 < size → w < 256 ^ size → w % 4 ≡ low
     → ((s : List ℕ) → form_for low at s ≡ sized at size form s) → header_of at (bytes size w ++ t) ≡ form size w
 unfolding sized
 number_back low size w form t at p b e is =

@@ -18,15 +18,13 @@ use Rattle.laws.proofs.Cases.{by_lt, by_eq, impossible}
 use Rattle.laws.proofs.Numbers.{drop_bytes, take_bytes, le_lt, bytes_le, low_byte}
 use Rattle.numbers.specs.Refusals.{fault_at}
 use Rattle.numbers.specs.Compact.{padding_taken, compact_for, compact_bytes}
-use Rattle.numbers.specs.declared.compact.Compact.{Compact}
-use Rattle.numbers.specs.declared.compact.Compact.TheVariants as compact
+use Rattle.numbers.specs.Results.Compact.{Compact}
+use Rattle.numbers.specs.Results.Compact as compact
 use Rattle.numbers.proofs.Padding.{shortest_read}
 use Rattle.objects.specs.Header.{start_of, end_of, sized, header_of, header_at, escape, length_on, length_at, lengthened, with_length, whole_header, start_number, start_bytes, end_bytes}
-use Rattle.objects.specs.declared.header.Header.{Header}
-use Rattle.objects.specs.declared.header.Header.TheVariants.{Start, End, Refused}
-use Rattle.objects.specs.declared.header.Length.{Length}
-use Rattle.objects.specs.declared.header.Length.TheVariants.{Is}
-use Rattle.objects.specs.declared.header.Length.TheVariants as length'
+use Rattle.objects.specs.Results.Header.{End, ReadHeader, Refused, Start}
+use Rattle.objects.specs.Results.Length.{Is, Length}
+use Rattle.objects.specs.Results.Length as length'
 use Rattle.objects.proofs.HeaderLaws.{compact_fits}
 use Rattle.objects.proofs.HeaderForms.{short_start, start_short, by_start, length_short, length_own, length_behind, end_short, end_long, length_end_short}
 use Rattle.objects.proofs.HeadersBack.{own_length}
@@ -34,25 +32,25 @@ use Rattle.objects.proofs.HeadersBack.{own_length}
 -- ---- a header that is read, and the bytes that it was read from
 
 -- not a refusal
-abbrev Read : Header → Type 0
+abbrev Read : ReadHeader → Type 0
 Read (Start k c n u) = Unit {0}
 Read (End k u) = Unit {0}
 Read (Refused r) = ⊥
 
-not_refused : {A : Type 0} (at : ℕ) (h : Header) → Read h → Refused (fault_at 2 at) ≡ h → A
+not_refused : {A : Type 0} (at : ℕ) (h : ReadHeader) → Read h → Refused (fault_at 2 at) ≡ h → A
 not_refused at (Start k c n u) r e = impossible (cc)
 not_refused at (End k u) r e = impossible (cc)
 not_refused at (Refused x) r e = absurd r
 
 -- the number of `size` bytes at the front, with these lowest bits, of which this form makes h
-record Front (low size : ℕ) (form : ℕ → ℕ → Header) (s : List ℕ) (h : Header) : Type 0 where
+record Front (low size : ℕ) (form : ℕ → ℕ → ReadHeader) (s : List ℕ) (h : ReadHeader) : Type 0 where
   within : size ≤ length s
   lowest : le (take size s) % 4 ≡ low
   room : le (take size s) < 256 ^ size
   same : take size s ≡ bytes size (le (take size s))
   reads : form size (le (take size s)) ≡ h
 
-front : (low size : ℕ) (form : ℕ → ℕ → Header) (at : ℕ) (s : List ℕ) (h : Header) → 0 < size → AllBytes s → Read h → get_or s 0 0 % 4 ≡ low
+front : (low size : ℕ) (form : ℕ → ℕ → ReadHeader) (at : ℕ) (s : List ℕ) (h : ReadHeader) → 0 < size → AllBytes s → Read h → get_or s 0 0 % 4 ≡ low
     → sized at size form s ≡ h → Front low size form s h
 unfolding sized
 front low size form at s h p b r f e =
@@ -68,7 +66,7 @@ front low size form at s h p b r f e =
     })
 
 -- one of the four forms
-by_front : {P : Type 0} (at : ℕ) (s : List ℕ) (h : Header) → AllBytes s → Read h → header_of at s ≡ h
+by_front : {P : Type 0} (at : ℕ) (s : List ℕ) (h : ReadHeader) → AllBytes s → Read h → header_of at s ≡ h
     → (Front 0 2 (start_of (2 ^ 6)) s h → P) → (Front 1 1 end_of s h → P) → (Front 2 4 (start_of (2 ^ 14)) s h → P) → (Front 3 2 end_of s h → P) → P
 unfolding header_of
 by_front at s h b r e f0 f1 f2 f3 =
@@ -165,7 +163,7 @@ by_end_read at s k u b e short long =
 -- ---- a true length that is read
 
 own_read : (s : List ℕ) (at m n u : ℕ) → m ≢ escape → length_at padding_taken s at m ≡ Is n u → (m ≡ n) × (at ≡ u)
-own_read s at m n u h e = let q : Is m at ≡ Is n u = sym (own_length padding_taken s at m h) ∙ e in (cc, cc)
+own_read s at m n u h e = let q : Is m at ≡ Is n u = sym (own_length padding_taken s at m h) ∙ e in (grind arith, grind arith)
 
 record BehindRead (s : List ℕ) (at n u : ℕ) : Type 0 where
   size : ℕ
@@ -174,7 +172,7 @@ record BehindRead (s : List ℕ) (at n u : ℕ) : Type 0 where
   place : u ≡ at + size
 
 length_on_read : (s : List ℕ) (at n u : ℕ) (r : Compact) → compact_for padding_taken (drop at s) ≡ r → length_on at r ≡ Is n u → BehindRead s at n u
-length_on_read s at n u (compact.Value v m padded) e q = record { size = m; padded = padded; item = cc; place = cc }
+length_on_read s at n u (compact.Value v m padded) e q = record { size = m; padded = padded; item = grind arith; place = grind arith }
 length_on_read s at n u (compact.Refused r) e q = impossible (cc)
 
 behind_read : (s : List ℕ) (at n u : ℕ) → length_at padding_taken s at escape ≡ Is n u → BehindRead s at n u
@@ -197,7 +195,7 @@ end_bounds s at k u b e =
 
 -- ---- the single item that is read: a header, and behind that its true length
 
-record WholeStart (s : List ℕ) (h : Header) (k : ℕ) (c : Bool) (n u : ℕ) : Type 0 where
+record WholeStart (s : List ℕ) (h : ReadHeader) (k : ℕ) (c : Bool) (n u : ℕ) : Type 0 where
   field : ℕ
   used : ℕ
   header : h ≡ Start k c field used
@@ -208,7 +206,7 @@ lengthened_start : (s : List ℕ) (j : ℕ) (d : Bool) (m v : ℕ) (l : Length) 
 lengthened_start s j d m v (Is x from) k c n u e q = record { field = m; used = v; header = cc; true_length = cc }
 lengthened_start s j d m v (length'.Refused r) k c n u e q = impossible (cc)
 
-with_length_start : (s : List ℕ) (h : Header) (k : ℕ) (c : Bool) (n u : ℕ) → with_length s h ≡ Start k c n u → WholeStart s h k c n u
+with_length_start : (s : List ℕ) (h : ReadHeader) (k : ℕ) (c : Bool) (n u : ℕ) → with_length s h ≡ Start k c n u → WholeStart s h k c n u
 with_length_start s (Start j d m v) k c n u e = lengthened_start s j d m v (length_at padding_taken s v m) k c n u refl e
 with_length_start s (End j v) k c n u e = impossible (cc)
 with_length_start s (Refused r) k c n u e = impossible (cc)
@@ -221,7 +219,7 @@ lengthened_end : {A : Type 0} (j : ℕ) (d : Bool) (l : Length) (k u : ℕ) → 
 lengthened_end j d (Is x from) k u q = impossible (cc)
 lengthened_end j d (length'.Refused r) k u q = impossible (cc)
 
-with_length_end : (s : List ℕ) (h : Header) (k u : ℕ) → with_length s h ≡ End k u → h ≡ End k u
+with_length_end : (s : List ℕ) (h : ReadHeader) (k u : ℕ) → with_length s h ≡ End k u → h ≡ End k u
 with_length_end s (Start j d m v) k u e = lengthened_end j d (length_at padding_taken s v m) k u e
 with_length_end s (End j v) k u e = e
 with_length_end s (Refused r) k u e = impossible (cc)

@@ -7,11 +7,10 @@ use Prim.Native.Nat.{ℕ, ◌≤◌, ◌<◌}
 use native.Mathlib.Omega.{arith}
 use lib.ListN.{length}
 use Rattle.laws.proofs.Cases.{by_lt}
-use Rattle.numbers.specs.Refusals.{fault_at}
+use Rattle.numbers.specs.Refusals.{fault_at, refusal_number}
 use Rattle.numbers.specs.declared.refusal.Refusal.{Refusal}
 use Rattle.objects.specs.Steps.{FaultWithin, Good}
-use Rattle.objects.specs.declared.reading.Reading.{Reading}
-use Rattle.objects.specs.declared.reading.Reading.TheVariants.{Refused}
+use Rattle.objects.specs.Results.Reading.{Reading, Refused}
 
 pub record InputFault (limit : ℕ) (x : List ℕ) (r : Refusal) : Type 0 where
   pub over : limit < length x → r ≡ fault_at 1 limit
@@ -25,8 +24,8 @@ input_fault limit x c d r long fine g h =
 
 -- so its number is from 1 to 12, it is of the first input, its place lies within, and it needs no length
 pub record InputTold (x : List ℕ) (r : Refusal) : Type 0 where
-  pub least : 1 ≤ r.number
-  pub most : r.number ≤ 12
+  pub least : 1 ≤ refusal_number r
+  pub most : refusal_number r ≤ 12
   pub input : r.input ≡ 0
   pub place : r.place ≤ length x
   pub needed : r.needed ≡ 0

@@ -10,10 +10,10 @@ use Rattle.laws.proofs.Parts.{tail_part}
 use Rattle.numbers.specs.Refusals.{fault}
 use Rattle.numbers.specs.ExtendedGuid.{read_extended_guid}
 use Rattle.numbers.specs.Serial.{read_serial}
-use Rattle.numbers.specs.declared.extended_guid.ExtendedGuid.{ExtendedGuid}
-use Rattle.numbers.specs.declared.extended_guid.ReadExtendedGuid.TheVariants as extended
-use Rattle.numbers.specs.declared.serial.Serial.{Serial}
-use Rattle.numbers.specs.declared.serial.ReadSerial.TheVariants as serial
+use Rattle.numbers.specs.Results.ExtendedGuid.{ExtendedGuid}
+use Rattle.numbers.specs.Results.ReadExtendedGuid as extended
+use Rattle.numbers.specs.Results.Serial.{Serial}
+use Rattle.numbers.specs.Results.ReadSerial as serial
 use Rattle.numbers.proofs.Within.{ExtendedGuidWithin, extended_guid_within, SerialWithin, serial_within}
 
 -- ---- extended GUIDs and serial numbers

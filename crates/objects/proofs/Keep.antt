@@ -13,30 +13,31 @@ use lib.Dec.{ltb, eqb}
 use borrow.Author.Tests.{ltb-false}
 use Rattle.laws.specs.Bytes.{le}
 use Rattle.laws.proofs.Cases.{pick_all, impossible}
-use Rattle.numbers.specs.Refusals.{fault_at}
+use Rattle.numbers.specs.Refusals.{fault_at, refusal_number}
 use Rattle.numbers.specs.Compact.{compact_for}
 use Rattle.numbers.specs.ExtendedGuid.{read_extended_guid}
 use Rattle.numbers.specs.Serial.{read_serial}
 use Rattle.numbers.specs.declared.refusal.Refusal.{Refusal}
-use Rattle.numbers.specs.declared.compact.Compact.{Compact}
-use Rattle.numbers.specs.declared.compact.Compact.TheVariants as compact
-use Rattle.numbers.specs.declared.extended_guid.ExtendedGuid.TheVariants as id
-use Rattle.numbers.specs.declared.extended_guid.ReadExtendedGuid.{ReadExtendedGuid}
-use Rattle.numbers.specs.declared.extended_guid.ReadExtendedGuid.TheVariants as extended
-use Rattle.numbers.specs.declared.serial.ReadSerial.{ReadSerial}
-use Rattle.numbers.specs.declared.serial.ReadSerial.TheVariants as serial
+use Rattle.numbers.specs.Results.Compact.{Compact}
+use Rattle.numbers.specs.Results.Compact as compact
+use Rattle.numbers.specs.Results.ExtendedGuid as id
+use Rattle.numbers.specs.Results.ReadExtendedGuid.{ReadExtendedGuid}
+use Rattle.numbers.specs.Results.ReadExtendedGuid as extended
+use Rattle.numbers.specs.Results.ReadSerial.{ReadSerial}
+use Rattle.numbers.specs.Results.ReadSerial as serial
 use Rattle.numbers.proofs.Within.{ItemFault, CompactWithin, compact_within, ExtendedGuidWithin, extended_guid_within, SerialWithin, serial_within}
+use Rattle.numbers.proofs.Faults.{number_of_fault}
 use Rattle.objects.specs.Header.{header_at, length_at}
 use Rattle.objects.specs.Nesting.{run_at}
-use Rattle.objects.specs.Steps.{then, no, place_of, valued, need, fixed_in, number_on, number, number_is_on, number_is, null_id_on, null_id, skip, guid_here, on_guid, id_on, id_here, on_id, serial_on, serial_here, on_serial, same_bit, length_to, start_on, start_here, length_is, start_of_length, end_on, end_here, start_is, next_is, inside_on, inside, finish, run_here, closed_at, closed, Behind, FaultNumber, FaultWithin, Good}
-use Rattle.objects.specs.declared.header.Header.{Header}
-use Rattle.objects.specs.declared.header.Header.TheVariants as header
-use Rattle.objects.specs.declared.header.Length.{Length}
-use Rattle.objects.specs.declared.header.Length.TheVariants as length'
-use Rattle.objects.specs.declared.nesting.Passed.{Passed}
-use Rattle.objects.specs.declared.nesting.Passed.TheVariants as passed
-use Rattle.objects.specs.declared.reading.Reading.{Reading}
-use Rattle.objects.specs.declared.reading.Reading.TheVariants.{At, Refused}
+use Rattle.objects.specs.Steps.{then, no, place_of, valued, need, fixed_in, number_on, number, number_is_on, number_is, null_id_on, null_id, skip, guid_here, id_on, id_here, serial_on, serial_here, same_bit, length_to, start_on, start_here, length_is, start_of_length, end_on, end_here, start_is, next_is, inside_on, inside, finish, run_here, closed_at, closed, Behind, FaultNumber, FaultWithin, Good, on_field}
+use Rattle.objects.specs.Results.Header.{ReadHeader}
+use Rattle.objects.specs.Results.Header as header
+use Rattle.objects.specs.Results.Length.{Length}
+use Rattle.objects.specs.Results.Length as length'
+use Rattle.objects.specs.Results.Passed.{Passed}
+use Rattle.objects.specs.Results.Passed as passed
+use Rattle.objects.specs.Results.ReadingGuid.{ReadingGuid}
+use Rattle.objects.specs.Results.Reading.{At, Reading, Refused}
 use Rattle.objects.proofs.HeaderLaws.{Fits, header_fits, LengthFits, length_fits}
 use Rattle.objects.proofs.Ahead.{NestingFault, two, three, four, six, Ahead, run_ahead}
 use Rattle.objects.proofs.ItemsAt.{part_fits}
@@ -56,7 +57,7 @@ onto f g = record { behind = λ p h. g.behind p (f.behind p h); good = λ h. g.g
 
 -- a fault that a step gives
 pub fault_within : (m k p : ℕ) → FaultNumber k → p ≤ m → FaultWithin m (fault_at k p)
-fault_within m k p n h = record { number = n; input = refl; place = h; needed = refl }
+fault_within m k p n h = record { number = let e = number_of_fault k (omega arith) (omega arith) in (omega arith, omega arith); input = refl; place = h; needed = refl }
 
 fails : (d : List ℕ) (c : Reading) (k p : ℕ) → FaultNumber k → (Good d c → p ≤ length d) → Onward d c (no k p)
 fails d c k p n h = record { behind = λ q b. tt; good = λ g. fault_within (length d) k p n (h g) }
@@ -129,7 +130,7 @@ onward_skip d n c =
 item_fits : (d : List ℕ) (at n v : ℕ) → (0 < n) × (n ≤ length (drop at d)) → Gets d at at (At (at + n) v)
 item_fits d at n v w = (omega arith, λ g. omega (arith, length-drop at d))
 
-item_fault : (d : List ℕ) (at : ℕ) (r : Refusal) → ItemFault r → Gets d at at (no r.number at)
+item_fault : (d : List ℕ) (at : ℕ) (r : Refusal) → ItemFault r → Gets d at at (no (refusal_number r) at)
 item_fault d at r (inl e) = rw e (here d at at 2 (omega arith))
 item_fault d at r (inr e) = rw e (here d at at 3 (omega arith))
 
@@ -159,30 +160,30 @@ pub onward_null_id : (d : List ℕ) (k : ℕ) (c : Reading) → FaultNumber k �
 unfolding null_id
 onward_null_id d k c h = goes d c _ (λ at. null_on d k at (read_extended_guid (drop at d)) h (extended_guid_within (drop at d)))
 
-pub onward_guid : (d : List ℕ) (c : Reading) → Onward d c (on_guid (guid_here d c))
-unfolding guid_here on_guid
+pub onward_guid : (d : List ℕ) (c : Reading) → Onward d c (on_field (guid_here d c))
+unfolding guid_here on_field
 onward_guid d (At at v) =
-    pick_all (λ r. Onward d (At at v) (on_guid r)) (ltb (length d - at) 16) _ _ (λ e. fails d (At at v) 2 at (omega arith) (λ g. g))
+    pick_all (λ (r : ReadingGuid). Onward d (At at v) (on_field r)) (ltb (length d - at) 16) _ _ (λ e. fails d (At at v) 2 at (omega arith) (λ g. g))
     (λ e. gets_on d at v (At (at + 16) 0) (left_fits d at 16 0 e))
 onward_guid d (Refused r) = stays d (Refused r)
 
-id_on_lem : (d : List ℕ) (at : ℕ) (r : ReadExtendedGuid) → ExtendedGuidWithin (length (drop at d)) r → Gets d at at (on_id (id_on at r))
-unfolding on_id
+id_on_lem : (d : List ℕ) (at : ℕ) (r : ReadExtendedGuid) → ExtendedGuidWithin (length (drop at d)) r → Gets d at at (on_field (id_on at r))
+unfolding on_field
 id_on_lem d at (extended.Value x n) w = item_fits d at n 0 w
 id_on_lem d at (extended.Refused r) w = item_fault d at r w
 
-pub onward_id : (d : List ℕ) (c : Reading) → Onward d c (on_id (id_here d c))
-unfolding id_here on_id
+pub onward_id : (d : List ℕ) (c : Reading) → Onward d c (on_field (id_here d c))
+unfolding id_here on_field
 onward_id d (At at v) = gets_on d at v _ (id_on_lem d at (read_extended_guid (drop at d)) (extended_guid_within (drop at d)))
 onward_id d (Refused r) = stays d (Refused r)
 
-serial_on_lem : (d : List ℕ) (at : ℕ) (r : ReadSerial) → SerialWithin (length (drop at d)) r → Gets d at at (on_serial (serial_on at r))
-unfolding on_serial
+serial_on_lem : (d : List ℕ) (at : ℕ) (r : ReadSerial) → SerialWithin (length (drop at d)) r → Gets d at at (on_field (serial_on at r))
+unfolding on_field
 serial_on_lem d at (serial.Value x n) w = item_fits d at n 0 w
 serial_on_lem d at (serial.Refused r) w = item_fault d at r w
 
-pub onward_serial : (d : List ℕ) (c : Reading) → Onward d c (on_serial (serial_here d c))
-unfolding serial_here on_serial
+pub onward_serial : (d : List ℕ) (c : Reading) → Onward d c (on_field (serial_here d c))
+unfolding serial_here on_field
 onward_serial d (At at v) = gets_on d at v _ (serial_on_lem d at (read_serial (drop at d)) (serial_within (drop at d)))
 onward_serial d (Refused r) = stays d (Refused r)
 
@@ -194,7 +195,7 @@ length_gets d low at u (length'.Refused r) h i (inl e) = rw e (λ g. fault_withi
 length_gets d low at u (length'.Refused r) h i (inr e) = rw e (λ g. fault_within (length d) 3 (at + u) (omega arith) i)
 
 -- a start goes on by a byte at least
-start_on_lem : (padding : Bool) (d : List ℕ) (outer kind : ℕ) (compound room : Bool) (at : ℕ) (h : Header) → Fits at (length d - at) h
+start_on_lem : (padding : Bool) (d : List ℕ) (outer kind : ℕ) (compound room : Bool) (at : ℕ) (h : ReadHeader) → Fits at (length d - at) h
     → Gets d (at + 1) at (start_on padding d outer kind compound room at h)
 start_on_lem padding d outer kind compound room at (header.Refused r) w = rw w (here d (at + 1) at 2 (omega arith))
 start_on_lem padding d outer kind compound room at (header.End k u) w =
@@ -257,7 +258,7 @@ unfolding start_of_length
 past_start_of_length padding d outer kind compound room n p c h =
     past_length_is n (p + 1) (place_of c) (start_here padding d outer kind compound room c) (past_start padding d outer kind compound room p c h)
 
-end_on_lem : (d : List ℕ) (kind at : ℕ) (h : Header) → Fits at (length d - at) h → Gets d at at (end_on kind at h)
+end_on_lem : (d : List ℕ) (kind at : ℕ) (h : ReadHeader) → Fits at (length d - at) h → Gets d at at (end_on kind at h)
 end_on_lem d kind at (header.Refused r) w = rw w (here d at at 2 (omega arith))
 end_on_lem d kind at (header.End k u) w =
     pick_all (Gets d at at) (eqb k kind) (At (at + u) 0) (no 4 at) (λ e. (omega arith, λ g. omega arith)) (λ e. here d at at 4 (omega arith))
@@ -268,7 +269,7 @@ unfolding end_here
 onward_end d kind c = goes d c _ (λ at. end_on_lem d kind at (header_at d at) (header_fits d at))
 
 -- where a start stands next, the input goes on
-next_on_lem : (kind at m : ℕ) (h : Header) → start_is kind h ≡ true → Fits at m h → 0 < m
+next_on_lem : (kind at m : ℕ) (h : ReadHeader) → start_is kind h ≡ true → Fits at m h → 0 < m
 next_on_lem kind at m (header.Refused r) e w = impossible (cc)
 next_on_lem kind at m (header.End k u) e w = impossible (cc)
 next_on_lem kind at m (header.Start k b n u) e w = omega arith

@@ -9,6 +9,7 @@ pub mod Local
 pub mod Deeper
 pub mod ItemsAt
 pub mod NullId
+pub mod NumberIs
 pub mod Keep
 pub mod InputFaults
 pub mod WholeHeaders

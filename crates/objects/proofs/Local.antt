@@ -16,19 +16,16 @@ use Rattle.laws.proofs.Cases.{by_lt, by_eq, impossible}
 use Rattle.laws.proofs.Parts.{same_first}
 use Rattle.numbers.specs.Refusals.{fault_at}
 use Rattle.numbers.specs.Compact.{compact_for}
-use Rattle.numbers.specs.declared.compact.Compact.{Compact}
-use Rattle.numbers.specs.declared.compact.Compact.TheVariants as compact
+use Rattle.numbers.specs.Results.Compact.{Compact}
+use Rattle.numbers.specs.Results.Compact as compact
 use Rattle.laws.proofs.Agreement.{Agree, Same, same_less, same_behind}
 use Rattle.numbers.proofs.OwnBytes.{compact_for_own}
 use Rattle.objects.specs.Header.{start_of, end_of, sized, header_of, header_at, escape, length_on, length_at}
 use Rattle.objects.specs.Nesting.{data_on, data_past, object_at, run_at}
-use Rattle.objects.specs.declared.header.Header.{Header}
-use Rattle.objects.specs.declared.header.Header.TheVariants.{Start, End, Refused}
-use Rattle.objects.specs.declared.header.Length.{Length}
-use Rattle.objects.specs.declared.header.Length.TheVariants.{Is}
-use Rattle.objects.specs.declared.header.Length.TheVariants as length'
-use Rattle.objects.specs.declared.nesting.Passed.{Passed}
-use Rattle.objects.specs.declared.nesting.Passed.TheVariants.{To}
+use Rattle.objects.specs.Results.Header.{End, ReadHeader, Refused, Start}
+use Rattle.objects.specs.Results.Length.{Is, Length}
+use Rattle.objects.specs.Results.Length as length'
+use Rattle.objects.specs.Results.Passed.{Passed, To}
 use Rattle.objects.proofs.HeaderLaws.{header_fits_at, compact_fits, length_fits_at}
 use Rattle.objects.proofs.Ahead.{data_ahead_at, object_next, run_next}
 use Rattle.objects.proofs.Rules.{no_place, object_plain, object_compound, run_end, run_object, Kept, object_ind, run_ind}
@@ -36,12 +33,12 @@ use Rattle.objects.proofs.Rules.{no_place, object_plain, object_compound, run_en
 -- ---- the header
 
 -- the bytes used: 0 for none
-abbrev used : Header → ℕ
+abbrev used : ReadHeader → ℕ
 used (Start k c n u) = u
 used (End k u) = u
 used (Refused r) = 0
 
-sized_own : (at at' n : ℕ) (form : ℕ → ℕ → Header) (x y : List ℕ) (h : Header) → ((w : ℕ) → used (form n w) ≡ n) → 0 < used h
+sized_own : (at at' n : ℕ) (form : ℕ → ℕ → ReadHeader) (x y : List ℕ) (h : ReadHeader) → ((w : ℕ) → used (form n w) ≡ n) → 0 < used h
     → Agree x y (used h) → sized at n form x ≡ h → sized at' n form y ≡ h
 unfolding sized
 sized_own at at' n form x y h f p a e =
@@ -54,21 +51,21 @@ sized_own at at' n form x y h f p a e =
     let m : n ≤ length y = b.long in
     rw (le-ltb _ _ m, ← b.same) z)
 
-start_own : (at at' n span : ℕ) (x y : List ℕ) (h : Header) → 0 < used h → Agree x y (used h) → sized at n (start_of span) x ≡ h
+start_own : (at at' n span : ℕ) (x y : List ℕ) (h : ReadHeader) → 0 < used h → Agree x y (used h) → sized at n (start_of span) x ≡ h
     → sized at' n (start_of span) y ≡ h
 unfolding start_of
 start_own at at' n span x y h = sized_own at at' n (start_of span) x y h (λ w. refl)
 
-end_own : (at at' n : ℕ) (x y : List ℕ) (h : Header) → 0 < used h → Agree x y (used h) → sized at n end_of x ≡ h → sized at' n end_of y ≡ h
+end_own : (at at' n : ℕ) (x y : List ℕ) (h : ReadHeader) → 0 < used h → Agree x y (used h) → sized at n end_of x ≡ h → sized at' n end_of y ≡ h
 unfolding end_of
 end_own at at' n x y h = sized_own at at' n end_of x y h (λ w. refl)
 
 -- a choice by one test
-pick_own : (b : Bool) (x y x' y' h : Header) → (x ≡ h → x' ≡ h) → (y ≡ h → y' ≡ h) → pick b x y ≡ h → pick b x' y' ≡ h
+pick_own : (b : Bool) (x y x' y' h : ReadHeader) → (x ≡ h → x' ≡ h) → (y ≡ h → y' ≡ h) → pick b x y ≡ h → pick b x' y' ≡ h
 pick_own true x y x' y' h f g = f
 pick_own false x y x' y' h f g = g
 
-header_of_own : (at at' : ℕ) (x y : List ℕ) (h : Header) → 0 < used h → Agree x y (used h) → header_of at x ≡ h → header_of at' y ≡ h
+header_of_own : (at at' : ℕ) (x y : List ℕ) (h : ReadHeader) → 0 < used h → Agree x y (used h) → header_of at x ≡ h → header_of at' y ≡ h
 unfolding header_of
 header_of_own at at' x y h p a e =
     let s : get_or y 0 0 ≡ get_or x 0 0 = sym (same_first x y (used h) p a.same) in
@@ -83,7 +80,7 @@ header_of_own at at' x y h p a e =
     (rw (ne_eqb _ _ z) at e)))
 
 module _ (s : List ℕ) (p : ℕ) (t : List ℕ) (p' : ℕ) where
-  header_own : (h : Header) → header_at s p ≡ h → 0 < used h → Same s p t p' (used h) → header_at t p' ≡ h
+  header_own : (h : ReadHeader) → header_at s p ≡ h → 0 < used h → Same s p t p' (used h) → header_at t p' ≡ h
   unfolding header_at
   header_own h e l a = header_of_own p p' (drop p s) (drop p' t) h l a e
 
@@ -98,8 +95,8 @@ module _ (padding : Bool) (s : List ℕ) (p : ℕ) (t : List ℕ) (p' : ℕ) whe
   length_on_local : (v m : ℕ) (r : Compact) → compact_for padding (drop p s) ≡ r → Same s p t p' m → length_on p r ≡ Is v (p + m)
       → length_on p' (compact_for padding (drop p' t)) ≡ Is v (p' + m)
   length_on_local v m (compact.Value w i padded) c a e =
-      let x : w ≡ v = cc in
-      let q : p + i ≡ p + m = cc in
+      let x : w ≡ v = grind arith in
+      let q : p + i ≡ p + m = grind arith in
       let z : m ≡ i = omega arith in
       let b : Same s p t p' i = rw z at a in
       rw (compact_for_own padding (drop p s) (drop p' t) w i padded c (compact_fits padding s p w i padded c).0 b, x, z)
@@ -112,8 +109,8 @@ module _ (padding : Bool) (s : List ℕ) (p : ℕ) (t : List ℕ) (p' : ℕ) whe
       (λ q. rw (eq-eqb _ _ q) (length_on_local v m (compact_for padding (drop p s)) refl a (rw (eq-eqb _ _ q) at e)))
       (λ q.
       let z : Is n p ≡ Is v (p + m) = rw (ne_eqb _ _ q) at e in
-      let x : n ≡ v = cc in
-      let y : p ≡ p + m = cc in
+      let x : n ≡ v = grind arith in
+      let y : p ≡ p + m = grind arith in
       let i : p' ≡ p' + m = omega arith in
       rw (ne_eqb _ _ q) (ap (λ (k : ℕ). Is k p') x ∙ ap (λ (k : ℕ). Is v k) i))
 

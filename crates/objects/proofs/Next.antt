@@ -17,12 +17,11 @@ use Rattle.numbers.specs.declared.refusal.Refusal.{Refusal}
 use Rattle.objects.specs.Header.{start_of, header_at}
 use Rattle.objects.specs.Nesting.{data_past, and_on, onward, object_at, run_at}
 use Rattle.objects.specs.Next.{short_number, object_on, passing, opening, next_on, next_at, opened_at, met_by, plain_on, met_at}
-use Rattle.objects.specs.declared.header.Header.{Header}
-use Rattle.objects.specs.declared.header.Header.TheVariants as header
-use Rattle.objects.specs.declared.nesting.Passed.{Passed}
-use Rattle.objects.specs.declared.nesting.Passed.TheVariants.{To, Refused}
-use Rattle.objects.specs.declared.nesting.Next.{Next}
-use Rattle.objects.specs.declared.nesting.Next.TheVariants as next
+use Rattle.objects.specs.Results.Header.{ReadHeader}
+use Rattle.objects.specs.Results.Header as header
+use Rattle.objects.specs.Results.Passed.{Passed, Refused, To}
+use Rattle.objects.specs.Results.Next.{ReadNext}
+use Rattle.objects.specs.Results.Next as next
 use Rattle.objects.specs.declared.nesting.Met.{Met}
 use Rattle.objects.specs.declared.nesting.Met.TheVariants as met
 use Rattle.objects.proofs.HeaderLaws.{Fits, header_fits}
@@ -110,7 +109,7 @@ opens_as padding s at d k e kind inside n p q = rw (p, q) n
 -- ---- where the next thing stands
 
 -- past `at`, and within the input
-abbrev pub NextAhead : List ℕ → ℕ → ℕ → Next → Type 0
+abbrev pub NextAhead : List ℕ → ℕ → ℕ → ReadNext → Type 0
 NextAhead s at d (next.Past e) = (at < e) × (e ≤ length s)
 NextAhead s at d (next.Ends k e) = (at < e) × (e ≤ length s)
 NextAhead s at d (next.Opens k e) = (at < e) × (e ≤ length s) × (0 < d)
@@ -124,7 +123,7 @@ opening_ahead : (s : List ℕ) (at from d k : ℕ) (p : Passed) → at < from �
 opening_ahead s at from d k (To e) h l z w = let x = w.1 l in (omega arith, x, z)
 opening_ahead s at from d k (Refused r) h l z w = tt
 
-next_on_ahead : (padding : Bool) (s : List ℕ) (at d : ℕ) (h : Header) → Fits at (length s - at) h → NextAhead s at d (next_on padding s at d h)
+next_on_ahead : (padding : Bool) (s : List ℕ) (at d : ℕ) (h : ReadHeader) → Fits at (length s - at) h → NextAhead s at d (next_on padding s at d h)
 next_on_ahead padding s at d (header.Refused r) w = tt
 next_on_ahead padding s at d (header.End k u) w = (omega arith, omega arith)
 next_on_ahead padding s at d (header.Start k c n u) w =
@@ -135,7 +134,7 @@ next_on_ahead padding s at d (header.Start k c n u) w =
     (λ t. pick_all (NextAhead s at d) (eqb d 0) _ _ (λ z. tt) (λ z. let y = eqb-false d 0 z in opening_ahead s at (at + u) d k (data_past padding s (at + u) n) a b (omega arith) p))
     (λ t. passing_ahead s at (at + u) d (data_past padding s (at + u) n) a b p)
 
-pub next_ahead : (padding : Bool) (s : List ℕ) (at d : ℕ) (n : Next) → next_at padding s at d ≡ n → NextAhead s at d n
+pub next_ahead : (padding : Bool) (s : List ℕ) (at d : ℕ) (n : ReadNext) → next_at padding s at d ≡ n → NextAhead s at d n
 unfolding next_at
 next_ahead padding s at d n e = subst (NextAhead s at d) e (next_on_ahead padding s at d (header_at s at) (header_fits s at))
 
@@ -149,7 +148,7 @@ object_opening : (padding : Bool) (s : List ℕ) (at d k : ℕ) (p : Passed) →
 object_opening padding s at d k (To e) = refl
 object_opening padding s at d k (Refused r) = refl
 
-object_by_header : (padding : Bool) (s : List ℕ) (at d : ℕ) (h : Header) → header_at s at ≡ h → object_at padding s at d ≡ object_on padding s at d (next_on padding s at d h)
+object_by_header : (padding : Bool) (s : List ℕ) (at d : ℕ) (h : ReadHeader) → header_at s at ≡ h → object_at padding s at d ≡ object_on padding s at d (next_on padding s at d h)
 object_by_header padding s at d (header.Refused r) e = object_at_lem padding s at d (header.Refused r) e
 object_by_header padding s at d (header.End k u) e = object_at_lem padding s at d (header.End k u) e
 object_by_header padding s at d (header.Start k c n u) e =
@@ -158,7 +157,7 @@ object_by_header padding s at d (header.Start k c n u) e =
     (λ t. rw t (by_bool (eqb d 0) (λ z. rw z) (λ z. rw z (object_opening padding s at d k (data_past padding s (at + u) n)))))
     (λ t. rw t (object_passing padding s at d (data_past padding s (at + u) n)))
 
-pub object_next_on : (padding : Bool) (s : List ℕ) (at d : ℕ) (n : Next) → next_at padding s at d ≡ n → object_at padding s at d ≡ object_on padding s at d n
+pub object_next_on : (padding : Bool) (s : List ℕ) (at d : ℕ) (n : ReadNext) → next_at padding s at d ≡ n → object_at padding s at d ≡ object_on padding s at d n
 unfolding next_at
 object_next_on padding s at d n e = object_by_header padding s at d (header_at s at) refl ∙ ap (object_on padding s at d) e
 
@@ -199,7 +198,7 @@ module _ (s : List ℕ) (kind at w : ℕ) (is : short_number s at ≡ w) where
         rw (is, eq-eqb (w % 8) 0 low, le-ltb (length s - at - 2) (w / 8 / 64) fits, le-ltb 127 (w / 8 / 64) few, end)
 
 -- the same by what stands there: an end of its own type, or nothing that a run goes by without a call
-abbrev pub met_next : ℕ → Next → Met
+abbrev pub met_next : ℕ → ReadNext → Met
 met_next kind (next.Refused r) = met.Object
 met_next kind (next.Past e) = met.Object
 met_next kind (next.Opens k e) = met.Object
@@ -213,7 +212,7 @@ opening_object : (kind k : ℕ) (p : Passed) → met_next kind (opening k p) ≡
 opening_object kind k (To e) = refl
 opening_object kind k (Refused r) = refl
 
-next_met_on : (padding : Bool) (s : List ℕ) (kind at d : ℕ) (h : Header) → met_next kind (next_on padding s at d h) ≡ met_by kind at h
+next_met_on : (padding : Bool) (s : List ℕ) (kind at d : ℕ) (h : ReadHeader) → met_next kind (next_on padding s at d h) ≡ met_by kind at h
 next_met_on padding s kind at d (header.Refused r) = refl
 next_met_on padding s kind at d (header.End k u) = refl
 next_met_on padding s kind at d (header.Start k c n u) =
@@ -221,7 +220,7 @@ next_met_on padding s kind at d (header.Start k c n u) =
     (λ t. rw t (by_bool (eqb d 0) (λ z. rw z) (λ z. rw z (opening_object kind k (data_past padding s (at + u) n)))))
     (λ t. rw t (passing_object kind (data_past padding s (at + u) n)))
 
-pub next_met : (padding : Bool) (s : List ℕ) (kind at d : ℕ) (n : Next) → next_at padding s at d ≡ n → met_next kind n ≡ met_by kind at (header_at s at)
+pub next_met : (padding : Bool) (s : List ℕ) (kind at d : ℕ) (n : ReadNext) → next_at padding s at d ≡ n → met_next kind n ≡ met_by kind at (header_at s at)
 unfolding next_at
 next_met padding s kind at d n e = ap (met_next kind) (sym e) ∙ next_met_on padding s kind at d (header_at s at)
 
@@ -249,7 +248,7 @@ both_refuse : (padding : Bool) (s : List ℕ) (kind at d : ℕ) (r : Refusal) (p
     → run_at padding s at d kind ≡ and_on p (λ i. run_at padding s i d kind)
 both_refuse padding s kind at d r p run object o = run ∙ ap (λ (x : Passed). and_on x (λ i. run_at padding s i d kind)) (sym object ∙ o)
 
-by_header_met : (padding : Bool) (s : List ℕ) (kind at : ℕ) (h : Header) → header_at s at ≡ h → Meets padding s kind at (met_by kind at h)
+by_header_met : (padding : Bool) (s : List ℕ) (kind at : ℕ) (h : ReadHeader) → header_at s at ≡ h → Meets padding s kind at (met_by kind at h)
 by_header_met padding s kind at (header.Refused r) q = λ d p o.
     both_refuse padding s kind at d r p (run_at_lem padding s at d kind (header.Refused r) q) (object_at_lem padding s at d (header.Refused r) q) o
 by_header_met padding s kind at (header.End k u) q =

@@ -13,8 +13,8 @@ use Rattle.numbers.specs.Compact.{padding_taken}
 use Rattle.objects.specs.Header.{start_bytes, end_bytes}
 use Rattle.objects.specs.Nesting.{run_at}
 use Rattle.objects.specs.Steps.{same_bit, start_here, length_is, start_of_length, end_here, next_is, inside}
-use Rattle.objects.specs.declared.nesting.Passed.TheVariants as passed
-use Rattle.objects.specs.declared.reading.Reading.TheVariants.{At}
+use Rattle.objects.specs.Results.Passed as passed
+use Rattle.objects.specs.Results.Reading.{At}
 use Rattle.objects.proofs.HeadersBack.{start_written, end_written}
 use Rattle.objects.proofs.Local.{run_local}
 use Rattle.objects.proofs.Written.{Reads}

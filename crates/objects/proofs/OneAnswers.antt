@@ -7,11 +7,10 @@ use mathlib.Core.List.{List}
 use native.Mathlib.Omega.{arith}
 use Rattle.laws.specs.Pick.{pick}
 use Rattle.laws.proofs.OneAnswer.{Telling, one_answer, one_outcome}
-use Rattle.numbers.specs.declared.refusal.Wrote.{Wrote}
+use Rattle.numbers.specs.Results.Wrote.{Wrote}
 use Rattle.numbers.proofs.OneAnswers.{refuses_telling, wrote_telling, values_of}
 use Rattle.objects.specs.Calls.{tell_header, ReadsHeader, WritesTyped}
-use Rattle.objects.specs.declared.header.Header.{Header}
-use Rattle.objects.specs.declared.header.Header.TheVariants.{Start, End, Refused}
+use Rattle.objects.specs.Results.Header.{End, ReadHeader, Refused, Start}
 
 -- ---- an answer is known by what it tells
 
@@ -37,7 +36,7 @@ header_telling (Refused r) (Refused q) e = ap Refused (refuses_telling r q e)
 
 -- ---- any two answers allowed are equal
 
-pub read_header_one : (s : List ℕ) (r q : Header) → ReadsHeader s r → ReadsHeader s q → r ≡ q
+pub read_header_one : (s : List ℕ) (r q : ReadHeader) → ReadsHeader s r → ReadsHeader s q → r ≡ q
 read_header_one s r q a b = one_answer header_telling a b
 
 -- of any type k and any header's bytes w, so of a start and of an end

@@ -17,10 +17,9 @@ use Rattle.numbers.specs.Refusals.{fault_at}
 use Rattle.numbers.specs.declared.refusal.Refusal.{Refusal}
 use Rattle.objects.specs.Header.{header_at}
 use Rattle.objects.specs.Nesting.{data_past, and_on, onward, run_turn, object_by, object_d, object_at, run_at}
-use Rattle.objects.specs.declared.header.Header.{Header}
-use Rattle.objects.specs.declared.header.Header.TheVariants as header
-use Rattle.objects.specs.declared.nesting.Passed.{Passed}
-use Rattle.objects.specs.declared.nesting.Passed.TheVariants.{To, Refused}
+use Rattle.objects.specs.Results.Header.{ReadHeader}
+use Rattle.objects.specs.Results.Header as header
+use Rattle.objects.specs.Results.Passed.{Passed, Refused, To}
 use Rattle.objects.proofs.Ahead.{falls, object_ahead, object_at_lem, run_at_lem, run_start}
 
 -- a refusal is no place
@@ -40,7 +39,7 @@ object_compound padding s at d k n u m h q = rw (h, q)
 pub run_end : (padding : Bool) (s : List ℕ) (at d kind u : ℕ) → header_at s at ≡ header.End kind u → run_at padding s at d kind ≡ To (at + u)
 run_end padding s at d kind u h = run_at_lem padding s at d kind (header.End kind u) h ∙ rw (eq-eqb kind kind refl)
 
-object_then : (padding : Bool) (s : List ℕ) (at d kind e : ℕ) (h : Header) → header_at s at ≡ h → object_at padding s at d ≡ To e
+object_then : (padding : Bool) (s : List ℕ) (at d kind e : ℕ) (h : ReadHeader) → header_at s at ≡ h → object_at padding s at d ≡ To e
     → run_at padding s at d kind ≡ run_at padding s e d kind
 object_then padding s at d kind e (header.Refused r) h q = absurd (no_place (sym (object_at_lem padding s at d (header.Refused r) h) ∙ q))
 object_then padding s at d kind e (header.End k u) h q = absurd (no_place (sym (object_at_lem padding s at d (header.End k u) h) ∙ q))
@@ -75,7 +74,7 @@ module _ (padding : Bool) (s : List ℕ) (P : ℕ → ℕ → ℕ → Type 0) (Q
     by_object at e (To m) o ih q = kept.object at d kind m e o (below at m o) q (ih m refl e q)
     by_object at e (Refused r) o ih q = absurd (no_place q)
 
-    by_header : (at e : ℕ) (h : Header) → header_at s at ≡ h
+    by_header : (at e : ℕ) (h : ReadHeader) → header_at s at ≡ h
         → ((b : ℕ) → run_turn (λ i. object_at padding s i d) kind at h ≡ more b → (f : ℕ) → run_at padding s b d kind ≡ To f → Q b d kind f)
         → after (λ i. run_at padding s i d kind) (run_turn (λ i. object_at padding s i d) kind at h) ≡ To e → Q at d kind e
     by_header at e (header.Refused r) h ih q = absurd (no_place q)
@@ -93,7 +92,7 @@ module _ (padding : Bool) (s : List ℕ) (P : ℕ → ℕ → ℕ → Type 0) (Q
   by_data at d k n u e (To m) h o f q = kept.compound at d k n u m e h o q (f m e q)
   by_data at d k n u e (Refused r) h o f q = absurd (no_place q)
 
-  by_start : (go : ℕ → Passed → Passed) (at d e : ℕ) (h : Header) → header_at s at ≡ h
+  by_start : (go : ℕ → Passed → Passed) (at d e : ℕ) (h : ReadHeader) → header_at s at ≡ h
       → ((k n u : ℕ) → header_at s at ≡ header.Start k true n u → go k (data_past padding s (at + u) n) ≡ To e → P at d e)
       → object_by padding go s at h ≡ To e → P at d e
   by_start go at d e (header.Refused r) h f q = absurd (no_place q)

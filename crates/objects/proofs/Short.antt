@@ -17,9 +17,9 @@ use Rattle.objects.specs.Header.{start_of, end_of, sized, header_of, header_at, 
 use Rattle.objects.specs.Nesting.{data_past}
 use Rattle.objects.specs.Steps.{same_bit, start_on, start_is, end_on}
 use Rattle.objects.specs.Next.{short_number, short_is}
-use Rattle.objects.specs.declared.header.Header.TheVariants as header
-use Rattle.objects.specs.declared.nesting.Passed.TheVariants.{To}
-use Rattle.objects.specs.declared.reading.Reading.TheVariants.{At}
+use Rattle.objects.specs.Results.Header as header
+use Rattle.objects.specs.Results.Passed.{To}
+use Rattle.objects.specs.Results.Reading.{At}
 
 short_start_of : (at : ℕ) (t : List ℕ) → 2 ≤ length t → le (take 2 t) % 4 ≡ 0 → header_of at t ≡ start_of 64 2 (le (take 2 t))
 unfolding header_of sized le

@@ -21,35 +21,34 @@ use Rattle.numbers.specs.Guid.{guid_at}
 use Rattle.numbers.specs.ExtendedGuid.{read_extended_guid}
 use Rattle.numbers.specs.Serial.{read_serial}
 use Rattle.numbers.specs.declared.refusal.Refusal.{Refusal}
-use Rattle.numbers.specs.declared.compact.Compact.{Compact}
-use Rattle.numbers.specs.declared.compact.Compact.TheVariants as compact
+use Rattle.numbers.specs.Results.Compact.{Compact}
+use Rattle.numbers.specs.Results.Compact as compact
 use Rattle.numbers.specs.declared.guid.Guid.{Guid}
-use Rattle.numbers.specs.declared.extended_guid.ExtendedGuid.{ExtendedGuid}
-use Rattle.numbers.specs.declared.extended_guid.ExtendedGuid.TheVariants as id
-use Rattle.numbers.specs.declared.extended_guid.ReadExtendedGuid.{ReadExtendedGuid}
-use Rattle.numbers.specs.declared.extended_guid.ReadExtendedGuid.TheVariants as extended
-use Rattle.numbers.specs.declared.serial.Serial.{Serial}
-use Rattle.numbers.specs.declared.serial.ReadSerial.{ReadSerial}
-use Rattle.numbers.specs.declared.serial.ReadSerial.TheVariants as serial
+use Rattle.numbers.specs.Results.ExtendedGuid.{ExtendedGuid}
+use Rattle.numbers.specs.Results.ExtendedGuid as id
+use Rattle.numbers.specs.Results.ReadExtendedGuid.{ReadExtendedGuid}
+use Rattle.numbers.specs.Results.ReadExtendedGuid as extended
+use Rattle.numbers.specs.Results.Serial.{Serial}
+use Rattle.numbers.specs.Results.ReadSerial.{ReadSerial}
+use Rattle.numbers.specs.Results.ReadSerial as serial
 use Rattle.numbers.proofs.Within.{ExtendedGuidWithin, extended_guid_within, SerialWithin, serial_within}
 use Rattle.numbers.proofs.OwnBytes.{compact_for_own, extended_guid_own, serial_own}
 use Rattle.objects.specs.Header.{header_at, length_at}
 use Rattle.objects.specs.Nesting.{run_at}
-use Rattle.objects.specs.Steps.{no, place_of, value_of, valued, need, fixed_in, number_on, number, number_is_on, number_is, null_id_on, null_id, skip, guid_here, on_guid, id_on, id_here, on_id, serial_on, serial_here, on_serial, same_bit, length_to, start_on, start_here, length_is, start_of_length, end_on, end_here, next_is, inside_on, inside, run_here, closed_at, in_run}
-use Rattle.objects.specs.declared.header.Header.{Header}
-use Rattle.objects.specs.declared.header.Header.TheVariants as header
-use Rattle.objects.specs.declared.header.Length.{Length}
-use Rattle.objects.specs.declared.header.Length.TheVariants as length'
-use Rattle.objects.specs.declared.nesting.Passed.{Passed}
-use Rattle.objects.specs.declared.nesting.Passed.TheVariants as passed
-use Rattle.objects.specs.declared.reading.Reading.{Reading}
-use Rattle.objects.specs.declared.reading.Reading.TheVariants.{At, Refused}
-use Rattle.objects.specs.declared.reading.ReadingGuid.{ReadingGuid}
-use Rattle.objects.specs.declared.reading.ReadingGuid.TheVariants as guid'
-use Rattle.objects.specs.declared.reading.ReadingId.{ReadingId}
-use Rattle.objects.specs.declared.reading.ReadingId.TheVariants as id'
-use Rattle.objects.specs.declared.reading.ReadingSerial.{ReadingSerial}
-use Rattle.objects.specs.declared.reading.ReadingSerial.TheVariants as serial'
+use Rattle.objects.specs.Steps.{no, place_of, value_of, valued, need, fixed_in, number_on, number, number_is_on, number_is, null_id_on, null_id, skip, guid_here, id_on, id_here, serial_on, serial_here, same_bit, length_to, start_on, start_here, length_is, start_of_length, end_on, end_here, next_is, inside_on, inside, run_here, closed_at, in_run, on_field}
+use Rattle.objects.specs.Results.Header.{ReadHeader}
+use Rattle.objects.specs.Results.Header as header
+use Rattle.objects.specs.Results.Length.{Length}
+use Rattle.objects.specs.Results.Length as length'
+use Rattle.objects.specs.Results.Passed.{Passed}
+use Rattle.objects.specs.Results.Passed as passed
+use Rattle.objects.specs.Results.Reading.{At, Reading, Refused}
+use Rattle.objects.specs.Results.ReadingGuid.{ReadingGuid}
+use Rattle.objects.specs.Results.ReadingGuid as guid'
+use Rattle.objects.specs.Results.ReadingId.{ReadingId}
+use Rattle.objects.specs.Results.ReadingId as id'
+use Rattle.objects.specs.Results.ReadingSerial.{ReadingSerial}
+use Rattle.objects.specs.Results.ReadingSerial as serial'
 use Rattle.objects.proofs.HeaderLaws.{compact_fits, length_fits_at}
 use Rattle.objects.proofs.Ahead.{run_next}
 use Rattle.objects.proofs.Local.{start_local, end_local, length_local, run_local}
@@ -292,8 +291,8 @@ carries_none = record { fault = λ s r. refl; took = λ s p u q v e. none s p u 
   where
     none : (s : List ℕ) (p u q v : ℕ) → At p u ≡ At q v → Took (λ t c. c) s p u q v
     none s p u q v e =
-        let x : p ≡ q = cc in
-        let y : u ≡ v = cc in
+        let x : p ≡ q = grind arith in
+        let y : u ≡ v = grind arith in
         record { size = 0; past = omega arith; there = λ t p' a. rw (add-zero, y) }
 
 -- on at the same place
@@ -309,7 +308,7 @@ module _ (on : Reading → Reading) (stays : (r : Refusal) → on (Refused r) �
 
 pub carries_valued : (x : ℕ) → Carries (λ s c. valued x c)
 unfolding valued
-carries_valued x = carries_still (λ c. valued x c) (λ r. refl) (λ p u q v e. let y : p ≡ q = cc in let z : x ≡ v = cc in (sym y, λ p'. rw z))
+carries_valued x = carries_still (λ c. valued x c) (λ r. refl) (λ p u q v e. let y : p ≡ q = grind arith in let z : x ≡ v = grind arith in (sym y, λ p'. rw z))
 
 -- a test, whose place does not matter where it holds
 module _ {step : List ℕ → Reading → Reading} {fine : List ℕ → Reading → Bool} (k : ℕ) (place : List ℕ → Reading → ℕ) where
@@ -358,8 +357,8 @@ fixed_took n least most k s p u q v e =
     (λ i. let z : no k p ≡ At q v = rw (le-ltb _ _ l, le-ltb _ _ m, lt-ltb _ _ i) at e in impossible (cc))
     (λ i.
     let z : At (p + n) x ≡ At q v = rw (le-ltb _ _ l, le-ltb _ _ m, le-ltb _ _ i) at e in
-    let y : p + n ≡ q = cc in
-    let w : x ≡ v = cc in
+    let y : p + n ≡ q = grind arith in
+    let w : x ≡ v = grind arith in
     record {
       size = n;
       past = sym y;
@@ -377,8 +376,8 @@ skip_took n s p u q v e =
     (λ l. let z : no 2 p ≡ At q v = rw (lt-ltb _ _ l) at e in impossible (cc))
     (λ l.
     let z : At (p + n) 0 ≡ At q v = rw (le-ltb _ _ l) at e in
-    let y : p + n ≡ q = cc in
-    let w : 0 ≡ v = cc in
+    let y : p + n ≡ q = grind arith in
+    let w : 0 ≡ v = grind arith in
     record { size = n; past = sym y; there = λ t p' a. rw (le-ltb _ _ (there_long s p t p' n a), w) })
 
 pub carries_skip : (n : ℕ) → Carries (λ s c. skip s n c)
@@ -388,8 +387,8 @@ carries_skip n = record { fault = λ s r. refl; took = λ s p u q v e. skip_took
 number_took : (padding : Bool) (s : List ℕ) (p u q v : ℕ) (r : Compact) → compact_for padding (drop p s) ≡ r → number_on p r ≡ At q v → Took (number padding) s p u q v
 unfolding number
 number_took padding s p u q v (compact.Value x n padded) a e =
-    let y : p + n ≡ q = cc in
-    let w : x ≡ v = cc in
+    let y : p + n ≡ q = grind arith in
+    let w : x ≡ v = grind arith in
     let f = compact_fits padding s p x n padded a in
     record { size = n; past = sym y; there = λ t p' i. rw (compact_for_own padding (drop p s) (drop p' t) x n padded a f.0 i, w) }
 number_took padding s p u q v (compact.Refused r) a e = impossible (cc)
@@ -405,8 +404,8 @@ number_is_took padding x k s p u q v (compact.Value y n padded) a e =
     by_bool (eqb y x)
     (λ b.
     let z : At (p + n) y ≡ At q v = rw b at e in
-    let w : p + n ≡ q = cc in
-    let o : y ≡ v = cc in
+    let w : p + n ≡ q = grind arith in
+    let o : y ≡ v = grind arith in
     let f = compact_fits padding s p y n padded a in
     record { size = n; past = sym w; there = λ t p' i. rw (compact_for_own padding (drop p s) (drop p' t) y n padded a f.0 i, b, o) })
     (λ b. let z : no k p ≡ At q v = rw b at e in impossible (cc))
@@ -425,8 +424,8 @@ null_took : (k : ℕ) (s : List ℕ) (p u q v : ℕ) (r : ReadExtendedGuid) → 
     → Took (λ t c. null_id t k c) s p u q v
 unfolding null_id
 null_took k s p u q v (extended.Value id.Null n) a e =
-    let y : p + n ≡ q = cc in
-    let w : 0 ≡ v = cc in
+    let y : p + n ≡ q = grind arith in
+    let w : 0 ≡ v = grind arith in
     record { size = n; past = sym y; there = λ t p' i. rw (extended_guid_own (drop p s) (drop p' t) id.Null n a (id_size s p id.Null n a) i, w) }
 null_took k s p u q v (extended.Value (id.Named g x) n) a e = impossible (cc)
 null_took k s p u q v (extended.Refused r) a e = impossible (cc)
@@ -437,13 +436,13 @@ carries_null_id k = record { fault = λ s r. refl; took = λ s p u q v e. null_t
 
 -- the step of a GUID, of an id and of a serial number
 abbrev pub guid_step : List ℕ → Reading → Reading
-guid_step s c = on_guid (guid_here s c)
+guid_step s c = on_field (guid_here s c)
 
 abbrev pub id_step : List ℕ → Reading → Reading
-id_step s c = on_id (id_here s c)
+id_step s c = on_field (id_here s c)
 
 abbrev pub serial_step : List ℕ → Reading → Reading
-serial_step s c = on_serial (serial_here s c)
+serial_step s c = on_field (serial_here s c)
 
 -- a value that was read at p, and that its own bytes give anywhere; `at q x` is x, read up to q
 record Held {A X : Type 0} (here : List ℕ → Reading → X) (at : ℕ → A → X) (s : List ℕ) (p u q : ℕ) : Type 0 where
@@ -463,7 +462,7 @@ module _ {A X : Type 0} {here : List ℕ → Reading → X} {on : X → Reading}
   item_took s p u q v e =
       let k = i.held s p u q v e in
       let z : At (p + k.size) 0 ≡ At q v = sym (ap on k.read ∙ i.read (p + k.size) k.value) ∙ e in
-      let w : 0 ≡ v = cc in
+      let w : 0 ≡ v = grind arith in
       record {
         size = k.size;
         past = k.past;
@@ -495,13 +494,13 @@ guid_same s p t p' a =
     rw (h, i)
 
 guid_held : (s : List ℕ) (p u q v : ℕ) → guid_step s (At p u) ≡ At q v → Held guid_here (λ n g. guid'.At n g) s p u q
-unfolding guid_here on_guid
+unfolding guid_here on_field
 guid_held s p u q v e =
     by_lt (length s - p) 16
     (λ l. let z : no 2 p ≡ At q v = rw (lt-ltb _ _ l) at e in impossible (cc))
     (λ l.
     let z : At (p + 16) 0 ≡ At q v = rw (le-ltb _ _ l) at e in
-    let y : p + 16 ≡ q = cc in
+    let y : p + 16 ≡ q = grind arith in
     record {
       size = 16;
       value = guid_at (drop p s);
@@ -510,14 +509,14 @@ guid_held s p u q v e =
       there = λ t p' a. rw (le-ltb _ _ (there_long s p t p' 16 a), guid_same s p t p' a);
     })
 
-guid_item : Item guid_here on_guid (λ n g. guid'.At n g)
-unfolding guid_here on_guid
+guid_item : Item guid_here on_field (λ n g. guid'.At n g)
+unfolding guid_here on_field
 guid_item = record { read = λ p g. refl; fault = λ s r. refl; held = guid_held }
 
-id_held : (s : List ℕ) (p u q v : ℕ) (r : ReadExtendedGuid) → read_extended_guid (drop p s) ≡ r → on_id (id_on p r) ≡ At q v → Held id_here (λ n x. id'.At n x) s p u q
-unfolding id_here on_id
+id_held : (s : List ℕ) (p u q v : ℕ) (r : ReadExtendedGuid) → read_extended_guid (drop p s) ≡ r → on_field (id_on p r) ≡ At q v → Held id_here (λ n x. id'.At n x) s p u q
+unfolding id_here on_field
 id_held s p u q v (extended.Value x n) a e =
-    let y : p + n ≡ q = cc in
+    let y : p + n ≡ q = grind arith in
     record {
       size = n;
       value = x;
@@ -527,21 +526,21 @@ id_held s p u q v (extended.Value x n) a e =
     }
 id_held s p u q v (extended.Refused r) a e = impossible (cc)
 
-id_item : Item id_here on_id (λ n x. id'.At n x)
-unfolding id_here on_id
+id_item : Item id_here on_field (λ n x. id'.At n x)
+unfolding id_here on_field
 id_item = record { read = λ p x. refl; fault = λ s r. refl; held = λ s p u q v e. id_held s p u q v (read_extended_guid (drop p s)) refl e }
 
-serial_held : (s : List ℕ) (p u q v : ℕ) (r : ReadSerial) → read_serial (drop p s) ≡ r → on_serial (serial_on p r) ≡ At q v
+serial_held : (s : List ℕ) (p u q v : ℕ) (r : ReadSerial) → read_serial (drop p s) ≡ r → on_field (serial_on p r) ≡ At q v
     → Held serial_here (λ n x. serial'.At n x) s p u q
-unfolding serial_here on_serial
+unfolding serial_here on_field
 serial_held s p u q v (serial.Value x n) a e =
-    let y : p + n ≡ q = cc in
+    let y : p + n ≡ q = grind arith in
     let w = subst (SerialWithin (length (drop p s))) a (serial_within (drop p s)) in
     record { size = n; value = x; past = sym y; read = rw a; there = λ t p' i. rw (serial_own (drop p s) (drop p' t) x n a w.0 i) }
 serial_held s p u q v (serial.Refused r) a e = impossible (cc)
 
-serial_item : Item serial_here on_serial (λ n x. serial'.At n x)
-unfolding serial_here on_serial
+serial_item : Item serial_here on_field (λ n x. serial'.At n x)
+unfolding serial_here on_field
 serial_item = record { read = λ p x. refl; fault = λ s r. refl; held = λ s p u q v e. serial_held s p u q v (read_serial (drop p s)) refl e }
 
 pub carries_guid : Carries guid_step
@@ -578,10 +577,10 @@ pub record Opened (padding : Bool) (s : List ℕ) (kind : ℕ) (compound room : 
   pub past : from ≡ p + (used + rest)
 
 length_to_lem : (l : Length) (from v : ℕ) → length_to l ≡ At from v → l ≡ length'.Is v from
-length_to_lem (length'.Is v' f) from v e = cc
+length_to_lem (length'.Is v' f) from v e = grind arith
 length_to_lem (length'.Refused r) from v e = impossible (cc)
 
-opened_on_lem : (padding : Bool) (s : List ℕ) (outer kind : ℕ) (compound room : Bool) (p from v : ℕ) (h : Header) → header_at s p ≡ h
+opened_on_lem : (padding : Bool) (s : List ℕ) (outer kind : ℕ) (compound room : Bool) (p from v : ℕ) (h : ReadHeader) → header_at s p ≡ h
     → start_on padding s outer kind compound room p h ≡ At from v → Opened padding s kind compound room p from v
 opened_on_lem padding s outer kind compound room p from v (header.Refused r) e q = impossible (cc)
 opened_on_lem padding s outer kind compound room p from v (header.End k u) e q =
@@ -671,7 +670,7 @@ length_is_moves n x p u q v e =
 
 pub length_is_at : (n x : ℕ) (c : Reading) (q v : ℕ) → length_is n x c ≡ At q v → (c ≡ At q v) × (v ≡ n)
 unfolding length_is
-length_is_at n x (At p u) q v e = let w = length_is_moves n x p u q v e in (w.1, let z : u ≡ v = cc in sym z ∙ w.0)
+length_is_at n x (At p u) q v e = let w = length_is_moves n x p u q v e in (w.1, let z : u ≡ v = grind arith in sym z ∙ w.0)
 length_is_at n x (Refused r) q v e = impossible (cc)
 
 start_of_length_took : (padding : Bool) (outer kind : ℕ) (compound room : Bool) (n : ℕ) (s : List ℕ) (p u q v : ℕ) → start_of_length padding s outer kind compound room n (At p u) ≡ At q v
@@ -706,15 +705,15 @@ record Ended (s : List ℕ) (kind p q v : ℕ) : Type 0 where
   past : q ≡ p + used
   value : 0 ≡ v
 
-ended_on : (s : List ℕ) (kind p q v : ℕ) (h : Header) → header_at s p ≡ h → end_on kind p h ≡ At q v → Ended s kind p q v
+ended_on : (s : List ℕ) (kind p q v : ℕ) (h : ReadHeader) → header_at s p ≡ h → end_on kind p h ≡ At q v → Ended s kind p q v
 ended_on s kind p q v (header.Refused r) e h = impossible (cc)
 ended_on s kind p q v (header.Start k b n u) e h = impossible (cc)
 ended_on s kind p q v (header.End k u) e h =
     by_bool (eqb k kind)
     (λ b.
     let z : At (p + u) 0 ≡ At q v = rw b at h in
-    let y : p + u ≡ q = cc in
-    let w : 0 ≡ v = cc in
+    let y : p + u ≡ q = grind arith in
+    let w : 0 ≡ v = grind arith in
     let i : k ≡ kind = eqb-true k kind b in
     record { used = u; end = rw i at e; past = sym y; value = w })
     (λ b. let z : no 4 p ≡ At q v = rw b at h in impossible (cc))
@@ -800,7 +799,7 @@ module _ (padding : Bool) {A : Type 0} (of : List ℕ → Reading → A) (faulte
 -- ---- well-nested contents
 
 pub inside_on_lem : (r : Passed) (e v : ℕ) → inside_on r ≡ At e v → (r ≡ passed.To e) × (0 ≡ v)
-inside_on_lem (passed.To x) e v q = (cc, cc)
+inside_on_lem (passed.To x) e v q = (grind arith, grind arith)
 inside_on_lem (passed.Refused r) e v q = impossible (cc)
 
 inside_took : (padding : Bool) (d kind : ℕ) (s : List ℕ) (p u q v : ℕ) → inside padding s d kind (At p u) ≡ At q v → Took (λ t c. inside padding t d kind c) s p u q v
@@ -838,8 +837,8 @@ closed_from n m (At i w) from q v e =
     (λ k. let z : no 2 (from + m) ≡ At q v = rw (le-ltb _ _ l, lt-ltb _ _ k) at e in impossible (cc))
     (λ k.
     let z : At (from + m) w ≡ At q v = rw (le-ltb _ _ l, le-ltb _ _ k) at e in
-    let y : from + m ≡ q = cc in
-    let x : w ≡ v = cc in
+    let y : from + m ≡ q = grind arith in
+    let x : w ≡ v = grind arith in
     record { past = sym y; whole = k; read = i; fields = ap (At i) x; all = l; anywhere = λ from'. rw (le-ltb _ _ l, le-ltb _ _ k, x) }))
 
 run_took : (fields : List ℕ → Reading) (s : List ℕ) (p u q v : ℕ) → in_run s fields (At p u) ≡ At q v → Took (λ t c. in_run t fields c) s p u q v

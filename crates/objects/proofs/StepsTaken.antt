@@ -9,15 +9,14 @@ use native.Mathlib.Omega.{arith}
 use lib.ListN.{drop}
 use Rattle.laws.proofs.Cases.{impossible}
 use Rattle.numbers.specs.Compact.{compact_for}
-use Rattle.numbers.specs.declared.compact.Compact.{Compact}
-use Rattle.numbers.specs.declared.compact.Compact.TheVariants as compact
+use Rattle.numbers.specs.Results.Compact.{Compact}
+use Rattle.numbers.specs.Results.Compact as compact
 use Rattle.numbers.proofs.Padding.{Takes}
 use Rattle.objects.specs.Nesting.{run_at}
 use Rattle.objects.specs.Steps.{place_of, number_on, number, start_here, start_of_length, inside_on, inside}
-use Rattle.objects.specs.declared.nesting.Passed.{Passed}
-use Rattle.objects.specs.declared.nesting.Passed.TheVariants as passed
-use Rattle.objects.specs.declared.reading.Reading.{Reading}
-use Rattle.objects.specs.declared.reading.Reading.TheVariants.{At, Refused}
+use Rattle.objects.specs.Results.Passed.{Passed}
+use Rattle.objects.specs.Results.Passed as passed
+use Rattle.objects.specs.Results.Reading.{At, Reading, Refused}
 use Rattle.objects.proofs.Deeper.{length_taken, run_deeper}
 use Rattle.objects.proofs.StepsCarry.{opened_from, start_at, length_is_at}
 

@@ -6,16 +6,16 @@ use mathlib.Core.List.{List, [], ◌∷◌}
 use Rattle.laws.proofs.Cases.{impossible}
 use Rattle.laws.proofs.OneAnswer.{Telling}
 use Rattle.numbers.specs.declared.guid.Guid.{Guid}
-use Rattle.numbers.specs.declared.extended_guid.ExtendedGuid.TheVariants as id
-use Rattle.numbers.specs.declared.serial.Serial.TheVariants as number
+use Rattle.numbers.specs.Results.ExtendedGuid as id
+use Rattle.numbers.specs.Results.Serial as number
 use Rattle.numbers.proofs.OneAnswers.{refuses_telling, same_guid, values_of}
 use Rattle.objects.specs.Tellings.{tell_length, tell_passed, tell_reading, tell_reading_guid, tell_reading_id, tell_reading_serial}
-use Rattle.objects.specs.declared.header.Length.TheVariants as length'
-use Rattle.objects.specs.declared.nesting.Passed.TheVariants as passed
-use Rattle.objects.specs.declared.reading.Reading.TheVariants as reading
-use Rattle.objects.specs.declared.reading.ReadingGuid.TheVariants as guid'
-use Rattle.objects.specs.declared.reading.ReadingId.TheVariants as id'
-use Rattle.objects.specs.declared.reading.ReadingSerial.TheVariants as serial'
+use Rattle.objects.specs.Results.Length as length'
+use Rattle.objects.specs.Results.Passed as passed
+use Rattle.objects.specs.Results.Reading as reading
+use Rattle.objects.specs.Results.ReadingGuid as guid'
+use Rattle.objects.specs.Results.ReadingId as id'
+use Rattle.objects.specs.Results.ReadingSerial as serial'
 
 pub length_telling : Telling tell_length
 length_telling (length'.Is n f) (length'.Is n' f') e = let v = values_of _ _ e in cc

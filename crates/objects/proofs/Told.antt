@@ -7,15 +7,14 @@ use mathlib.Core.List.{List}
 use Prim.Native.Nat.{ℕ, ◌+◌, ◌-◌, ◌≤◌, ◌<◌}
 use native.Mathlib.Omega.{arith}
 use lib.ListN.{length}
-use Rattle.numbers.specs.Refusals.{fault_at}
+use Rattle.numbers.specs.Refusals.{fault_at, refusal_number, number_of, fault_of}
 use Rattle.numbers.specs.declared.refusal.Refusal.{Refusal}
 use Rattle.objects.specs.Header.{header_at}
 use Rattle.objects.specs.Nesting.{and_on, object_at, run_at}
 use Rattle.objects.specs.Next.{refused_from, told_refusal, told_number}
-use Rattle.objects.specs.declared.header.Header.{Header}
-use Rattle.objects.specs.declared.header.Header.TheVariants as header
-use Rattle.objects.specs.declared.nesting.Passed.{Passed}
-use Rattle.objects.specs.declared.nesting.Passed.TheVariants.{To, Refused}
+use Rattle.objects.specs.Results.Header.{ReadHeader}
+use Rattle.objects.specs.Results.Header as header
+use Rattle.objects.specs.Results.Passed.{Passed, Refused, To}
 use Rattle.objects.proofs.HeaderLaws.{Fits, header_fits}
 use Rattle.objects.proofs.Ahead.{NestingFault, two, three, four, six, Ahead, object_ahead, object_at_lem, run_at_lem}
 
@@ -52,7 +51,7 @@ told_stops padding s at d placed go n short t h = t ∙ stops s at placed (objec
 
 -- ---- a refusal, by both
 
-fault_is : (r : Refusal) → NestingFault r → (r ≡ fault_at r.number r.place) × (r.number ≤ 6)
+fault_is : (r : Refusal) → NestingFault r → (r ≡ fault_at (number_of (fault_of (refusal_number r))) r.place) × (refusal_number r ≤ 6)
 fault_is r (two p) = (refl, omega arith)
 fault_is r (three p) = (refl, omega arith)
 fault_is r (four p) = (refl, omega arith)
@@ -60,14 +59,14 @@ fault_is r (six p) = (refl, omega arith)
 
 -- what is told by number is a byte; what is told by place is a refusal too; and the fault is known by both
 abbrev pub Both : Passed → ℕ → ℕ → Type 0
-Both p n q = (n - refused_from ≤ 6) × (refused_from ≤ q) × (p ≡ Refused (fault_at (n - refused_from) (q - refused_from)))
+Both p n q = (n - refused_from ≤ 6) × (refused_from ≤ q) × (p ≡ Refused (fault_at (number_of (fault_of (n - refused_from))) (q - refused_from)))
 
 both : (s : List ℕ) (at : ℕ) (p : Passed) → length s < refused_from → Ahead s at p → refused_from ≤ told_number false p → Both p (told_number false p) (told_number true p)
 unfolding told_number told_refusal
 both s at (To e) short a h = absurd (omega arith)
 both s at (Refused r) short a h =
     let f = fault_is r a.2 in
-    let k : refused_from + r.number - refused_from ≡ r.number = omega arith in
+    let k : refused_from + refusal_number r - refused_from ≡ refusal_number r = omega arith in
     let q : refused_from + r.place - refused_from ≡ r.place = omega arith in
     (rw k f.1, omega arith, ap Refused (f.0 ∙ rw (k, q)))
 
@@ -81,7 +80,7 @@ pub refused_within : (padding : Bool) (s : List ℕ) (at d : ℕ) (r : Refusal) 
 refused_within padding s at d r h q = (subst (Ahead s at) q (object_ahead padding s at d)).1 h
 
 -- behind the input there is no header
-header_behind : (s : List ℕ) (at : ℕ) (h : Header) → length s < at → Fits at (length s - at) h → h ≡ header.Refused (fault_at 2 at)
+header_behind : (s : List ℕ) (at : ℕ) (h : ReadHeader) → length s < at → Fits at (length s - at) h → h ≡ header.Refused (fault_at 2 at)
 header_behind s at (header.Refused r) l w = ap header.Refused w
 header_behind s at (header.End k u) l w = absurd (omega arith)
 header_behind s at (header.Start k c n u) l w = absurd (omega arith)

@@ -9,8 +9,8 @@ use borrow.Author.Tests.{ne_eqb}
 use Rattle.laws.specs.Bytes.{AllBytes}
 use Rattle.objects.specs.Header.{header_at}
 use Rattle.objects.specs.Steps.{no, nothing_open, start_here}
-use Rattle.objects.specs.declared.header.Header.TheVariants.{End}
-use Rattle.objects.specs.declared.reading.Reading.TheVariants.{At}
+use Rattle.objects.specs.Results.Header.{End}
+use Rattle.objects.specs.Results.Reading.{At}
 use Rattle.objects.proofs.HeadersRead.{end_bounds}
 
 pub nothing_ends : (padding : Bool) (s : List ℕ) (kind : ℕ) (compound room : Bool) (at v k u : ℕ) → AllBytes s → header_at s at ≡ End k u

@@ -12,16 +12,14 @@ use Rattle.numbers.specs.Compact.{padding_taken}
 use Rattle.laws.proofs.Agreement.{Agree, agree_less, agree_drop}
 use Rattle.numbers.specs.Refusals.{fault_at}
 use Rattle.objects.specs.Header.{header_of, header_at, length_at, lengthened, with_length, whole_header}
-use Rattle.objects.specs.declared.header.Header.{Header}
-use Rattle.objects.specs.declared.header.Header.TheVariants.{Start, End, Refused}
-use Rattle.objects.specs.declared.header.Length.{Length}
-use Rattle.objects.specs.declared.header.Length.TheVariants.{Is}
-use Rattle.objects.specs.declared.header.Length.TheVariants as length'
+use Rattle.objects.specs.Results.Header.{End, ReadHeader, Refused, Start}
+use Rattle.objects.specs.Results.Length.{Is, Length}
+use Rattle.objects.specs.Results.Length as length'
 use Rattle.objects.proofs.HeaderLaws.{Fits, header_of_fits, LengthFits, length_fits}
 use Rattle.objects.proofs.Local.{start_local, end_local, length_local}
 
 -- 2 or 3, at a place within the part
-abbrev pub WholeWithin : ℕ → Header → Type 0
+abbrev pub WholeWithin : ℕ → ReadHeader → Type 0
 WholeWithin n (Start k c m u) = (0 < u) × (u ≤ n)
 WholeWithin n (End k u) = (0 < u) × (u ≤ n)
 WholeWithin n (Refused r) = (r.place ≤ n) × ((r ≡ fault_at 2 r.place) ⊎ (r ≡ fault_at 3 r.place))
@@ -31,7 +29,7 @@ lengthened_within s k c u (Is v from) p h w = (omega arith, w.1 h)
 lengthened_within s k c u (length'.Refused r) p h (inl e) = rw e (h, inl refl)
 lengthened_within s k c u (length'.Refused r) p h (inr e) = rw e (h, inr refl)
 
-with_length_within : (s : List ℕ) (h : Header) → Fits 0 (length s) h → WholeWithin (length s) (with_length s h)
+with_length_within : (s : List ℕ) (h : ReadHeader) → Fits 0 (length s) h → WholeWithin (length s) (with_length s h)
 with_length_within s (Start k c n u) w = lengthened_within s k c u (length_at padding_taken s u n) w.0 w.1 (length_fits padding_taken s u n)
 with_length_within s (End k u) w = w
 with_length_within s (Refused r) w = rw w (omega arith, inl refl)
@@ -43,7 +41,7 @@ whole_header_within s = with_length_within s (header_of 0 s) (header_of_fits 0 s
 -- ---- its own bytes
 
 -- of what u bytes in front say
-abbrev WholeOwn : List ℕ → List ℕ → Header → Type 0
+abbrev WholeOwn : List ℕ → List ℕ → ReadHeader → Type 0
 WholeOwn s t (Start k c n u) = Agree s t u → whole_header t ≡ Start k c n u
 WholeOwn s t (End k u) = Agree s t u → whole_header t ≡ End k u
 WholeOwn s t (Refused r) = Unit {0}
@@ -64,7 +62,7 @@ lengthened_own s t k c n u (Is v from) e q h =
     rw (f, g, i)
 lengthened_own s t k c n u (length'.Refused r) e q h = tt
 
-with_length_own : (s t : List ℕ) (h : Header) → header_of 0 s ≡ h → Fits 0 (length s) h → WholeOwn s t (with_length s h)
+with_length_own : (s t : List ℕ) (h : ReadHeader) → header_of 0 s ≡ h → Fits 0 (length s) h → WholeOwn s t (with_length s h)
 unfolding whole_header
 with_length_own s t (Start k c n u) e w = lengthened_own s t k c n u (length_at padding_taken s u n) e refl w.1
 with_length_own s t (End k u) e w =

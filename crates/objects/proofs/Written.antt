@@ -16,18 +16,17 @@ use Rattle.numbers.specs.Guid.{guid_bytes, GuidFits}
 use Rattle.numbers.specs.ExtendedGuid.{extended_guid_bytes, ExtendedGuidFits}
 use Rattle.numbers.specs.Serial.{serial_bytes, SerialFits}
 use Rattle.numbers.specs.declared.guid.Guid.{Guid}
-use Rattle.numbers.specs.declared.extended_guid.ExtendedGuid.{ExtendedGuid}
-use Rattle.numbers.specs.declared.serial.Serial.{Serial}
+use Rattle.numbers.specs.Results.ExtendedGuid.{ExtendedGuid}
+use Rattle.numbers.specs.Results.Serial.{Serial}
 use Rattle.numbers.proofs.RoundTrip.{written_unpadded}
 use Rattle.numbers.proofs.Guids.{length_guid, guid_read_written}
 use Rattle.numbers.proofs.ExtendedGuids.{extended_guid_read_written}
 use Rattle.numbers.proofs.Serials.{serial_read_written}
 use Rattle.objects.specs.Steps.{fixed_in, number, number_is, skip, guid_here, id_here, serial_here, valued, finish, run_here, closed_at, in_run}
-use Rattle.objects.specs.declared.reading.Reading.{Reading}
-use Rattle.objects.specs.declared.reading.Reading.TheVariants.{At}
-use Rattle.objects.specs.declared.reading.ReadingGuid.TheVariants as guid'
-use Rattle.objects.specs.declared.reading.ReadingId.TheVariants as id'
-use Rattle.objects.specs.declared.reading.ReadingSerial.TheVariants as serial'
+use Rattle.objects.specs.Results.Reading.{At, Reading}
+use Rattle.objects.specs.Results.ReadingGuid as guid'
+use Rattle.objects.specs.Results.ReadingId as id'
+use Rattle.objects.specs.Results.ReadingSerial as serial'
 
 -- behind w
 pub behind : (s : List ℕ) (at : ℕ) (w t : List ℕ) → drop at s ≡ w ++ t → drop (at + length w) s ≡ t
@@ -118,7 +117,7 @@ reads_run fields d v f =
           λ s at t h.
           let e : take (length d) (drop at s) ≡ d = rw h (take-append_seam d t) in
           let l : length d ≤ length d = omega arith in
-          rw (e, f, le-ltb _ _ l);
+          ap (closed_at (At at (length d)) (length (take (length d) (drop at s)))) (ap fields e) ∙ rw (e, f, le-ltb _ _ l);
     }
 
 pub finish_written : (s : List ℕ) (at u : ℕ) → drop at s ≡ [] → finish s (At at u) ≡ At at u

@@ -4,7 +4,7 @@
 use Rattle.laws.specs.Loop.{turns, iterate}
 use Rattle.laws.proofs.Cases.{impossible}
 use Rattle.objects.specs.Nesting.{data_past, object_d, object_at, run_at}
-use Rattle.objects.specs.declared.nesting.Passed.TheVariants as passed
+use Rattle.objects.specs.Results.Passed as passed
 use mathlib.Core.Path.{◌≡◌, ap}
 use mathlib.Core.Bool.{true, false}
 use Prim.Native.Nat.{ℕ}
@@ -17,14 +17,13 @@ use Rattle.numbers.specs.Refusals.{Told, fault_at, too_short}
 use Rattle.numbers.specs.Compact.{padding_taken, read_form, read_compact, compact_for, form_from, form_of, with_form, size_of, compact_bytes}
 use Rattle.numbers.specs.Compact as compact
 use Rattle.numbers.specs.Calls.{single, written}
-use Rattle.numbers.specs.declared.refusal.Wrote.TheVariants as wrote
+use Rattle.numbers.specs.Results.Wrote as wrote
 use Rattle.objects.specs.Header.{start_of, end_of, sized, header_of, header_at, length_at, whole_header, start_number, long_start, start_bytes, end_bytes}
 use Rattle.objects.specs.Steps.{no, run_here, closed_at, closed}
-use Rattle.objects.specs.declared.reading.Reading.{Reading}
-use Rattle.objects.specs.declared.reading.Reading.TheVariants.{At}
-use Rattle.objects.specs.declared.reading.Reading.TheVariants as reading
+use Rattle.objects.specs.Results.Reading.{At, Reading}
+use Rattle.objects.specs.Results.Reading as reading
 use Rattle.objects.specs.Calls.{ReadsHeader, WritesStart, WritesEnd}
-use Rattle.objects.specs.declared.header.Header.TheVariants.{Start, Refused}
+use Rattle.objects.specs.Results.Header.{Refused, Start}
 
 -- ---- read_header
 

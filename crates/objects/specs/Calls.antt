@@ -5,18 +5,17 @@ use Rattle.laws.specs.Pick.{pick}
 use Rattle.laws.specs.Placed.{placed}
 use Rattle.numbers.specs.Refusals.{Told, gives, refuses, fault, tell_wrote}
 use Rattle.numbers.specs.Calls.{single, written}
-use Rattle.numbers.specs.declared.refusal.Wrote.{Wrote}
+use Rattle.numbers.specs.Results.Wrote.{Wrote}
 use Rattle.objects.specs.Header.{whole_header, start_bytes, end_bytes}
-use Rattle.objects.specs.declared.header.Header.{Header}
-use Rattle.objects.specs.declared.header.Header.TheVariants.{Start, End, Refused}
+use Rattle.objects.specs.Results.Header.{End, ReadHeader, Refused, Start}
 
 -- a start: type, compound bit, true length, bytes used (2: 16 bits; 4 or more: 32 bits); an end: type, bytes used (1: 8 bits; 2: 16)
-abbrev pub tell_header : Header → Told
+abbrev pub tell_header : ReadHeader → Told
 tell_header (Start k c n u) = gives (k ∷ pick c 1 0 ∷ n ∷ u ∷ [])
 tell_header (End k u) = gives (k ∷ u ∷ [])
 tell_header (Refused r) = refuses r
 
-abbrev pub ReadsHeader : List ℕ → Header → Type 0
+abbrev pub ReadsHeader : List ℕ → ReadHeader → Type 0
 ReadsHeader s r = tell_header r ≡ single (λ t. tell_header (whole_header t)) s
 
 -- the bytes w of a header of this type over a lent buffer: "a type over 0x3FFF to be written" is 3, and "in writing, 3 comes

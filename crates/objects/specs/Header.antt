@@ -5,29 +5,27 @@
 use Rattle.std.specs.Prelude.{ℕ, ◌+◌, ◌*◌, ◌/◌, ◌%◌, ◌^◌, Bool, List, ◌++◌, length, get_or, take, drop, ltb, eqb}
 use Rattle.laws.specs.Pick.{pick}
 use Rattle.laws.specs.Bytes.{le, bytes}
-use Rattle.numbers.specs.Refusals.{fault_at}
+use Rattle.numbers.specs.Refusals.{fault_at, refusal_number}
 use Rattle.numbers.specs.Compact.{padding_taken, compact_for, compact_bytes}
-use Rattle.numbers.specs.declared.compact.Compact.{Compact}
-use Rattle.numbers.specs.declared.compact.Compact.TheVariants as compact
-use Rattle.objects.specs.declared.header.Header.{Header}
-use Rattle.objects.specs.declared.header.Header.TheVariants.{Start, End, Refused}
-use Rattle.objects.specs.declared.header.Length.{Length}
-use Rattle.objects.specs.declared.header.Length.TheVariants.{Is}
-use Rattle.objects.specs.declared.header.Length.TheVariants as length'
+use Rattle.numbers.specs.Results.Compact.{Compact}
+use Rattle.numbers.specs.Results.Compact as compact
+use Rattle.objects.specs.Results.Header.{End, ReadHeader, Refused, Start}
+use Rattle.objects.specs.Results.Length.{Is, Length}
+use Rattle.objects.specs.Results.Length as length'
 
 -- a start that is the little-endian number w of n bytes; `span` is 2 to the bits that its type has
-unfoldable pub start_of : ℕ → ℕ → ℕ → Header
+unfoldable pub start_of : ℕ → ℕ → ℕ → ReadHeader
 start_of span n w = Start (w / 8 % span) (eqb (w / 4 % 2) 1) (w / 8 / span) n
 
 -- an end that is the number w of n bytes
-unfoldable pub end_of : ℕ → ℕ → Header
+unfoldable pub end_of : ℕ → ℕ → ReadHeader
 end_of n w = End (w / 4) n
 
 -- a header of n bytes at the front of t, the place `at` of the input: 2 where it runs past the end
-unfoldable pub sized : ℕ → ℕ → (ℕ → ℕ → Header) → List ℕ → Header
+unfoldable pub sized : ℕ → ℕ → (ℕ → ℕ → ReadHeader) → List ℕ → ReadHeader
 sized at n form t = pick (ltb (length t) n) (Refused (fault_at 2 at)) (form n (le (take n t)))
 
-unfoldable pub header_of : ℕ → List ℕ → Header
+unfoldable pub header_of : ℕ → List ℕ → ReadHeader
 header_of at t =
     pick (eqb (length t) 0) (Refused (fault_at 2 at))
     (pick (eqb (get_or t 0 0 % 4) 0) (sized at 2 (start_of (2 ^ 6)) t)
@@ -35,7 +33,7 @@ header_of at t =
     (pick (eqb (get_or t 0 0 % 4) 2) (sized at 4 (start_of (2 ^ 14)) t) (sized at 2 end_of t))))
 
 -- the header at a place of the input
-unfoldable pub header_at : List ℕ → ℕ → Header
+unfoldable pub header_at : List ℕ → ℕ → ReadHeader
 header_at s at = header_of at (drop at s)
 
 -- ---- "A 32-bit start with length 32,767 is followed by a compact integer, the true length": an item of its own, which may be padded
@@ -47,23 +45,23 @@ escape = 32767
 -- the data's length, and the place where the data begins
 abbrev pub length_on : ℕ → Compact → Length
 length_on at (compact.Value v n padded) = Is v (at + n)
-length_on at (compact.Refused r) = length'.Refused (fault_at r.number at)
+length_on at (compact.Refused r) = length'.Refused (fault_at (refusal_number r) at)
 
 -- behind a header with the length n that ends at `at`
 unfoldable pub length_at : Bool → List ℕ → ℕ → ℕ → Length
 length_at padding s at n = pick (eqb n escape) (length_on at (compact_for padding (drop at s))) (Is n at)
 
 -- a single header, true length included: padding is taken
-abbrev pub lengthened : ℕ → Bool → Length → Header
+abbrev pub lengthened : ℕ → Bool → Length → ReadHeader
 lengthened k c (Is v from) = Start k c v from
 lengthened k c (length'.Refused r) = Refused r
 
-abbrev pub with_length : List ℕ → Header → Header
+abbrev pub with_length : List ℕ → ReadHeader → ReadHeader
 with_length t (Start k c n u) = lengthened k c (length_at padding_taken t u n)
 with_length t (End k u) = End k u
 with_length t (Refused r) = Refused r
 
-unfoldable pub whole_header : List ℕ → Header
+unfoldable pub whole_header : List ℕ → ReadHeader
 whole_header t = with_length t (header_of 0 t)
 
 -- ---- written: "writing uses the shortest"

@@ -1,3 +1,4 @@
+pub mod Results
 pub mod Header
 pub mod Types
 pub mod Nesting

@@ -8,12 +8,11 @@ use Rattle.laws.specs.Loop.{Turn, iterate}
 use Rattle.laws.specs.Loop.Turn.{more, done}
 use Rattle.numbers.specs.Refusals.{fault_at}
 use Rattle.objects.specs.Header.{header_at, length_at}
-use Rattle.objects.specs.declared.header.Header.{Header}
-use Rattle.objects.specs.declared.header.Header.TheVariants as header
-use Rattle.objects.specs.declared.header.Length.{Length}
-use Rattle.objects.specs.declared.header.Length.TheVariants as length'
-use Rattle.objects.specs.declared.nesting.Passed.{Passed}
-use Rattle.objects.specs.declared.nesting.Passed.TheVariants.{To, Refused}
+use Rattle.objects.specs.Results.Header.{ReadHeader}
+use Rattle.objects.specs.Results.Header as header
+use Rattle.objects.specs.Results.Length.{Length}
+use Rattle.objects.specs.Results.Length as length'
+use Rattle.objects.specs.Results.Passed.{Passed, Refused, To}
 
 -- ---- the data run, not divided: 2 at its own first byte (D-7)
 
@@ -35,7 +34,7 @@ abbrev pub onward : Passed → Turn ℕ Passed
 onward (To e) = more e
 onward (Refused r) = done (Refused r)
 
-abbrev pub run_turn : (ℕ → Passed) → ℕ → ℕ → Header → Turn ℕ Passed
+abbrev pub run_turn : (ℕ → Passed) → ℕ → ℕ → ReadHeader → Turn ℕ Passed
 run_turn object kind at (header.Refused r) = done (Refused r)
 run_turn object kind at (header.End k u) = done (pick (eqb k kind) (To (at + u)) (Refused (fault_at 4 at)))
 run_turn object kind at (header.Start k c n u) = onward (object at)
@@ -45,7 +44,7 @@ run_of object s kind at = iterate (λ i. run_turn object kind i (header_at s i))
 
 -- ---- one object: 4 for an end; 6 for a compound start past the depth, before its true length and its data
 
-abbrev pub object_by : Bool → (ℕ → Passed → Passed) → List ℕ → ℕ → Header → Passed
+abbrev pub object_by : Bool → (ℕ → Passed → Passed) → List ℕ → ℕ → ReadHeader → Passed
 object_by padding inside s at (header.Refused r) = Refused r
 object_by padding inside s at (header.End k u) = Refused (fault_at 4 at)
 object_by padding inside s at (header.Start k c n u) = pick c (inside k (data_past padding s (at + u) n)) (data_past padding s (at + u) n)

@@ -5,17 +5,16 @@
 use Rattle.std.specs.Prelude.{ℕ, ◌+◌, ◌-◌, ◌/◌, ◌%◌, Bool, false, List, length, take, drop, ltb, eqb}
 use Rattle.laws.specs.Pick.{pick}
 use Rattle.laws.specs.Bytes.{le}
-use Rattle.numbers.specs.Refusals.{fault_at}
+use Rattle.numbers.specs.Refusals.{fault_at, refusal_number}
 use Rattle.numbers.specs.declared.refusal.Refusal.{Refusal}
 use Rattle.objects.specs.Header.{header_at}
 use Rattle.objects.specs.Nesting.{data_past, run_at}
 use Rattle.objects.specs.Steps.{same_bit}
-use Rattle.objects.specs.declared.header.Header.{Header}
-use Rattle.objects.specs.declared.header.Header.TheVariants as header
-use Rattle.objects.specs.declared.nesting.Passed.{Passed}
-use Rattle.objects.specs.declared.nesting.Passed.TheVariants.{To, Refused}
-use Rattle.objects.specs.declared.nesting.Next.{Next}
-use Rattle.objects.specs.declared.nesting.Next.TheVariants as next
+use Rattle.objects.specs.Results.Header.{ReadHeader}
+use Rattle.objects.specs.Results.Header as header
+use Rattle.objects.specs.Results.Passed.{Passed, Refused, To}
+use Rattle.objects.specs.Results.Next.{ReadNext}
+use Rattle.objects.specs.Results.Next as next
 use Rattle.objects.specs.declared.nesting.Met.{Met}
 use Rattle.objects.specs.declared.nesting.Met.TheVariants as met
 
@@ -29,26 +28,26 @@ short_is w kind compound = pick (eqb (w % 4) 0) (pick (eqb (w / 8 % 64) kind) (s
 
 -- ---- what stands at a place
 
-abbrev pub passing : Passed → Next
+abbrev pub passing : Passed → ReadNext
 passing (To e) = next.Past e
 passing (Refused r) = next.Refused r
 
-abbrev pub opening : ℕ → Passed → Next
+abbrev pub opening : ℕ → Passed → ReadNext
 opening k (To e) = next.Opens k e
 opening k (Refused r) = next.Refused r
 
-abbrev pub next_on : Bool → List ℕ → ℕ → ℕ → Header → Next
+abbrev pub next_on : Bool → List ℕ → ℕ → ℕ → ReadHeader → ReadNext
 next_on padding s at d (header.Refused r) = next.Refused r
 next_on padding s at d (header.End k u) = next.Ends k (at + u)
 next_on padding s at d (header.Start k c n u) =
     pick c (pick (eqb d 0) (next.Refused (fault_at 6 at)) (opening k (data_past padding s (at + u) n))) (passing (data_past padding s (at + u) n))
 
-unfoldable pub next_at : Bool → List ℕ → ℕ → ℕ → Next
+unfoldable pub next_at : Bool → List ℕ → ℕ → ℕ → ReadNext
 next_at padding s at d = next_on padding s at d (header_at s at)
 
 -- ---- an object, from there
 
-abbrev pub object_on : Bool → List ℕ → ℕ → ℕ → Next → Passed
+abbrev pub object_on : Bool → List ℕ → ℕ → ℕ → ReadNext → Passed
 object_on padding s at d (next.Refused r) = Refused r
 object_on padding s at d (next.Ends k e) = Refused (fault_at 4 at)
 object_on padding s at d (next.Past e) = To e
@@ -69,7 +68,7 @@ abbrev pub refused_from : ℕ
 refused_from = 0x8000000000000000
 
 unfoldable pub told_refusal : Bool → Refusal → ℕ
-told_refusal placed r = refused_from + pick placed r.place r.number
+told_refusal placed r = refused_from + pick placed r.place (refusal_number r)
 
 unfoldable pub told_number : Bool → Passed → ℕ
 told_number placed (To e) = e
@@ -78,7 +77,7 @@ told_number placed (Refused r) = told_refusal placed r
 -- ---- what a run of the open object of type `kind` meets: a plain object whose header has two bytes, and whose data is there; its own end;
 -- or what is for `read_object`
 
-abbrev pub met_by : ℕ → ℕ → Header → Met
+abbrev pub met_by : ℕ → ℕ → ReadHeader → Met
 met_by kind at (header.Refused r) = met.Object
 met_by kind at (header.End k u) = pick (eqb k kind) (met.Ended (at + u)) met.Object
 met_by kind at (header.Start k c n u) = met.Object

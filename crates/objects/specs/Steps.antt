@@ -3,38 +3,38 @@
 -- lowest number counts." A layout is a chain of steps, `At 0 0 ▹ number padding s ▹ ..`. The state carries the place and the number
 -- that was read last. A step that reads a compact integer is told whether padding is taken (document 02, Q-10: "Every caller decides").
 -- Assumes nothing.
-use Rattle.std.specs.Prelude.{ℕ, ◌+◌, ◌-◌, ◌≤◌, ◌≡◌, Bool, true, false, List, [], length, take, drop, ltb, eqb}
+use Rattle.std.specs.Prelude.{ℕ, ◌+◌, ◌-◌, ◌≤◌, ◌≡◌, Bool, true, false, List, [], length, take, drop, ltb, eqb, Ok, Err}
 use Rattle.laws.specs.Pick.{pick}
 use Rattle.laws.specs.Bytes.{le}
-use Rattle.numbers.specs.Refusals.{fault_at}
+use Rattle.numbers.specs.Refusals.{fault_at, refusal_number}
 use Rattle.numbers.specs.Compact.{compact_for}
 use Rattle.numbers.specs.Guid.{guid_at}
 use Rattle.numbers.specs.ExtendedGuid.{read_extended_guid}
 use Rattle.numbers.specs.Serial.{read_serial}
 use Rattle.numbers.specs.declared.refusal.Refusal.{Refusal}
-use Rattle.numbers.specs.declared.compact.Compact.{Compact}
-use Rattle.numbers.specs.declared.compact.Compact.TheVariants as compact
-use Rattle.numbers.specs.declared.extended_guid.ExtendedGuid.TheVariants as id
-use Rattle.numbers.specs.declared.extended_guid.ReadExtendedGuid.{ReadExtendedGuid}
-use Rattle.numbers.specs.declared.extended_guid.ReadExtendedGuid.TheVariants as extended
-use Rattle.numbers.specs.declared.serial.ReadSerial.{ReadSerial}
-use Rattle.numbers.specs.declared.serial.ReadSerial.TheVariants as serial
+use Rattle.numbers.specs.Results.Compact.{Compact}
+use Rattle.numbers.specs.Results.Compact as compact
+use Rattle.numbers.specs.Results.ExtendedGuid as id
+use Rattle.numbers.specs.Results.ReadExtendedGuid.{ReadExtendedGuid}
+use Rattle.numbers.specs.Results.ReadExtendedGuid as extended
+use Rattle.numbers.specs.Results.ReadSerial.{ReadSerial}
+use Rattle.numbers.specs.Results.ReadSerial as serial
 use Rattle.objects.specs.Header.{header_at, length_at}
 use Rattle.objects.specs.Nesting.{run_at}
-use Rattle.objects.specs.declared.header.Header.{Header}
-use Rattle.objects.specs.declared.header.Header.TheVariants as header
-use Rattle.objects.specs.declared.header.Length.{Length}
-use Rattle.objects.specs.declared.header.Length.TheVariants as length'
-use Rattle.objects.specs.declared.nesting.Passed.{Passed}
-use Rattle.objects.specs.declared.nesting.Passed.TheVariants as passed
-use Rattle.objects.specs.declared.reading.Reading.{Reading}
-use Rattle.objects.specs.declared.reading.Reading.TheVariants.{At, Refused}
-use Rattle.objects.specs.declared.reading.ReadingGuid.{ReadingGuid}
-use Rattle.objects.specs.declared.reading.ReadingGuid.TheVariants as guid'
-use Rattle.objects.specs.declared.reading.ReadingId.{ReadingId}
-use Rattle.objects.specs.declared.reading.ReadingId.TheVariants as id'
-use Rattle.objects.specs.declared.reading.ReadingSerial.{ReadingSerial}
-use Rattle.objects.specs.declared.reading.ReadingSerial.TheVariants as serial'
+use Rattle.objects.specs.Results.Header.{ReadHeader}
+use Rattle.objects.specs.Results.Header as header
+use Rattle.objects.specs.Results.Length.{Length}
+use Rattle.objects.specs.Results.Length as length'
+use Rattle.objects.specs.Results.Passed.{Passed}
+use Rattle.objects.specs.Results.Passed as passed
+use Rattle.objects.specs.Results.Reads.{Reads}
+use Rattle.objects.specs.Results.Reading.{At, Reading, Refused}
+use Rattle.objects.specs.Results.ReadingGuid.{ReadingGuid}
+use Rattle.objects.specs.Results.ReadingGuid as guid'
+use Rattle.objects.specs.Results.ReadingId.{ReadingId}
+use Rattle.objects.specs.Results.ReadingId as id'
+use Rattle.objects.specs.Results.ReadingSerial.{ReadingSerial}
+use Rattle.objects.specs.Results.ReadingSerial as serial'
 
 -- one step and then the next
 infixl 20 ◌▹◌
@@ -85,7 +85,7 @@ fixed_in s n least most k c =
 -- a compact integer: its own 2 and 3
 abbrev pub number_on : ℕ → Compact → Reading
 number_on at (compact.Value v n padded) = At (at + n) v
-number_on at (compact.Refused r) = no r.number at
+number_on at (compact.Refused r) = no (refusal_number r) at
 
 unfoldable pub number : Bool → List ℕ → Reading → Reading
 number padding s c = then c (λ at. number_on at (compact_for padding (drop at s)))
@@ -93,7 +93,7 @@ number padding s c = then c (λ at. number_on at (compact_for padding (drop at s
 -- a compact integer that must be x: its own 2 and 3, then k
 abbrev pub number_is_on : ℕ → ℕ → ℕ → Compact → Reading
 number_is_on x k at (compact.Value v n padded) = pick (eqb v x) (At (at + n) v) (no k at)
-number_is_on x k at (compact.Refused r) = no r.number at
+number_is_on x k at (compact.Refused r) = no (refusal_number r) at
 
 unfoldable pub number_is : Bool → List ℕ → ℕ → ℕ → Reading → Reading
 number_is padding s x k c = then c (λ at. number_is_on x k at (compact_for padding (drop at s)))
@@ -102,7 +102,7 @@ number_is padding s x k c = then c (λ at. number_is_on x k at (compact_for padd
 abbrev pub null_id_on : ℕ → ℕ → ReadExtendedGuid → Reading
 null_id_on k at (extended.Value id.Null n) = At (at + n) 0
 null_id_on k at (extended.Value (id.Named g x) n) = no k at
-null_id_on k at (extended.Refused r) = no r.number at
+null_id_on k at (extended.Refused r) = no (refusal_number r) at
 
 unfoldable pub null_id : List ℕ → ℕ → Reading → Reading
 null_id s k c = then c (λ at. null_id_on k at (read_extended_guid (drop at s)))
@@ -118,35 +118,28 @@ unfoldable pub guid_here : List ℕ → Reading → ReadingGuid
 guid_here s (At at v) = pick (ltb (length s - at) 16) (guid'.Refused (fault_at 2 at)) (guid'.At (at + 16) (guid_at (drop at s)))
 guid_here s (Refused r) = guid'.Refused r
 
-unfoldable pub on_guid : ReadingGuid → Reading
-on_guid (guid'.At p g) = At p 0
-on_guid (guid'.Refused r) = Refused r
-
 -- an extended GUID: its own 2 and 3
 abbrev pub id_on : ℕ → ReadExtendedGuid → ReadingId
 id_on at (extended.Value x n) = id'.At (at + n) x
-id_on at (extended.Refused r) = id'.Refused (fault_at r.number at)
+id_on at (extended.Refused r) = id'.Refused (fault_at (refusal_number r) at)
 
 unfoldable pub id_here : List ℕ → Reading → ReadingId
 id_here s (At at v) = id_on at (read_extended_guid (drop at s))
 id_here s (Refused r) = id'.Refused r
 
-unfoldable pub on_id : ReadingId → Reading
-on_id (id'.At p x) = At p 0
-on_id (id'.Refused r) = Refused r
-
 -- a serial number: its own 2 and 3
 abbrev pub serial_on : ℕ → ReadSerial → ReadingSerial
 serial_on at (serial.Value x n) = serial'.At (at + n) x
-serial_on at (serial.Refused r) = serial'.Refused (fault_at r.number at)
+serial_on at (serial.Refused r) = serial'.Refused (fault_at (refusal_number r) at)
 
 unfoldable pub serial_here : List ℕ → Reading → ReadingSerial
 serial_here s (At at v) = serial_on at (read_serial (drop at s))
 serial_here s (Refused r) = serial'.Refused r
 
-unfoldable pub on_serial : ReadingSerial → Reading
-on_serial (serial'.At p x) = At p 0
-on_serial (serial'.Refused r) = Refused r
+-- on from behind a field, whatever it is
+unfoldable pub on_field : {field : Type 0} → Reads field → Reading
+on_field (Ok (p, x)) = At p 0
+on_field (Err r) = Refused r
 
 -- ---- objects
 
@@ -158,7 +151,7 @@ length_to (length'.Refused r) = Refused r
 -- An end of another type, or with nothing open, is 4; an end of the open object's own type, where the layout still needs an
 -- object, is 5 (D-9). Then 5 for another type or compound bit, then 9 where there is no room for one more, then the true
 -- length's own 2 and 3 (D-4).
-abbrev pub start_on : Bool → List ℕ → ℕ → ℕ → Bool → Bool → ℕ → Header → Reading
+abbrev pub start_on : Bool → List ℕ → ℕ → ℕ → Bool → Bool → ℕ → ReadHeader → Reading
 start_on padding s outer kind compound room at (header.Refused r) = Refused r
 start_on padding s outer kind compound room at (header.End k u) = pick (eqb k outer) (no 5 at) (no 4 at)
 start_on padding s outer kind compound room at (header.Start k b n u) =
@@ -184,7 +177,7 @@ unfoldable pub start_of_length : Bool → List ℕ → ℕ → ℕ → Bool → 
 start_of_length padding s outer kind compound room n c = length_is n (place_of c) (start_here padding s outer kind compound room c)
 
 -- the end of the open object of type `kind`: 4 for another end, 5 for an object
-abbrev pub end_on : ℕ → ℕ → Header → Reading
+abbrev pub end_on : ℕ → ℕ → ReadHeader → Reading
 end_on kind at (header.Refused r) = Refused r
 end_on kind at (header.End k u) = pick (eqb k kind) (At (at + u) 0) (no 4 at)
 end_on kind at (header.Start k b n u) = no 5 at
@@ -193,7 +186,7 @@ unfoldable pub end_here : List ℕ → ℕ → Reading → Reading
 end_here s kind c = then c (λ at. end_on kind at (header_at s at))
 
 -- whether a start of this type stands here
-abbrev pub start_is : ℕ → Header → Bool
+abbrev pub start_is : ℕ → ReadHeader → Bool
 start_is kind (header.Refused r) = false
 start_is kind (header.End k u) = false
 start_is kind (header.Start k b n u) = eqb k kind
@@ -218,7 +211,7 @@ finish s c = then c (λ at. pick (ltb at (length s)) (no 5 at) c)
 
 -- a refusal carried back to the whole input
 abbrev pub carried : ℕ → Refusal → Refusal
-carried from r = record { number = r.number; input = r.input; place = from + r.place; needed = r.needed }
+carried from r = record { fault = r.fault; input = r.input; place = from + r.place; needed = r.needed }
 
 -- the run that begins here, or as much of it as there is
 unfoldable pub run_here : List ℕ → Reading → List ℕ
@@ -251,7 +244,7 @@ FaultNumber k = (2 ≤ k) × (k ≤ 12)
 
 -- such a fault of the first input, within the m bytes of a part; it needs no length
 pub record FaultWithin (m : ℕ) (r : Refusal) : Type 0 where
-  pub number : FaultNumber r.number
+  pub number : FaultNumber (refusal_number r)
   pub input : r.input ≡ 0
   pub place : r.place ≤ m
   pub needed : r.needed ≡ 0

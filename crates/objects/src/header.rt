@@ -5,8 +5,8 @@ ghost use Rattle.objects.specs.Header.{start_of, end_of, sized, header_of, heade
 ghost use Rattle.objects.specs.Calls.{ReadsHeader};
 
 use numbers::bytes::read_le;
-use numbers::compact::{Compact, PADDING_TAKEN};
-use numbers::refusal::{LONGEST_INPUT, Refusal, at_place, over_long};
+use numbers::compact::PADDING_TAKEN;
+use numbers::refusal::{Fault, Refusal, at_place, within_limit};
 
 // A header: the type, the compound bit, the length and the bytes used. `header_at` gives the length as the header has it,
 // `item` and `read_header` the true one, whose bytes then count among those used.
@@ -14,15 +14,12 @@ use numbers::refusal::{LONGEST_INPUT, Refusal, at_place, over_long};
 pub enum Header {
     Start(u64, bool, u64, usize),
     End(u64, usize),
-    Refused(Refusal),
 }
 
+pub type ReadHeader = Result<Header, Refusal>;
+
 // The length of an object's data, and the place where the data begins.
-#[derive(Drop)]
-pub enum Length {
-    Is(u64, usize),
-    Refused(Refusal),
-}
+pub type Length = Result<(u64, usize), Refusal>;
 
 // The type in a start of two bytes has six bits.
 pub const SHORT_TYPES: u64 = 64;
@@ -34,10 +31,7 @@ pub const ESCAPE: u64 = 32767;
 pub(crate) fn left_of(n: usize, at: usize) -> usize
     ensures { result ≡ n - at }
 {
-    if n < at {
-        return 0;
-    }
-    n - at
+    n.saturating_sub(at)
 }
 
 // The two bytes at a place as a number. Where they are not there it is 3, which is neither a start of two bytes nor an end of one.
@@ -52,35 +46,35 @@ pub fn short_number(s: &[u8], at: usize) -> u64
 }
 
 // A start of n bytes at the front of t, the place `at` of the input; its type is below `span`.
-fn start_of(t: &[u8], at: usize, n: usize, span: u64) -> Header
+fn start_of(t: &[u8], at: usize, n: usize, span: u64) -> ReadHeader
     requires { (n ≤ 8) × (0 < span) }
     ensures { result ≡ sized at n (start_of span) t.now }
 {
     if t.len() < n {
-        return Header::Refused(at_place(2, at));
+        return Err(at_place(Fault::RunsPast, at));
     }
     let w = read_le(t, n);
     let rest = w / 8;
-    Header::Start(rest % span, w / 4 % 2 == 1, rest / span, n)
+    Ok(Header::Start(rest % span, w / 4 % 2 == 1, rest / span, n))
 }
 
 // An end of n bytes at the front of t.
-fn end_of(t: &[u8], at: usize, n: usize) -> Header
+fn end_of(t: &[u8], at: usize, n: usize) -> ReadHeader
     requires { n ≤ 8 }
     ensures { result ≡ sized at n end_of t.now }
 {
     if t.len() < n {
-        return Header::Refused(at_place(2, at));
+        return Err(at_place(Fault::RunsPast, at));
     }
-    Header::End(read_le(t, n) / 4, n)
+    Ok(Header::End(read_le(t, n) / 4, n))
 }
 
 // The header at the front of t, which is the place `at` of the input.
-fn header_of(t: &[u8], at: usize) -> Header
+fn header_of(t: &[u8], at: usize) -> ReadHeader
     ensures { result ≡ header_of at t.now }
 {
     if t.len() == 0 {
-        return Header::Refused(at_place(2, at));
+        return Err(at_place(Fault::RunsPast, at));
     }
     let low = t[0] % 4;
     match low {
@@ -92,11 +86,11 @@ fn header_of(t: &[u8], at: usize) -> Header
 }
 
 // The header at a place of the input.
-pub(crate) fn header_at(s: &[u8], at: usize) -> Header
+pub(crate) fn header_at(s: &[u8], at: usize) -> ReadHeader
     ensures { result ≡ header_at s.now at }
 {
     if s.len() < at {
-        return Header::Refused(at_place(2, at));
+        return Err(at_place(Fault::RunsPast, at));
     }
     header_of(&s[at..], at)
 }
@@ -106,38 +100,37 @@ pub(crate) fn length_at(s: &[u8], at: usize, n: u64, padding: bool) -> Length
     ensures { result ≡ length_at padding s.now at n }
 {
     if n != ESCAPE {
-        return Length::Is(n, at);
+        return Ok((n, at));
     }
     if s.len() < at {
-        return Length::Refused(at_place(2, at));
+        return Err(at_place(Fault::RunsPast, at));
     }
     match numbers::compact::item(&s[at..], padding) {
-        Compact::Value(v, m, _) => Length::Is(v, at + m),
-        Compact::Refused(r) => Length::Refused(at_place(r.number, at)),
+        Ok((v, m, _)) => Ok((v, at + m)),
+        Err(r) => Err(at_place(r.fault, at)),
     }
 }
 
 // The header at the front of a part, true length included. By itself a header takes padding.
-fn item(s: &[u8]) -> Header
+#[tactic(auto, unfolding(crate::specs::Header::whole_header))]
+fn item(s: &[u8]) -> ReadHeader
     ensures { result ≡ whole_header s.now }
 {
-    match header_of(s, 0) {
-        Header::Start(kind, compound, n, used) => match length_at(s, used, n, PADDING_TAKEN) {
-            Length::Is(v, from) => Header::Start(kind, compound, v, from),
-            Length::Refused(r) => Header::Refused(r),
-        },
-        Header::End(kind, used) => Header::End(kind, used),
-        Header::Refused(r) => Header::Refused(r),
+    match header_of(s, 0)? {
+        Header::Start(kind, compound, n, used) => {
+            let (length, from) = length_at(s, used, n, PADDING_TAKEN)?;
+            Ok(Header::Start(kind, compound, length, from))
+        }
+        Header::End(kind, used) => Ok(Header::End(kind, used)),
     }
 }
 
 // A single header. Ruled out (proofs/WrongAnswers): type 0x2F for `7A 02 08 00`; a missing true length told at 0, where the
 // header stands whole; 3 for a padded true length.
-pub fn read_header(s: &[u8]) -> Header
+#[tactic(auto, unfolding(numbers::specs::Calls::single))]
+pub fn read_header(s: &[u8]) -> ReadHeader
     ensures { ReadsHeader s.now result }
 {
-    if LONGEST_INPUT < s.len() {
-        return Header::Refused(over_long());
-    }
+    within_limit(s)?;
     item(s)
 }

@@ -10,16 +10,13 @@ ghost use Rattle.objects.specs.Calls.{WritesStart, WritesEnd};
 use crate::header::ESCAPE;
 use numbers::bytes::put_le;
 use numbers::compact::{compact_length, write_compact};
-use numbers::refusal::{Wrote, at_front, too_short};
+use numbers::refusal::{Fault, Wrote, at_front, too_short};
 
 // Whether a start has room in 16 bits: a type of at most 6 bits, and a length of at most 7.
 fn is_short(kind: u64, length: u64) -> bool
     ensures { result ≡ pick (ltb kind 64) (ltb length 128) false }
 {
-    if kind < 64 {
-        return length < 128;
-    }
-    false
+    kind < 64 && length < 128
 }
 
 // How many bytes a start takes, the true length n behind it included. The compound bit does not count.
@@ -59,10 +56,10 @@ fn write_number(out: &mut [u8], n: usize, x: u64) -> Wrote
     ensures { Writes (bytes n x) out.old result out.new }
 {
     if out.len() < n {
-        return Wrote::Refused(too_short(n));
+        return Err(too_short(n));
     }
     put_le(out, n, x);
-    Wrote::Done(n)
+    Ok(n)
 }
 
 // The number x of a 32-bit start, and the true length n behind it.
@@ -71,11 +68,11 @@ fn write_lengthened(out: &mut [u8], x: u64, n: u64) -> Wrote
 {
     let needed = 4 + compact_length(n);
     if out.len() < needed {
-        return Wrote::Refused(too_short(needed));
+        return Err(too_short(needed));
     }
     put_le(out, 4, x);
-    write_compact(&mut out[4..], n);
-    Wrote::Done(needed)
+    let _ = write_compact(&mut out[4..], n);
+    Ok(needed)
 }
 
 // A start of 32 bits, with its length in the header or behind it.
@@ -97,7 +94,7 @@ pub fn write_start(out: &mut [u8], kind: u64, compound: bool, length: u64) -> Wr
     ensures { WritesStart kind compound length out.old result out.new }
 {
     if 0x3FFF < kind {
-        return Wrote::Refused(at_front(3));
+        return Err(at_front(Fault::NoForm));
     }
     if is_short(kind, length) {
         let x = start_number(0, 64, compound, kind, length);
@@ -112,7 +109,7 @@ pub fn write_end(out: &mut [u8], kind: u64) -> Wrote
     ensures { WritesEnd kind out.old result out.new }
 {
     if 0x3FFF < kind {
-        return Wrote::Refused(at_front(3));
+        return Err(at_front(Fault::NoForm));
     }
     if kind < 64 {
         return write_number(out, 1, 1 + kind * 4);

@@ -1,14 +1,14 @@
 // The steps for objects: starts and ends that a layout has, contents that are only nested, and data runs.
 ghost use Rattle.std.specs.Prelude.{◌≡◌, ◌+◌, ◌-◌, ◌<◌, ◌^◌, take, drop};
-ghost use Rattle.objects.specs.Steps.{same_bit, length_to, start_on, start_here, length_is, start_of_length, end_on, end_here, start_is, next_is, inside, finish, carried, run_here, closed_at, closed, Good, GoodIn};
+ghost use Rattle.objects.specs.Steps.{length_to, start_on, start_here, length_is, start_of_length, end_on, end_here, start_is, next_is, inside, finish, carried, run_here, closed_at, closed, Good, GoodIn};
 ghost use Rattle.objects.specs.Header.{header_at, length_at};
+ghost use Rattle.objects.specs.Results.Reading.{At};
 ghost use Rattle.objects.specs.Next.{short_is};
-ghost use Rattle.objects.specs.declared.reading.Reading.TheVariants.{At};
 
-use crate::header::{Header, Length, header_at, length_at, short_number};
-use crate::nesting::{Passed, pass_run};
-use crate::reading::Reading;
-use numbers::refusal::{Refusal, at_place};
+use crate::header::{Header, header_at, length_at, short_number};
+use crate::nesting::pass_run;
+use crate::reading::{ReadFields, Reading};
+use numbers::refusal::{Fault, Refusal, at_place};
 
 // Nothing is open: no object has this type (proofs/Types).
 pub const NOTHING: u64 = 0xFFFF;
@@ -27,16 +27,56 @@ pub const NO_ROOM: bool = false;
 fn length_to(s: &[u8], at: usize, n: u64, padding: bool) -> Reading
     ensures { result ≡ length_to (length_at padding s.now at n) }
 {
-    match length_at(s, at, n, padding) {
-        Length::Is(v, from) => Reading::At(from, v),
-        Length::Refused(r) => Reading::Refused(r),
-    }
+    let (v, from) = length_at(s, at, n, padding)?;
+    Ok((from, v))
 }
 
-impl Reading {
+// The steps for objects. What a start is asked for are five words of the layout, other ones at each place: a struct of them would be
+// built from the same five words.
+pub trait ReadObjects {
     // The start of an object of this type and compound bit, inside an open object of type `outer`; 9 without room for one
     // more. The number is then the length of its data.
-    pub fn start(
+    fn start(
+        self,
+        s: &[u8],
+        outer: u64,
+        kind: u64,
+        compound: bool,
+        room: bool,
+        padding: bool,
+    ) -> Reading;
+
+    // A start with the data length that the layout fixes.
+    fn start_of_length(
+        self,
+        s: &[u8],
+        outer: u64,
+        kind: u64,
+        compound: bool,
+        room: bool,
+        n: u64,
+        padding: bool,
+    ) -> Reading;
+
+    // The end of the open object of type `kind`.
+    fn end(self, s: &[u8], kind: u64) -> Reading;
+
+    // Whether a start of this type stands here.
+    fn next_is(self, s: &[u8], kind: u64) -> bool;
+
+    // Well-nested contents up to the end of the open object of type `kind`.
+    fn inside(self, s: &[u8], depth: usize, kind: u64, padding: bool) -> Reading;
+
+    // Nothing stands here.
+    fn finish(self, s: &[u8]) -> Reading;
+
+    // The data run that begins here, or as much of it as there is: a part of the input that starts in the middle.
+    fn run<'a>(self, s: &'a [u8]) -> &'a [u8];
+}
+
+impl ReadObjects for Reading {
+    #[tactic(auto, unfolding(crate::specs::Steps::start_here))]
+    fn start(
         self,
         s: &[u8],
         outer: u64,
@@ -47,29 +87,12 @@ impl Reading {
     ) -> Reading
         ensures { result ≡ start_here padding s.now outer kind compound room self }
     {
-        match self {
-            Reading::Refused(r) => Reading::Refused(r),
-            Reading::At(at, _) => start_at(s, at, outer, kind, compound, room, padding),
-        }
+        let (at, _) = self?;
+        start_at(s, at, outer, kind, compound, room, padding)
     }
 
-    // The data's length must be n; else 5 at the header's place p.
-    fn length_is(self, n: u64, p: usize) -> Reading
-        ensures { result ≡ length_is n p self }
-    {
-        match self {
-            Reading::Refused(r) => Reading::Refused(r),
-            Reading::At(from, v) => {
-                if v == n {
-                    return Reading::At(from, v);
-                }
-                Reading::Refused(at_place(5, p))
-            }
-        }
-    }
-
-    // A start with the data length that the layout fixes.
-    pub fn start_of_length(
+    #[tactic(auto, unfolding(crate::specs::Steps::start_of_length))]
+    fn start_of_length(
         self,
         s: &[u8],
         outer: u64,
@@ -81,94 +104,80 @@ impl Reading {
     ) -> Reading
         ensures { result ≡ start_of_length padding s.now outer kind compound room n self }
     {
-        self.start(s, outer, kind, compound, room, padding)
-            .length_is(n, self.place())
+        let opened = self.start(s, outer, kind, compound, room, padding);
+        length_is(opened, n, self.place())
     }
 
-    // The end of the open object of type `kind`.
-    pub fn end(self, s: &[u8], kind: u64) -> Reading
+    #[tactic(auto, unfolding(crate::specs::Steps::end_here))]
+    fn end(self, s: &[u8], kind: u64) -> Reading
         ensures { result ≡ end_here s.now kind self }
     {
-        match self {
-            Reading::Refused(r) => Reading::Refused(r),
-            Reading::At(at, _) => end_at(s, at, kind),
-        }
+        let (at, _) = self?;
+        end_at(s, at, kind)
     }
 
-    // Whether a start of this type stands here.
-    pub fn next_is(self, s: &[u8], kind: u64) -> bool
+    #[tactic(auto, unfolding(crate::specs::Steps::next_is))]
+    fn next_is(self, s: &[u8], kind: u64) -> bool
         ensures { result ≡ next_is s.now kind self }
     {
         match self {
-            Reading::Refused(_) => false,
-            Reading::At(at, _) => starts_at(s, at, kind),
+            Ok((at, _)) => starts_at(s, at, kind),
+            Err(_) => false,
         }
     }
 
-    // Well-nested contents up to the end of the open object of type `kind`.
-    pub fn inside(self, s: &[u8], depth: usize, kind: u64, padding: bool) -> Reading
+    #[tactic(auto, unfolding(crate::specs::Steps::inside))]
+    fn inside(self, s: &[u8], depth: usize, kind: u64, padding: bool) -> Reading
         ensures { result ≡ inside padding s.now depth kind self }
     {
-        match self {
-            Reading::Refused(r) => Reading::Refused(r),
-            Reading::At(at, _) => match pass_run(s, at, depth, kind, padding) {
-                Passed::To(e) => Reading::At(e, 0),
-                Passed::Refused(r) => Reading::Refused(r),
-            },
-        }
+        let (at, _) = self?;
+        let end = pass_run(s, at, depth, kind, padding)?;
+        Ok((end, 0))
     }
 
-    // Nothing stands here.
-    pub fn finish(self, s: &[u8]) -> Reading
+    #[tactic(auto, unfolding(crate::specs::Steps::finish))]
+    fn finish(self, s: &[u8]) -> Reading
         ensures { result ≡ finish s.now self }
     {
-        match self {
-            Reading::Refused(r) => Reading::Refused(r),
-            Reading::At(at, v) => {
-                if at < s.len() {
-                    return Reading::Refused(at_place(5, at));
-                }
-                Reading::At(at, v)
-            }
+        let (at, v) = self?;
+        if at < s.len() {
+            return Err(at_place(Fault::WrongLayout, at));
         }
+        Ok((at, v))
     }
 
-    // The data run that begins here, or as much of it as there is: a part of the input that starts in the middle.
-    pub fn run<'a>(self, s: &'a [u8]) -> &'a [u8]
+    #[tactic(auto, unfolding(crate::specs::Steps::run_here))]
+    fn run<'a>(self, s: &'a [u8]) -> &'a [u8]
         ensures { result.now ≡ run_here s.now self }
     {
         match self {
-            Reading::At(from, n) => part(s, from, n),
-            Reading::Refused(_) => part(s, 0, 0),
-        }
-    }
-
-    // Back from the run that begins here, read by its fields to f. Ruled out (proofs/WrongAnswers): a byte left over that is told behind
-    // the run; one that is taken.
-    pub fn closed(self, s: &[u8], f: Reading) -> Reading
-        requires { Good (run_here s.now self) f }
-        ensures { result ≡ closed s.now self f }
-    {
-        match self {
-            Reading::Refused(r) => Reading::Refused(r),
-            Reading::At(from, n) => {
-                let m = part(s, from, n).len();
-                closed_at(from, n, m, f)
-            }
+            Ok((from, n)) => part(s, from, n),
+            Err(_) => part(s, 0, 0),
         }
     }
 }
 
-fn same_bit(a: bool, b: bool) -> bool
-    ensures { result ≡ same_bit a b }
+// Back from the run that begins at c, read by its fields to f. Ruled out (proofs/WrongAnswers): a byte left over that is told behind
+// the run; one that is taken.
+pub fn closed(c: Reading, s: &[u8], f: Reading) -> Reading
+    requires { Good (run_here s.now c) f }
+    ensures { result ≡ closed s.now c f }
 {
-    if a {
-        return b;
+    let (from, n) = c?;
+    let m = part(s, from, n).len();
+    closed_at(from, n, m, f)
+}
+
+// The data's length must be n; else 5 at the header's place p.
+#[tactic(auto, unfolding(crate::specs::Steps::length_is))]
+fn length_is(c: Reading, n: u64, p: usize) -> Reading
+    ensures { result ≡ length_is n p c }
+{
+    let (from, v) = c?;
+    if v != n {
+        return Err(at_place(Fault::WrongLayout, p));
     }
-    if b {
-        return false;
-    }
-    true
+    Ok((from, v))
 }
 
 // Whether a start of this type stands at a place: by its two bytes where they are one.
@@ -180,9 +189,8 @@ fn starts_at(s: &[u8], at: usize, kind: u64) -> bool
         return w / 8 % 64 == kind;
     }
     match header_at(s, at) {
-        Header::Refused(_) => false,
-        Header::End(_, _) => false,
-        Header::Start(k, _, _, _) => k == kind,
+        Ok(Header::Start(k, _, _, _)) => k == kind,
+        Ok(Header::End(_, _)) | Err(_) => false,
     }
 }
 
@@ -193,32 +201,26 @@ fn end_at(s: &[u8], at: usize, kind: u64) -> Reading
     let w = short_number(s, at);
     if w % 4 == 1 {
         if s[at] as u64 / 4 == kind {
-            return Reading::At(at + 1, 0);
+            return Ok((at + 1, 0));
         }
     }
-    match header_at(s, at) {
-        Header::Refused(r) => Reading::Refused(r),
-        Header::Start(_, _, _, _) => Reading::Refused(at_place(5, at)),
+    match header_at(s, at)? {
+        Header::Start(_, _, _, _) => Err(at_place(Fault::WrongLayout, at)),
         Header::End(k, used) => {
             if k == kind {
-                return Reading::At(at + used, 0);
+                return Ok((at + used, 0));
             }
-            Reading::Refused(at_place(4, at))
+            Err(at_place(Fault::WrongEnd, at))
         }
     }
 }
 
 // Whether a start of two bytes is of this type and compound bit.
+#[tactic(auto, unfolding(crate::specs::Next::short_is))]
 fn short_is(w: u64, kind: u64, compound: bool) -> bool
     ensures { result ≡ short_is w kind compound }
 {
-    if w % 4 != 0 {
-        return false;
-    }
-    if w / 8 % 64 != kind {
-        return false;
-    }
-    same_bit(w / 4 % 2 == 1, compound)
+    w % 4 == 0 && w / 8 % 64 == kind && (w / 4 % 2 == 1) == compound
 }
 
 // The start that `Reading::start` asks for, by its two bytes where they are one; a length of over 127 does not come in two bytes.
@@ -238,7 +240,7 @@ fn start_at(
         if short_is(w, kind, compound) {
             let n = w / 8 / 64;
             if n < 128 {
-                return Reading::At(at + 2, n);
+                return Ok((at + 2, n));
             }
         }
     }
@@ -256,26 +258,21 @@ fn start_by_header(
 ) -> Reading
     ensures { result ≡ start_on padding s.now outer kind compound room at (header_at s.now at) }
 {
-    match header_at(s, at) {
-        Header::Refused(r) => Reading::Refused(r),
+    match header_at(s, at)? {
         Header::End(k, _) => {
             if k == outer {
-                return Reading::Refused(at_place(5, at));
+                return Err(at_place(Fault::WrongLayout, at));
             }
-            Reading::Refused(at_place(4, at))
+            Err(at_place(Fault::WrongEnd, at))
         }
         Header::Start(k, b, n, used) => {
-            if k != kind {
-                return Reading::Refused(at_place(5, at));
+            if k != kind || b != compound {
+                return Err(at_place(Fault::WrongLayout, at));
             }
-            let same = same_bit(b, compound);
-            if same {
-                if room {
-                    return length_to(s, at + used, n, padding);
-                }
-                return Reading::Refused(at_place(9, at));
+            if !room {
+                return Err(at_place(Fault::TooMany, at));
             }
-            Reading::Refused(at_place(5, at))
+            length_to(s, at + used, n, padding)
         }
     }
 }
@@ -301,7 +298,7 @@ fn carry(from: usize, r: Refusal) -> Refusal
     ensures { result ≡ carried from r }
 {
     Refusal {
-        number: r.number,
+        fault: r.fault,
         input: r.input,
         place: from + r.place,
         needed: r.needed,
@@ -313,15 +310,15 @@ fn closed_at(from: usize, n: u64, m: usize, f: Reading) -> Reading
     ensures { result ≡ closed_at (At from n) m f }
 {
     match f {
-        Reading::Refused(r) => Reading::Refused(carry(from, r)),
-        Reading::At(p, v) => {
+        Err(r) => Err(carry(from, r)),
+        Ok((p, v)) => {
             if p < m {
-                return Reading::Refused(at_place(5, from + p));
+                return Err(at_place(Fault::WrongLayout, from + p));
             }
             if (m as u64) < n {
-                return Reading::Refused(at_place(2, from + m));
+                return Err(at_place(Fault::RunsPast, from + m));
             }
-            Reading::At(from + m, v)
+            Ok((from + m, v))
         }
     }
 }

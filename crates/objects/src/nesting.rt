@@ -5,69 +5,56 @@
 // is one number, since an enum would come back through memory from every compound object; `pass_object` and `pass_run` make a `Passed` of
 // it, once.
 ghost use Rattle.std.specs.Prelude.{◌≡◌, ◌≤◌, ◌<◌, length};
+ghost use Rattle.numbers.specs.Refusals.{fault_of};
 ghost use Rattle.objects.specs.Nesting.{data_past, object_at, run_at};
 ghost use Rattle.objects.specs.Next.{short_number, next_at, opened_at, met_by, met_at, refused_from, told_refusal, told_number};
 ghost use Rattle.objects.specs.Header.{header_at};
 
-use crate::header::{Header, Length, SHORT_TYPES, header_at, left_of, length_at, short_number};
+use crate::header::{Header, SHORT_TYPES, header_at, left_of, length_at, short_number};
 use numbers::compact::PADDING_TAKEN;
-use numbers::refusal::{Refusal, at_place};
+use numbers::refusal::{Fault, Refusal, at_place};
 
 // The place behind what was passed over.
-#[derive(Drop)]
-pub enum Passed {
-    To(usize),
-    Refused(Refusal),
-}
+pub type Passed = Result<usize, Refusal>;
 
 // The place behind the data of a header with the length n that ends at `at`.
+#[tactic(auto, unfolding(crate::specs::Nesting::data_past))]
 fn data_past(s: &[u8], at: usize, n: u64, padding: bool) -> Passed
     ensures { result ≡ data_past padding s.now at n }
 {
-    match length_at(s, at, n, padding) {
-        Length::Refused(r) => Passed::Refused(r),
-        Length::Is(v, from) => {
-            let left = left_of(s.len(), from);
-            if (left as u64) < v {
-                return Passed::Refused(at_place(2, from));
-            }
-            Passed::To(from + v as usize)
-        }
+    let (v, from) = length_at(s, at, n, padding)?;
+    let left = left_of(s.len(), from);
+    if (left as u64) < v {
+        return Err(at_place(Fault::RunsPast, from));
     }
+    Ok(from + v as usize)
 }
 
 // What stands at a place of a run: an object that was passed over whole; the start of a compound object, with its type and the place
-// behind its own data; an end, with its type and the place behind it; or a fault.
+// behind its own data; or an end, with its type and the place behind it.
 #[derive(Drop)]
 enum Next {
     Past(usize),
     Opens(u64, usize),
     Ends(u64, usize),
-    Refused(Refusal),
 }
 
 // The same told by its header, of any form, with so many compound objects still to be opened.
-fn next_by_header(s: &[u8], at: usize, depth: usize, padding: bool) -> Next
+#[tactic(auto, unfolding(crate::specs::Next::next_at))]
+fn next_by_header(s: &[u8], at: usize, depth: usize, padding: bool) -> Result<Next, Refusal>
     ensures { result ≡ next_at padding s.now at depth }
 {
-    match header_at(s, at) {
-        Header::Refused(r) => Next::Refused(r),
-        Header::End(kind, used) => Next::Ends(kind, at + used),
+    match header_at(s, at)? {
+        Header::End(kind, used) => Ok(Next::Ends(kind, at + used)),
         Header::Start(kind, compound, n, used) => {
-            if compound {
-                if depth == 0 {
-                    return Next::Refused(at_place(6, at));
-                }
-                match data_past(s, at + used, n, padding) {
-                    Passed::Refused(r) => Next::Refused(r),
-                    Passed::To(e) => Next::Opens(kind, e),
-                }
-            } else {
-                match data_past(s, at + used, n, padding) {
-                    Passed::Refused(r) => Next::Refused(r),
-                    Passed::To(e) => Next::Past(e),
-                }
+            if compound && depth == 0 {
+                return Err(at_place(Fault::TooDeep, at));
             }
+            let end = data_past(s, at + used, n, padding)?;
+            if compound {
+                return Ok(Next::Opens(kind, end));
+            }
+            Ok(Next::Past(end))
         }
     }
 }
@@ -111,7 +98,31 @@ fn told_refusal(r: Refusal, placed: bool) -> usize
     if placed {
         return REFUSED + r.place;
     }
-    REFUSED + r.number as usize
+    REFUSED + r.fault.number() as usize
+}
+
+// The fault of a number from 1 to 16; of any other the last.
+fn fault_of(number: u8) -> Fault
+    ensures { result ≡ fault_of number }
+{
+    match number {
+        1 => Fault::InputTooLong,
+        2 => Fault::RunsPast,
+        3 => Fault::NoForm,
+        4 => Fault::WrongEnd,
+        5 => Fault::WrongLayout,
+        6 => Fault::TooDeep,
+        7 => Fault::WrongVersion,
+        8 => Fault::NotServed,
+        9 => Fault::TooMany,
+        10 => Fault::NullName,
+        11 => Fault::SeenBefore,
+        12 => Fault::FromAboveTo,
+        13 => Fault::TablesTooShort,
+        14 => Fault::OutputTooShort,
+        15 => Fault::OtherIndex,
+        _ => Fault::NoSerialLeft,
+    }
 }
 
 // The object at a place of the input, with so many compound objects still to be opened: the run inside it has one level fewer. What comes
@@ -127,10 +138,10 @@ fn read_object(s: &[u8], at: usize, depth: usize, placed: bool, padding: bool) -
     let mut inside = opened_at(s, at, w, depth);
     if inside == 0 {
         match next_by_header(s, at, depth, padding) {
-            Next::Refused(r) => return told_refusal(r, placed),
-            Next::Past(e) => return e,
-            Next::Ends(_, _) => return told_refusal(at_place(4, at), placed),
-            Next::Opens(k, e) => {
+            Err(r) => return told_refusal(r, placed),
+            Ok(Next::Past(e)) => return e,
+            Ok(Next::Ends(_, _)) => return told_refusal(at_place(Fault::WrongEnd, at), placed),
+            Ok(Next::Opens(k, e)) => {
                 kind = k;
                 inside = e;
             }
@@ -153,10 +164,10 @@ fn met_by_header(s: &[u8], at: usize, kind: u64) -> Met
     ensures { result ≡ met_by kind at (header_at s.now at) }
 {
     match next_by_header(s, at, 0, PADDING_TAKEN) {
-        Next::Refused(_) => Met::Object,
-        Next::Past(_) => Met::Object,
-        Next::Opens(_, _) => Met::Object,
-        Next::Ends(k, e) => {
+        Err(_) => Met::Object,
+        Ok(Next::Past(_)) => Met::Object,
+        Ok(Next::Opens(_, _)) => Met::Object,
+        Ok(Next::Ends(k, e)) => {
             if k == kind {
                 return Met::Ended(e);
             }
@@ -204,6 +215,7 @@ fn read_run(s: &[u8], at: usize, depth: usize, kind: u64, placed: bool, padding:
     ensures { result ≡ told_number placed (run_at padding s.now at depth kind) }
 {
     let mut i = at;
+    // What is met ends the loop, and not a count.
     loop {
         match met_at(s, i, kind) {
             Met::Plain(e) => {
@@ -227,28 +239,28 @@ pub fn pass_object(s: &[u8], at: usize, depth: usize, padding: bool) -> Passed
     ensures { result ≡ object_at padding s.now at depth }
 {
     if s.len() < at {
-        return Passed::Refused(at_place(2, at));
+        return Err(at_place(Fault::RunsPast, at));
     }
     let e = read_object(s, at, depth, false, padding);
     if e < REFUSED {
-        return Passed::To(e);
+        return Ok(e);
     }
     let place = read_object(s, at, depth, true, padding) - REFUSED;
-    Passed::Refused(at_place((e - REFUSED) as u8, place))
+    Err(at_place(fault_of((e - REFUSED) as u8), place))
 }
 
-// A run, as a `Passed`, like an object. Ruled out (proofs/WrongAnswers): `09`, an end of type 2, taken for one of type 1; a run without
+// A run, as a `Passed`, like an object: the same lines around another reader, which would be called twice in a closure, too. Ruled out (proofs/WrongAnswers): `09`, an end of type 2, taken for one of type 1; a run without
 // an end.
 pub(crate) fn pass_run(s: &[u8], at: usize, depth: usize, kind: u64, padding: bool) -> Passed
     ensures { result ≡ run_at padding s.now at depth kind }
 {
     if s.len() < at {
-        return Passed::Refused(at_place(2, at));
+        return Err(at_place(Fault::RunsPast, at));
     }
     let e = read_run(s, at, depth, kind, false, padding);
     if e < REFUSED {
-        return Passed::To(e);
+        return Ok(e);
     }
     let place = read_run(s, at, depth, kind, true, padding) - REFUSED;
-    Passed::Refused(at_place((e - REFUSED) as u8, place))
+    Err(at_place(fault_of((e - REFUSED) as u8), place))
 }

@@ -1,14 +1,15 @@
 -- The members of one group laid one after the other, link by link: what was laid, with what is still to come, is the group.
 -- Assumes nothing.
 use mathlib.Core.Path.{◌≡◌, refl, sym, ap, ◌∙◌}
-use mathlib.Core.Bool.{Bool, true, false}
+use mathlib.Core.Bool.{Bool, true, false, not, ◌||◌}
 use mathlib.Core.List.{List, [], ◌∷◌, ◌++◌, append_assoc, append-nil}
-use Prim.Native.Nat.{ℕ, zero, suc, ◌+◌, ◌-◌, ◌*◌, ◌^◌, ◌≤◌, ◌<◌}
+use Prim.Native.Nat.{ℕ, zero, suc, ◌+◌, ◌-◌, ◌*◌, ◌^◌, ◌≤◌, ◌<◌, min}
+use Rattle.std.proofs.Math.Nat.{min-eq_left, min-eq_right}
 use native.Mathlib.Omega.{arith}
 use native.Mathlib.Numerals.{add-one}
 use lib.ListN.{length, take, get_or, set, length-set, length-append}
 use lib.Seq.{take-set-le, take-suc-set, get_or-set_same, get_or-set_other}
-use lib.Dec.{ltb}
+use lib.Dec.{ltb, eqb}
 use borrow.Author.Tests.{lt-ltb, le-ltb}
 use Rattle.laws.specs.Pick.{pick}
 use Rattle.laws.proofs.Cases.{by_bool, by_eq, by_lt}
@@ -19,7 +20,7 @@ use Rattle.store.specs.declared.element.Element.{Element}
 use Rattle.store.proofs.Rows.{same_itself}
 use Rattle.order.specs.Groups.{sharing, some_of, stored_length}
 use Rattle.order.specs.Queue.{elements_at, queued_in}
-use Rattle.order.specs.Links.{queued_at, queued_from, first_sharing, group_from, FlagsAre, or_flag, ToLay, MembersLaid}
+use Rattle.order.specs.Links.{queued_at, queued_from, first_sharing, group_from, FlagsAre, ToLay, MembersLaid}
 use Rattle.order.proofs.Rearranged.{each_append}
 use Rattle.order.proofs.Queueing.{at_append}
 use Rattle.order.proofs.Linking.{row_inside, row_stands, sharing_same, from_turn, from_end, NoneShares, FirstAt, first_of, keep_skips}
@@ -31,12 +32,12 @@ unfolding stored_length
 stored_more [] ys = omega arith
 stored_more (x ∷ xs) ys = omega (arith, stored_more xs ys)
 
-some_more : (test : Element → Bool) (xs : List Element) (y : Element) → some_of test (xs ++ (y ∷ [])) ≡ or_flag (some_of test xs) (pick (test y) 1 0)
+some_more : (test : Element → Bool) (xs : List Element) (y : Element) → some_of test (xs ++ (y ∷ [])) ≡ some_of test xs || not (eqb (pick (test y) 1 0) 0)
 unfolding some_of
 some_more test [] y = by_bool (test y) (λ e. rw e) (λ e. rw e)
 some_more test (x ∷ xs) y =
     by_bool (test x)
-    (λ e. rw e (by_bool (test y) (λ f. rw f) (λ f. rw f)))
+    (λ e. rw e)
     (λ e. rw e (some_more test xs y))
 
 keep_most : {E : Type 0} (test : E → Bool) (xs : List E) → length (keep test xs) ≤ length xs
@@ -173,13 +174,14 @@ module _ (rows ids : List ℕ) (n : ℕ) (queue links flags : List ℕ) (k : ℕ
         (λ d. rw (le-ltb j p c, le-ltb j next d))))
 
     -- what holds of the row so far and of this one holds of the earlier of the two
-    earlier : (P : ℕ → Type 0) → P (get_or queue p 0) → P earliest → P (pick (ltb (get_or queue p 0) earliest) (get_or queue p 0) earliest)
-    earlier P a b = by_bool (ltb (get_or queue p 0) earliest) (λ e. rw e a) (λ e. rw e b)
+    earlier : (P : ℕ → Type 0) → P (get_or queue p 0) → P earliest → P (min earliest (get_or queue p 0))
+    earlier P a b = by_lt (get_or queue p 0) earliest (λ e. rw (min-eq_right {n = get_or queue p 0} {m = earliest} (omega arith)) a) (λ e. rw (min-eq_left e) b)
 
-    pub laying_more : (chosen' : Bool) → chosen' ≡ or_flag chosen (get_or flags (get_or queue p 0) 0) → (y-short : y.length ≤ 2 ^ 24)
-        → Laying rows ids n queue flags k passed (set passed' p 1) at laid (set laid' end (get_or queue p 0)) (end + 1) (stored + y.length) chosen' (pick (ltb (get_or queue p 0) earliest) (get_or queue p 0) earliest) next
+    pub laying_more : (y-short : y.length ≤ 2 ^ 24)
+        → Laying rows ids n queue flags k passed (set passed' p 1) at laid (set laid' end (get_or queue p 0)) (end + 1) (stored + y.length)
+        (chosen || not (eqb (get_or flags (get_or queue p 0) 0) 0)) (min earliest (get_or queue p 0)) next
     unfolding stored_length
-    laying_more chosen' c short =
+    laying_more short =
         let i = get_or queue p 0 in
         let room : end < length laid' = let a = count_now in let b = t.room in let d = l.long in omega arith in
         let taken : take (end + 1) (set laid' end i) ≡ take end laid' ++ (i ∷ []) = rw (add-one end) (take-suc-set laid' end i room) in
@@ -199,7 +201,7 @@ module _ (rows ids : List ℕ) (n : ℕ) (queue links flags : List ℕ) (k : ℕ
           small = omega arith;
           chosen_is =
               λ test f.
-              c ∙ rw (l.chosen_is test f, f i (row_inside t.queued p h)) (sym (some_more test l.done y));
+              rw (l.chosen_is test f, f i (row_inside t.queued p h)) (sym (some_more test l.done y));
           early = earlier (λ (j : ℕ). j < n) (row_inside t.queued p h) l.early;
           early_shares = earlier (λ (j : ℕ). sharing x (element_in_row rows ids j) ≡ true) shares_now l.early_shares;
           are = ap (elements_at rows ids) taken ∙ at_append rows ids (take end laid') (i ∷ []) ∙ ap (λ (r : List Element). r ++ (y ∷ [])) l.are ∙ append_assoc (queued_in rows ids at laid) l.done (y ∷ []);

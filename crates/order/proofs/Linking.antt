@@ -13,7 +13,6 @@ use borrow.Author.Tests.{ne_eqb}
 use Rattle.laws.specs.Placed.{Lays}
 use Rattle.laws.proofs.Cases.{by_bool, by_eq}
 use Rattle.talk.specs.Wanted.{keep}
-use Rattle.talk.proofs.Things.{each_so}
 use Rattle.store.specs.Element.{same_key}
 use Rattle.store.specs.Tables.{RowsStand, most_elements, mark_of, elements_in}
 use Rattle.store.specs.declared.element.Element.{Element}
@@ -44,20 +43,19 @@ row_stands {queue = queue} q p h = let z = row_inside q p h in rows_up_to q.stan
 -- all rows, as they were queued
 module _ (rows ids : List ℕ) (n : ℕ) (queue : List ℕ) (w : ℕ) (queue' : List ℕ) (stand : RowsStand rows ids n) (few : n ≤ most_elements)
     (l : Lays 0 (queue_of (elements_in rows ids n) (replicate most_elements 1)) queue w queue') where
-  pub all_count : w ≡ n
+  all_count : w ≡ n
   all_count = (all_queued rows ids n queue w queue' few l).0
 
-  pub all_are : queued_from rows ids w queue' 0 ≡ ordered (elements_in rows ids n)
-  all_are = (all_queued rows ids n queue w queue' few l).1
+  pub all_are : queued_from rows ids n queue' 0 ≡ ordered (elements_in rows ids n)
+  all_are = rw all_count at (all_queued rows ids n queue w queue' few l).1
 
-  pub rows_queued : RowsQueued rows ids queue' w
+  pub rows_queued : RowsQueued rows ids queue' n
   rows_queued =
-      let e = all_count in
       record {
-        stand = rw e stand;
-        few = omega arith;
-        long = (queue_stands rows ids n (replicate most_elements 1) queue w queue' l stand).long;
-        within = each_so (λ (i : ℕ). i < n) (λ (i : ℕ). i < w) (take w queue') (λ i h. omega arith) (queue_within rows ids n (replicate most_elements 1) queue w queue' l);
+        stand = stand;
+        few = few;
+        long = rw all_count at (queue_stands rows ids n (replicate most_elements 1) queue w queue' l stand).long;
+        within = rw all_count at (queue_within rows ids n (replicate most_elements 1) queue w queue' l);
       }
 
 -- none of those between two positions shares a serial number with x

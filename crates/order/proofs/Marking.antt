@@ -1,13 +1,15 @@
 -- Rows marked by a queue of their positions: those whose flags are set then are those of the queue, each as often, in the store's order.
 -- Assumes nothing.
-use mathlib.Core.Path.{◌≡◌, refl, subst, ◌∙◌}
-use mathlib.Core.List.{List, [], ◌∷◌, map}
+use mathlib.Core.Path.{◌≡◌, refl, sym, ap, subst, ◌∙◌}
+use mathlib.Core.List.{List, [], ◌∷◌, ◌++◌, map}
 use Prim.Native.Nat.{ℕ, zero, suc, ◌+◌, ◌≤◌, ◌<◌}
+use native.Mathlib.Numerals.{add-one}
 use native.Mathlib.Omega.{arith}
-use lib.ListN.{length, take, drop, get_or, set, replicate, length-set, length-replicate, get_or-replicate, drop_of_length-le, length-take}
-use lib.Seq.{drop-cons, get_or-take, get_or-set_other, length-take-le}
+use lib.ListN.{length, take, get_or, set, replicate, length-set, length-replicate, get_or-replicate}
+use lib.Seq.{take-suc, get_or-set_other}
+use Rattle.std.proofs.lemmas.List.{set_comm}
 use lib.Dec.{eqb}
-use Rattle.laws.proofs.Cases.{by_bool}
+use Rattle.laws.proofs.Cases.{by_bool, by_eq}
 use Rattle.talk.specs.Each.{Each}
 use Rattle.store.specs.declared.element.Element.{Element}
 use Rattle.order.specs.Queue.{chosen, marking, positions_from}
@@ -24,18 +26,19 @@ unfolding marking
 marking_other [] flags i h = refl
 marking_other (j ∷ places) flags i h = get_or-set_other (marking places flags) j i 1 0 h.0 ∙ marking_other places flags i h.1
 
--- ---- one more at a turn, from the last to the first
+-- ---- one more at a turn
 
-pub marking_start : (queue flags : List ℕ) (n : ℕ) → flags ≡ marking (drop n (take n queue)) flags
-unfolding marking
-marking_start queue flags n = let l : length (take n queue) ≤ n = omega (arith, length-take n queue) in rw (drop_of_length-le (take n queue) l)
+-- in whichever order two flags are set
+set_either : (flags : List ℕ) (i j : ℕ) → set (set flags i 1) j 1 ≡ set (set flags j 1) i 1
+set_either flags i j = by_eq i j (λ e. rw e) (λ d. set_comm flags i j 1 1 d)
 
-pub marking_more : (queue flags : List ℕ) (n k : ℕ) → k < n → n ≤ length queue
-    → set (marking (drop (suc k) (take n queue)) flags) (get_or queue k 0) 1 ≡ marking (drop k (take n queue)) flags
+marking_last : (places flags : List ℕ) (i : ℕ) → marking (places ++ (i ∷ [])) flags ≡ set (marking places flags) i 1
 unfolding marking
-marking_more queue flags n k h long =
-    let l : k < length (take n queue) = omega (arith, length-take-le n queue long) in
-    rw (drop-cons (take n queue) k 0 l, get_or-take n queue k 0 h)
+marking_last [] flags i = refl
+marking_last (j ∷ places) flags i = ap (λ (l : List ℕ). set l j 1) (marking_last places flags i) ∙ set_either (marking places flags) i j
+
+pub marking_more : (places flags : List ℕ) (k : ℕ) → k < length places → set (marking (take k places) flags) (get_or places k 0) 1 ≡ marking (take (k + 1) places) flags
+marking_more places flags k h = rw (add-one, take-suc places k 0 h) (sym (marking_last (take k places) flags (get_or places k 0)))
 
 -- ---- those that are chosen then
 

@@ -6,7 +6,7 @@ use mathlib.Core.List.{List, [], ◌∷◌, ◌++◌, append-nil, map-append}
 use Prim.Native.Nat.{ℕ, zero, suc, ◌+◌, ◌≤◌, ◌<◌}
 use native.Mathlib.Omega.{arith}
 use lib.ListN.{length, take, drop, get_or, replicate, length-append, length-map}
-use lib.Seq.{take_at, take-append-le, get_or-take, length-take-le}
+use lib.Seq.{take_at, take-append-le}
 use lib.Dec.{eqb}
 use Rattle.laws.specs.Placed.{laid, Lays}
 use Rattle.laws.proofs.Cases.{by_bool}
@@ -109,12 +109,6 @@ pub each_get : (P : ℕ → Type 0) (l : List ℕ) (k : ℕ) → k < length l �
 each_get P [] k h e = absurd (omega arith)
 each_get P (x ∷ l) zero h e = e.0
 each_get P (x ∷ l) (suc k) h e = each_get P l k (omega arith) e.1
-
-pub queued_row : {rows ids queue : List ℕ} {w : ℕ} → Queued rows ids queue w → (k : ℕ) → k < w → RowsStand rows ids (get_or queue k 0 + 1)
-queued_row {rows} {ids} {queue} {w} q k h =
-    let l = q.long in
-    rw (get_or-take w queue k 0 h) at
-    (each_get (λ (i : ℕ). RowsStand rows ids (i + 1)) (take w queue) k (omega (arith, length-take-le w queue l)) q.within)
 
 -- ---- as it stands at the front of a table
 

@@ -62,10 +62,6 @@ FlagsAre test rows ids n flags = (i : ℕ) → i < n → get_or flags i 0 ≡ pi
 abbrev pub SomeTest : List ℕ → List ℕ → ℕ → List ℕ → Type 0
 SomeTest rows ids n flags = (test : Element → Bool) × FlagsAre test rows ids n flags
 
--- chosen, if one more is
-abbrev pub or_flag : Bool → ℕ → Bool
-or_flag chosen flag = pick (eqb flag 0) chosen true
-
 -- what laying a group is lent
 pub record ToLay (rows ids : List ℕ) (n : ℕ) (queue links flags : List ℕ) (k : ℕ) (passed : List ℕ) (at : ℕ) (laid : List ℕ) : Type 0 where
   pub queued : RowsQueued rows ids queue n

@@ -5,29 +5,27 @@ ghost use Rattle.order.specs.Links.{RowsQueued, queued_from, first_sharing, Link
 
 use crate::queue::row_at;
 use store::element::Element;
-use store::table::{element_in_row, mark_of, same_key};
+use store::table::{Elements, mark_of, same_key};
 
 // Among how many the serial numbers have their marks.
 const HEADS: usize = 1024;
 
-// The first position from here on whose row has the serial number of x; n, if none has.
-fn next_sharing(rows: &[u64], ids: &[u64], queue: &[u8], n: usize, from: usize, x: Element) -> usize
-    requires { RowsQueued rows.now ids.now queue.now n × (from ≤ n) }
-    ensures { (result ≡ first_sharing x from (queued_from rows.now ids.now n queue.now from)) × (result ≤ n) }
+// The first position from here on whose row has the serial number of x; how many there are, if none has.
+fn next_sharing(all: Elements, queue: &[u8], from: usize, x: Element) -> usize
+    requires { RowsQueued all.rows.now all.ids.now queue.now all.count × (from ≤ all.count) }
+    ensures { (result ≡ first_sharing x from (queued_from all.entry.rows.now all.entry.ids.now all.entry.count queue.now from)) × (result ≤ all.entry.count) }
 {
-    let mut k = from;
-    while k < n {
-        let serial = x.serial;
-        let y = element_in_row(rows, ids, row_at(queue, k));
-        if same_key(serial, y.serial) {
+    for k in from..all.count {
+        let y = all.element(row_at(queue, k));
+        if same_key(x.serial, y.serial) {
             return k;
         }
-        k += 1;
     }
-    n
+    all.count
 }
 
 // Where the first row with a mark may stand: a head is one more than its position, and 0 where no row has the mark.
+#[tactic(auto, unfolding(crate::specs::Links::from_head))]
 fn from_head(head: u16, n: usize) -> usize
     ensures { result ≡ from_head head n }
 {
@@ -37,33 +35,24 @@ fn from_head(head: u16, n: usize) -> usize
     head as usize - 1
 }
 
-// The links of n rows that are queued, from the last to the first. No serial number has a head yet.
-fn link_queued(
-    rows: &[u64],
-    ids: &[u64],
-    queue: &[u8],
-    n: usize,
-    heads: &mut [u16],
-    links: &mut [usize],
-)
-    requires { RowsQueued rows.now ids.now queue.now n × (length heads.old ≡ head_count) × ((h : ℕ) → h < head_count → get_or heads.old h 0 ≡ 0) × (n ≤ length links.old) }
-    ensures { Linked rows.now ids.now n queue.now links.new }
+// The links of the rows, which are all queued, from the last to the first. No serial number has a head yet.
+fn link_queued(all: Elements, queue: &[u8], heads: &mut [u16], links: &mut [usize])
+    requires { RowsQueued all.rows.now all.ids.now queue.now all.count × (length heads.old ≡ head_count) × ((h : ℕ) → h < head_count → get_or heads.old h 0 ≡ 0) × (all.count ≤ length links.old) }
+    ensures { Linked all.entry.rows.now all.entry.ids.now all.entry.count queue.now links.new }
 {
-    let mut k = n;
-    while 0 < k {
-        k -= 1;
-        let x = element_in_row(rows, ids, row_at(queue, k));
+    for k in (0..all.count).rev() {
+        let x = all.element(row_at(queue, k));
         let mark = mark_of(x.serial, HEADS as u64);
-        links[k] = next_sharing(rows, ids, queue, n, from_head(heads[mark], n), x);
+        links[k] = next_sharing(all, queue, from_head(heads[mark], all.count), x);
         heads[mark] = (k + 1) as u16;
     }
 }
 
-// The links of n rows that are queued.
-pub(crate) fn link_rows(rows: &[u64], ids: &[u64], queue: &[u8], n: usize, links: &mut [usize])
-    requires { RowsQueued rows.now ids.now queue.now n × (n ≤ length links.old) }
-    ensures { Linked rows.now ids.now n queue.now links.new }
+// The links of the rows, which are all queued.
+pub(crate) fn link_rows(all: Elements, queue: &[u8], links: &mut [usize])
+    requires { RowsQueued all.rows.now all.ids.now queue.now all.count × (all.count ≤ length links.old) }
+    ensures { Linked all.entry.rows.now all.entry.ids.now all.entry.count queue.now links.new }
 {
     let mut heads = [0u16; HEADS];
-    link_queued(rows, ids, queue, n, &mut heads, links);
+    link_queued(all, queue, &mut heads, links);
 }

@@ -3,14 +3,15 @@
 ghost use Rattle.std.specs.Prelude.{◌≡◌, ℕ, ◌+◌, ◌*◌, ◌≤◌, ◌<◌, length, take, get_or, set};
 ghost use Rattle.talk.specs.Each.{Each};
 ghost use Rattle.laws.specs.Placed.{Lays};
-ghost use Rattle.store.specs.Tables.{RowsStand, most_elements, elements_in};
+ghost use Rattle.store.specs.Tables.{most_elements};
+ghost use Rattle.store.specs.Elements.{elements_of};
 ghost use Rattle.order.specs.Order.{rank_of};
 ghost use Rattle.order.specs.Queue.{ranks, part_length, PartsStand, Parted, joined_parts, queue_of, rising_from, marking};
 
 use objects::layout::part;
 use store::element::Element;
 use store::lay::lay_part;
-use store::table::{MOST_ELEMENTS, element_in_row};
+use store::table::{Elements, MOST_ELEMENTS};
 
 // The rank of all types but 1 to 4, which is the last.
 const LAST_RANK: u64 = 5;
@@ -20,33 +21,25 @@ const RANKS: usize = 5;
 // A part has room for all rows.
 const PART_LENGTH: usize = MOST_ELEMENTS;
 
-const PARTS: usize = 1280;
-
-fn wide(b: u8) -> usize
-    ensures { result ≡ b }
-{
-    b as usize
-}
+const PARTS: usize = RANKS * PART_LENGTH;
 
 // The position that stands at k in a queue. Ruled out (proofs/WrongAnswers): the next one; k itself.
 pub fn row_at(queue: &[u8], k: usize) -> usize
     requires { k < length queue.now }
     ensures { result ≡ get_or queue.now k 0 }
 {
-    wide(queue[k])
+    queue[k] as usize
 }
 
 // "type 1, then 2, 3, 4, then all others". Ruled out (proofs/WrongAnswers), of type 0: 0; of type 6: 6.
+#[tactic(auto, unfolding(crate::specs::Order::rank_of))]
 pub(crate) fn rank_of(x: Element) -> u64
     ensures { (result ≡ rank_of x) × (1 ≤ result) × (result ≤ ranks) }
 {
-    if x.kind == 0 {
-        return LAST_RANK;
+    match x.kind {
+        1..=4 => x.kind,
+        _ => LAST_RANK,
     }
-    if 4 < x.kind {
-        return LAST_RANK;
-    }
-    x.kind
 }
 
 // A row's position behind those of its rank, whose part is r.
@@ -59,28 +52,18 @@ fn put_place(parts: &mut [u8], counts: &mut [usize], r: usize, i: usize)
     counts[r] = n + 1;
 }
 
-// Each of n rows whose flag is not 0, into the part of its rank.
-fn part_rows(
-    rows: &[u64],
-    ids: &[u64],
-    n: usize,
-    flags: &[u8],
-    parts: &mut [u8],
-    counts: &mut [usize],
-)
-    requires { RowsStand rows.now ids.now n × (n ≤ most_elements) × (n ≤ length flags.now) × PartsStand parts.old counts.old × ((r : ℕ) → r < ranks → get_or counts.old r 0 ≡ 0) }
-    ensures { Parted (elements_in rows.now ids.now n) flags.now parts.new counts.new }
+// Each row whose flag is not 0, into the part of its rank.
+fn part_rows(all: Elements, flags: &[u8], parts: &mut [u8], counts: &mut [usize])
+    requires { (all.count ≤ most_elements) × (all.count ≤ length flags.now) × PartsStand parts.old counts.old × ((r : ℕ) → r < ranks → get_or counts.old r 0 ≡ 0) }
+    ensures { Parted (elements_of all.entry) flags.now parts.new counts.new }
 {
-    let mut i = 0;
-    while i < n {
+    for i in 0..all.count {
         if flags[i] == 0 {
-            i += 1;
             continue;
         }
-        let x = element_in_row(rows, ids, i);
+        let x = all.element(i);
         let r = rank_of(x) - 1;
         put_place(parts, counts, r as usize, i);
-        i += 1;
     }
 }
 
@@ -90,23 +73,21 @@ fn join_parts(queue: &mut [u8], parts: &[u8], counts: &[usize]) -> usize
     ensures { Lays 0 (joined_parts ranks 0 parts.now counts.now) queue.old result queue.new }
 {
     let mut at = 0;
-    let mut r = 0;
-    while r < RANKS {
+    for r in 0..RANKS {
         at = lay_part(queue, at, part(parts, r * PART_LENGTH, counts[r] as u64));
-        r += 1;
     }
     at
 }
 
-// The positions of those of n rows whose flag is not 0, in their order, at the front of the queue; and how many they are. Ruled out
+// The positions of the rows whose flag is not 0, in their order, at the front of the queue; and how many they are. Ruled out
 // (proofs/WrongAnswers): a row of rank 2 before one of rank 1; the second of two rows of one rank before the first.
-pub fn queue_rows(rows: &[u64], ids: &[u64], n: usize, flags: &[u8], queue: &mut [u8]) -> usize
-    requires { RowsStand rows.now ids.now n × (n ≤ most_elements) × (n ≤ length flags.now) × (n ≤ length queue.old) }
-    ensures { Lays 0 (queue_of (elements_in rows.now ids.now n) flags.now) queue.old result queue.new }
+pub fn queue_rows(all: Elements, flags: &[u8], queue: &mut [u8]) -> usize
+    requires { (all.count ≤ most_elements) × (all.count ≤ length flags.now) × (all.count ≤ length queue.old) }
+    ensures { Lays 0 (queue_of (elements_of all.entry) flags.now) queue.old result queue.new }
 {
     let mut parts = [0u8; PARTS];
     let mut counts = [0usize; RANKS];
-    part_rows(rows, ids, n, flags, &mut parts, &mut counts);
+    part_rows(all, flags, &mut parts, &mut counts);
     join_parts(queue, &parts, &counts)
 }
 
@@ -116,17 +97,7 @@ pub fn rises(queue: &[u8], n: usize) -> bool
     requires { n ≤ length queue.now }
     ensures { result ≡ rising_from 0 (take n queue.now) }
 {
-    let mut last = 0;
-    let mut k = 0;
-    while k < n {
-        let i = row_at(queue, k);
-        if i < last {
-            return false;
-        }
-        last = i;
-        k += 1;
-    }
-    true
+    queue[..n].is_sorted()
 }
 
 // The flags of the rows at the first n positions of a queue set, and the others as they were. Ruled out (proofs/WrongAnswers): those of n rows
@@ -135,10 +106,7 @@ pub fn mark_rows(queue: &[u8], n: usize, flags: &mut [u8])
     requires { (n ≤ length queue.now) × Each (λ (i : ℕ). i < length flags.old) (take n queue.now) }
     ensures { flags.new ≡ marking (take n queue.now) flags.old }
 {
-    let mut k = n;
-    while 0 < k {
-        k -= 1;
-        let i = row_at(queue, k);
-        flags[i] = 1;
+    for i in &queue[..n] {
+        flags[*i as usize] = 1;
     }
 }

@@ -11,6 +11,7 @@ use lib.ListN.{length, take, drop, length-take, length-drop}
 use lib.Seq.{take-length}
 use lib.Dec.{eqb, leb}
 use borrow.Author.Tests.{leb-true, le-leb, lt-leb, eq-eqb, ne_eqb, eqb-true, le-ltb, ltb-false}
+use Rattle.std.specs.Prelude.{Ok, Err}
 use Rattle.laws.specs.Pick.{pick}
 use Rattle.laws.proofs.Cases.{by_bool, by_eq, by_lt, impossible}
 use Rattle.talk.specs.Page.{Every}
@@ -34,8 +35,7 @@ use Rattle.ranges.specs.RangeTable.{ranges_at}
 use Rattle.order.proofs.Rearranged.{rearranged_length}
 use Rattle.pages.specs.Tables.{laid_all, table_measure, whole_of, Decides, DecidesPage, is_whole, takes_all, tries_all}
 use Rattle.pages.specs.declared.page.Bounds.{Bounds}
-use Rattle.pages.specs.declared.page.Decided.{Decided}
-use Rattle.pages.specs.declared.page.Decided.TheVariants.{Sent, Crowded, Short}
+use Rattle.pages.specs.Results.Decided.{Decided, Sent}
 use Rattle.pages.proofs.Lengths.{whole_some}
 use Rattle.pages.proofs.Pricing.{bytes_most, rows_laid}
 use Rattle.pages.proofs.Stops.{some_taken, sent_law}
@@ -161,11 +161,10 @@ all_sent_lem b l w h =
 
 -- by taking one element after the other
 pub one_by_one : (b : Bounds) (l : List Range) (w : List Element) (r : Decided) (t t' : List ℕ) → ranges_at t 0 (length l) ≡ l → Decides w l b r t t' → DecidesPage w l b r t'
-one_by_one b l w (Sent k whole ranges more) t t' h d =
-    let s = sent_law b.most b.limit b.room (table_measure b.fixed l w) (length w) k whole ranges more (sym d.0) in
-    (d.0, rw (d.1, s.ranges_are) (rows_laid (take k w) l t h))
-one_by_one b l w Crowded t t' h d = (d.0, tt)
-one_by_one b l w (Short n) t t' h d = (d.0, tt)
+one_by_one b l w (Ok x) t t' h d =
+    let s = sent_law b.most b.limit b.room (table_measure b.fixed l w) (length w) x.count x.length x.ranges x.more (sym d.0) in
+    (d.0, rw (d.1, s.ranges_are) (rows_laid (take x.count w) l t h))
+one_by_one b l w (Err e) t t' h d = (d.0, tt)
 
 -- the page of all
 abbrev all_of : Bounds → List Range → List Element → Decided
@@ -273,11 +272,12 @@ module _ (b : Bounds) (l : List Range) (n : Normal l) (c w : List Element) (e : 
 
   pub tried : (r : Decided) (t t' : List ℕ) → ranges_at t 0 (length l) ≡ l → Decides c l b r t t' → is_whole r ≡ true → DecidesPage w l b r t'
   unfolding is_whole
-  tried (Sent k whole ranges true) t t' h d is = impossible (cc)
-  tried (Sent k whole ranges false) t t' h d is =
+  tried (Ok x) t t' h d is =
+      let k = x.count in
+      let all_sent : x.more ≡ false = by_bool x.more (λ i. impossible (cc)) (λ i. i) in
       let m = table_measure b.fixed l c in
-      let s = sent_law b.most b.limit b.room m (length c) k whole ranges false (sym d.0) in
-      let a = ltb-false k (length c) (sym s.more_is) in
+      let s = sent_law b.most b.limit b.room m (length c) k x.length x.ranges x.more (sym d.0) in
+      let a = ltb-false k (length c) (sym s.more_is ∙ all_sent) in
       let z = s.greatest.most in
       let ke : k ≡ length c = omega arith in
       let whole-c : take k c ≡ c = rw ke (take-length c) in
@@ -287,9 +287,8 @@ module _ (b : Bounds) (l : List Range) (n : Normal l) (c w : List Element) (e : 
       let all : sent (table_measure b.fixed l w) (length w) (length w) ≡ decision b.most b.limit b.room (table_measure b.fixed l w) (length w) =
       some_taken b.most b.limit b.room (table_measure b.fixed l w) (length w) (length w) (omega arith) (omega arith) every (λ i. absurd (omega arith)) in
       let all-w : all_of b l w ≡ decision b.most b.limit b.room (table_measure b.fixed l w) (length w) = rw (take-length w, le-ltb (length w) (length w) (omega arith)) at all in
-      let is_all : Sent k whole ranges false ≡ all_of b l c = rw (s.whole_is, s.ranges_are, whole-c, ke) in (
+      let is_all : Sent k x.length x.ranges x.more ≡ all_of b l c = rw (s.whole_is, s.ranges_are, all_sent, whole-c, ke) in (
         is_all ∙ same_all b l n e ∙ all-w,
         rw (whole-w, with_rearranged e l n) (rw (s.ranges_are, d.1, whole-c) (rows_laid c l t h)),
       )
-  tried Crowded t t' h d is = impossible (cc)
-  tried (Short m) t t' h d is = impossible (cc)
+  tried (Err e) t t' h d is = impossible (cc)

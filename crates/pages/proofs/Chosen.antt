@@ -12,7 +12,7 @@ use lib.ListN.{length, take, drop, get_or, drop_of_length-le, length-take}
 use lib.Seq.{drop-cons, get_or-take, length-take-le}
 use lib.Dec.{eqb}
 use Rattle.laws.specs.Pick.{pick}
-use Rattle.objects.specs.declared.reading.Reading.TheVariants.{At}
+use Rattle.objects.specs.Results.Reading.{At}
 use Rattle.talk.specs.Each.{Each}
 use Rattle.talk.specs.Wanted.{keep, is_wanted, wanted}
 use Rattle.talk.specs.declared.range.Range.{Range}

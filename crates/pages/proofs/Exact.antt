@@ -9,14 +9,15 @@ use native.Mathlib.Omega.{arith}
 use lib.ListN.{length}
 use lib.Dec.{leb}
 use borrow.Author.Tests.{le-leb, lt-leb, eq-eqb}
+use Rattle.std.specs.Prelude.{Ok, Err}
 use Rattle.laws.proofs.Cases.{by_bool, by_lt, by_eq, impossible}
 use Rattle.talk.specs.declared.range.Range.{Range}
 use Rattle.store.specs.declared.element.Element.{Element}
 use Rattle.pages.specs.Decision.{Measure, is_sendable, sent, decision}
 use Rattle.pages.specs.Answer.{Ask, answered, page_bytes, page_measure, on_decided, page_decided, page_outcome, outcome}
 use Rattle.pages.specs.Cases.{Asks}
-use Rattle.pages.specs.declared.page.Decided.{Decided}
-use Rattle.pages.specs.declared.page.Decided.TheVariants as decided
+use Rattle.pages.specs.Results.Decided.{Decided}
+use Rattle.pages.specs.Results.Decided as decided
 use Rattle.pages.proofs.Stops.{sendable_both, some_taken, Sends, sent_law}
 use Rattle.pages.proofs.Refusing.{asked_outcome, answered_asks}
 use Rattle.pages.proofs.Growing.{pages_grow}
@@ -77,14 +78,13 @@ asked_grows s q a x = pages_grow s q a x
 exact_on : (a : Ask) (room : ℕ) → Grows (page_measure a) (length a.wanted) → (d : Decided) → page_decided a room ≡ d → (w : List ℕ) (all : List Element) (l : List Range)
     → on_decided a d ≡ answered w all l → page_decided a (length w) ≡ d
 unfolding on_decided page_decided page_measure
-exact_on a room grows (decided.Sent k whole ranges more) e w all l h =
+exact_on a room grows (Ok x) e w all l h =
     let n = length a.wanted in
-    let x = sent_law a.most a.limit room (page_measure a) n k whole ranges more e in
-    let b : w ≡ page_bytes a k = cc (h) in
-    let f : length w ≡ whole = ap length b ∙ sym x.whole_is in
-    rw f (exact_decision a.most a.limit room (page_measure a) n grows k whole ranges more e)
-exact_on a room grows decided.Crowded e w all l h = impossible (cc (h))
-exact_on a room grows (decided.Short n) e w all l h = impossible (cc (h))
+    let s = sent_law a.most a.limit room (page_measure a) n x.count x.length x.ranges x.more e in
+    let b : w ≡ page_bytes a x.count = cc (h) in
+    let f : length w ≡ x.length = ap length b ∙ sym s.whole_is in
+    rw f (exact_decision a.most a.limit room (page_measure a) n grows x.count x.length x.ranges x.more e)
+exact_on a room grows (Err x) e w all l h = impossible (cc (h))
 
 page_exact : (a : Ask) (room : ℕ) → Grows (page_measure a) (length a.wanted) → (w : List ℕ) (all : List Element) (l : List Range)
     → page_outcome a room ≡ answered w all l → page_outcome a (length w) ≡ answered w all l

@@ -7,6 +7,7 @@ use mathlib.Core.List.{List}
 use Prim.Native.Nat.{ℕ}
 use native.Mathlib.Omega.{arith}
 use lib.ListN.{get_or}
+use Rattle.std.specs.Prelude.{Ok, Err}
 use Rattle.laws.specs.Pick.{pick}
 use Rattle.laws.proofs.Cases.{impossible}
 use Rattle.laws.proofs.OneAnswer.{Telling, one_answer}
@@ -14,14 +15,14 @@ use Rattle.numbers.proofs.OneAnswers.{refuses_telling, values_of}
 use Rattle.numbers.specs.Refusals.{Told}
 use Rattle.pages.specs.Decision.{tell_decided}
 use Rattle.pages.specs.Answer.{Outcome, tell_answered, Tells, TellsLength, WritesAnswer}
-use Rattle.pages.specs.declared.page.Decided.TheVariants as decided
-use Rattle.pages.specs.declared.answer.Answered.{Answered}
-use Rattle.pages.specs.declared.answer.Answered.TheVariants as answer
+use Rattle.pages.specs.Results.Decided as decided
+use Rattle.pages.specs.Results.Answered.{Answered}
+use Rattle.pages.specs.Results.Answered as answer
 
 pub answer_telling_lem : Telling tell_answered
-answer_telling_lem (answer.Sent a b c) (answer.Sent d e f) q = let v = values_of _ _ q in cc
-answer_telling_lem (answer.Sent a b c) (answer.Refused r) q = let v = values_of _ _ q in impossible (cc)
-answer_telling_lem (answer.Refused r) (answer.Sent d e f) q = let v = values_of _ _ q in impossible (cc)
+answer_telling_lem (Ok x) (Ok y) q = let v = values_of _ _ q in grind arith
+answer_telling_lem (Ok x) (answer.Refused r) q = let v = values_of _ _ q in impossible (cc)
+answer_telling_lem (answer.Refused r) (Ok x) q = let v = values_of _ _ q in impossible (cc)
 answer_telling_lem (answer.Refused r) (answer.Refused t) q = ap answer.Refused (refuses_telling r t q)
 
 pub mark_telling : (a b : Bool) → ◌≡◌ {A = ℕ} (pick a 1 0) (pick b 1 0) → a ≡ b
@@ -41,13 +42,11 @@ sent_telling k whole ranges k' whole' ranges' m m' q =
     rw (a, b, c, e)
 
 pub decided_telling : Telling tell_decided
-decided_telling (decided.Sent k w r m) (decided.Sent k' w' r' m') q = sent_telling k w r k' w' r' m m' q
-decided_telling (decided.Sent k w r m) decided.Crowded q = let v = values_of _ _ q in impossible (cc)
-decided_telling (decided.Sent k w r m) (decided.Short n) q = let v = values_of _ _ q in impossible (cc)
-decided_telling decided.Crowded (decided.Sent k w r m) q = let v = values_of _ _ q in impossible (cc)
+decided_telling (Ok x) (Ok y) q = sent_telling x.count x.length x.ranges y.count y.length y.ranges x.more y.more q
+decided_telling (Ok x) (Err d) q = let v = values_of _ _ q in impossible (cc)
+decided_telling (Err e) (Ok x) q = let v = values_of _ _ q in impossible (cc)
 decided_telling decided.Crowded decided.Crowded q = refl
 decided_telling decided.Crowded (decided.Short n) q = let z : ◌≡◌ {A = ℕ} 9 14 = ap (λ (t : Told). t.number) q in absurd (omega arith)
-decided_telling (decided.Short n) (decided.Sent k w r m) q = let v = values_of _ _ q in impossible (cc)
 decided_telling (decided.Short n) decided.Crowded q = let z : ◌≡◌ {A = ℕ} 14 9 = ap (λ (t : Told). t.number) q in absurd (omega arith)
 decided_telling (decided.Short n) (decided.Short m) q = ap decided.Short (ap (λ (t : Told). t.needed) q)
 

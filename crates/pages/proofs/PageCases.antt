@@ -12,8 +12,7 @@ use Rattle.talk.specs.Page.{page_count}
 use Rattle.pages.specs.Decision.{Measure, sendable, sent, decision}
 use Rattle.pages.specs.Answer.{Ask, refused, answered, number_in, page_ranges, page_bytes, page_measure, on_decided, page_decided, page_outcome}
 use Rattle.pages.specs.Cases.{smallest, Few}
-use Rattle.pages.specs.declared.page.Decided.{Decided}
-use Rattle.pages.specs.declared.page.Decided.TheVariants.{Crowded, Short}
+use Rattle.pages.specs.Results.Decided.{Decided, Crowded, Short}
 
 -- ---- the decision, case by case
 

@@ -7,8 +7,8 @@ use mathlib.Core.List.{List, map}
 use Prim.Native.Nat.{ℕ, ◌+◌, ◌≤◌}
 use native.Mathlib.Omega.{arith}
 use lib.ListN.{length, take, length-map}
-use Rattle.numbers.specs.Refusals.{fault_at, too_short}
-use Rattle.numbers.specs.declared.extended_guid.ExtendedGuid.{ExtendedGuid}
+use Rattle.std.specs.Prelude.{Err}
+use Rattle.numbers.specs.Results.ExtendedGuid.{ExtendedGuid}
 use Rattle.talk.specs.Each.{Each}
 use Rattle.talk.proofs.Things.{each_so}
 use Rattle.order.specs.Groups.{Group, members, members_of}
@@ -25,10 +25,11 @@ use Rattle.request.specs.Message.{filters_of}
 use Rattle.pages.specs.Tables.{fixed_length, table_measure, Carries, SendsRows, DecidesGroups, sent_bytes}
 use Rattle.pages.specs.Answer.{Ask, refused, answered, page_ranges, page_bytes, page_measure, on_decided, page_decided, page_outcome, known_in}
 use Rattle.pages.specs.Held.{RequestHeld, ask_in, groups_wanted, bounds_for, reckoned_on, Ready}
-use Rattle.pages.specs.declared.page.Decided.{Decided}
-use Rattle.pages.specs.declared.page.Decided.TheVariants.{Sent, Crowded, Short}
+use Rattle.pages.specs.Decision.{unsent_refusal}
+use Rattle.pages.specs.declared.page.Unsent.{Unsent}
+use Rattle.pages.specs.Results.Decided.{Decided, Sent}
 use Rattle.pages.specs.declared.deciding.Asked.{Asked}
-use Rattle.pages.specs.declared.deciding.Reckoned.TheVariants as reckoned
+use Rattle.pages.specs.Results.Reckoned as reckoned
 use Rattle.pages.specs.declared.write.Sending.{Sending}
 use Rattle.pages.proofs.Stops.{Sends, sent_law}
 use Rattle.pages.proofs.Chosen.{groups_are_wanted}
@@ -68,15 +69,10 @@ module _ (s q : List ℕ) (a : Asked) (rows ids known : List ℕ) (n : ℕ) (h :
 
   -- ---- what is answered, into an output of so many bytes
 
-  pub page_crowded : (room : ℕ) (d : Decided) → d ≡ Crowded → d ≡ page_decided ask room
-      → (reckoned.Refused (fault_at 9 0) ≡ reckoned_on ask (page_decided ask room)) × (page_outcome ask room ≡ refused (fault_at 9 0))
+  pub page_unsent : (room : ℕ) (d : Decided) (x : Unsent) → d ≡ Err x → d ≡ page_decided ask room
+      → (reckoned.Refused (unsent_refusal x) ≡ reckoned_on ask (page_decided ask room)) × (page_outcome ask room ≡ refused (unsent_refusal x))
   unfolding page_outcome on_decided reckoned_on
-  page_crowded room d e f = rw (← f, e) (refl, refl)
-
-  pub page_short : (room : ℕ) (d : Decided) (needed : ℕ) → d ≡ Short needed → d ≡ page_decided ask room
-      → (reckoned.Refused (too_short needed) ≡ reckoned_on ask (page_decided ask room)) × (page_outcome ask room ≡ refused (too_short needed))
-  unfolding page_outcome on_decided reckoned_on
-  page_short room d needed e f = rw (← f, e) (refl, refl)
+  page_unsent room d x e f = rw (← f, e) (refl, refl)
 
   -- the page of k groups stands ready: what is written is its answer, and it fits
   module _ (room : ℕ) (d : Decided) (k whole count : ℕ) (more : Bool) (e : d ≡ Sent k whole count more) (f : d ≡ page_decided ask room)

@@ -8,27 +8,27 @@ use Prim.Native.Nat.{ℕ, ◌≤◌, ◌<◌}
 use native.Mathlib.Omega.{arith}
 use lib.ListN.{length}
 use borrow.Author.Tests.{lt-ltb, le-ltb}
+use Rattle.std.specs.Prelude.{Ok, Err}
 use Rattle.laws.proofs.Cases.{by_lt, impossible}
-use Rattle.numbers.specs.Refusals.{fault_at, too_short, longest_input, over_long}
+use Rattle.numbers.specs.Refusals.{fault_at, too_short, longest_input, over_long, refusal_number}
 use Rattle.numbers.specs.declared.refusal.Refusal.{Refusal}
-use Rattle.objects.specs.declared.reading.Reading.{Reading}
-use Rattle.objects.specs.declared.reading.Reading.TheVariants as reading
+use Rattle.objects.specs.Results.Reading.{Reading}
+use Rattle.objects.specs.Results.Reading as reading
 use Rattle.objects.proofs.InputFaults.{input_told}
 use Rattle.talk.specs.declared.range.Range.{Range}
 use Rattle.store.specs.Store.{store_walk, Stands}
 use Rattle.store.specs.declared.element.Element.{Element}
 use Rattle.store.proofs.Places as store
 use Rattle.request.specs.Message.{in_request, request_in}
-use Rattle.request.specs.declared.message.Request.{Request}
-use Rattle.request.specs.declared.message.Request.TheVariants as request
+use Rattle.request.specs.Results.Request.{Request}
+use Rattle.request.specs.Results.Request as request
 use Rattle.request.proofs.Places as asked
 use Rattle.request.proofs.Whole.{over_long_read}
 use Rattle.pages.specs.Decision.{most_carried, decision}
 use Rattle.order.specs.Order.{ranked_numbers}
 use Rattle.pages.specs.Answer.{Ask, Outcome, refused, answered, number_in, page_ranges, page_bytes, page_measure, on_decided, page_decided, page_outcome, ask_of, on_request, on_store, outcome, knowledge_numbers, answer_of}
 use Rattle.pages.specs.Cases.{Asks, OverLong, smallest, TooShort, Sends}
-use Rattle.pages.specs.declared.page.Decided.{Decided}
-use Rattle.pages.specs.declared.page.Decided.TheVariants as decided
+use Rattle.pages.specs.Results.Decided.{Decided}
 use Rattle.pages.proofs.Stops.{sent_law}
 use Rattle.pages.proofs.PageCases.{nine_only_if, nine_if, fourteen_only_if, fourteen_if, page_numbers}
 
@@ -41,9 +41,9 @@ pub data Course (s q : List ℕ) (room : ℕ) : Outcome → Type 0 where
 
 on_request_lem : (s q : List ℕ) (room : ℕ) (r : Request) → request_in q [] ≡ r → Stands (store_walk s).last → Course s q room (on_request s (store_walk s).elements q room r)
 unfolding on_request
-on_request_lem s q room (request.Asked id limit place count known) e h =
-    page (ask_of s (store_walk s).elements q id limit)
-    (record { id = id; limit = limit; place = place; count = count; known = known; store_reads = h; request_reads = e; asked = refl })
+on_request_lem s q room (Ok x) e h =
+    page (ask_of s (store_walk s).elements q x.id x.limit)
+    (record { id = x.id; limit = x.limit; place = x.place; count = x.count; known = x.known; store_reads = h; request_reads = e; asked = refl })
 on_request_lem s q room (request.Refused r) e h = request_fault r h e
 
 on_store_lem : (s q : List ℕ) (room : ℕ) (c : Reading) → (store_walk s).last ≡ c → Course s q room (on_store s (store_walk s).elements q room c)
@@ -81,10 +81,10 @@ unfolding answer_of
 tables_fine s q rows ranges room h g = rw (le-ltb rows ranked_numbers h, le-ltb ranges knowledge_numbers g)
 
 -- the other refusals have other numbers
-fault_number : (s : List ℕ) (r : Refusal) → (store_walk s).last ≡ reading.Refused r → (1 ≤ r.number) × (r.number ≤ 12)
+fault_number : (s : List ℕ) (r : Refusal) → (store_walk s).last ≡ reading.Refused r → (1 ≤ refusal_number r) × (refusal_number r ≤ 12)
 fault_number s r e = let w = input_told longest_input s r (store.store_fault s r e) in (w.least, w.most)
 
-request_fault_number : (q : List ℕ) (r : Refusal) → request_in q [] ≡ request.Refused r → (1 ≤ r.number) × (r.number ≤ 12)
+request_fault_number : (q : List ℕ) (r : Refusal) → request_in q [] ≡ request.Refused r → (1 ≤ refusal_number r) × (refusal_number r ≤ 12)
 request_fault_number q r e =
     let (x, i, f) = asked.request_fault q [] r e in
     let w = input_told longest_input q x f in
@@ -115,7 +115,7 @@ one_on s q room _ (request_fault r g e) h =
     (λ l.
     let (x, i, f) = asked.request_fault q [] r e in
     let n = (f.within l).number in
-    let z : x.number ≡ 1 = rw i at h in
+    let z : refusal_number x ≡ 1 = rw i at h in
     absurd (omega arith))
 one_on s q room _ (page a x) h = absurd (⊎_elim (λ z. omega arith) (λ w. ⊎_elim (λ z. omega arith) (λ z. omega arith) w) (page_numbers a room))
 
@@ -167,16 +167,15 @@ call_of_nine s q room a x p c = asked_outcome s q a room x ∙ nine_if a room p 
 sends_on : (a : Ask) (room : ℕ) (d : Decided) → decision a.most a.limit room (page_measure a) (length a.wanted) ≡ d → (w : List ℕ) (all : List Element) (l : List Range)
     → on_decided a d ≡ answered w all l → Sends a room w all l
 unfolding on_decided
-sends_on a room (decided.Sent k whole ranges more) e w all l h =
+sends_on a room (Ok x) e w all l h =
     record {
-      count = k;
-      greatest = (sent_law a.most a.limit room (page_measure a) (length a.wanted) k whole ranges more e).greatest;
+      count = x.count;
+      greatest = (sent_law a.most a.limit room (page_measure a) (length a.wanted) x.count x.length x.ranges x.more e).greatest;
       bytes_are = cc (h);
       elements_are = cc (h);
       ranges_are = cc (h);
     }
-sends_on a room decided.Crowded e w all l h = impossible (cc (h))
-sends_on a room (decided.Short n) e w all l h = impossible (cc (h))
+sends_on a room (Err x) e w all l h = impossible (cc (h))
 
 pub page_sends : (a : Ask) (room : ℕ) (w : List ℕ) (all : List Element) (l : List Range) → page_outcome a room ≡ answered w all l → Sends a room w all l
 unfolding page_outcome page_decided

@@ -8,6 +8,7 @@ use Prim.Native.Nat.{ℕ, ◌+◌, ◌≤◌}
 use native.Mathlib.Omega.{arith}
 use lib.ListN.{length, take, length-map}
 use lib.Seq.{length-take-le}
+use Rattle.std.specs.Prelude.{Ok, Err}
 use Rattle.laws.specs.Once.{once}
 use Rattle.laws.specs.Placed.{laid}
 use Rattle.laws.proofs.Cases.{by_bool}
@@ -31,8 +32,7 @@ use Rattle.pages.specs.Choice.{is_known}
 use Rattle.pages.specs.Tables.{taken_in, table_measure, DecidesPage, SendsRows, DecidesGroups}
 use Rattle.pages.specs.Held.{wanted_flags, is_wanted_here, groups_wanted}
 use Rattle.pages.specs.declared.page.Bounds.{Bounds}
-use Rattle.pages.specs.declared.page.Decided.{Decided}
-use Rattle.pages.specs.declared.page.Decided.TheVariants.{Sent, Crowded, Short}
+use Rattle.pages.specs.Results.Decided.{Decided}
 use Rattle.store.proofs.SharedSerials.{serials_in_rows}
 use Rattle.pages.specs.declared.deciding.Asked.{Asked}
 use Rattle.pages.proofs.Chosen.{chosen_wanted}
@@ -80,10 +80,9 @@ module _ (q : List ℕ) (a : Asked) (known : List Range) (all : List Element) (d
 
 -- no more are sent than are wanted
 pub taken_most : (b : Bounds) (l : List Range) (w : List Element) (d : Decided) (t : List ℕ) → DecidesPage w l b d t → taken_in d ≤ length w
-taken_most b l w (Sent k whole ranges more) t h =
-    (sent_law b.most b.limit b.room (table_measure b.fixed l w) (length w) k whole ranges more (sym h.0)).greatest.most
-taken_most b l w Crowded t h = omega arith
-taken_most b l w (Short m) t h = omega arith
+taken_most b l w (Ok x) t h =
+    (sent_law b.most b.limit b.room (table_measure b.fixed l w) (length w) x.count x.length x.ranges x.more (sym h.0)).greatest.most
+taken_most b l w (Err e) t h = omega arith
 
 -- ---- as they stand in the tables and in the queue
 
@@ -95,7 +94,8 @@ module _ (q : List ℕ) (a : Asked) (known : List Range) (rows ids : List ℕ) (
 
   pub singles_sent : (d : Decided) → taken_in d ≤ length (groups_wanted q a known (elements_in rows ids n))
       → SendsRows rows ids queue' (groups_wanted q a known (elements_in rows ids n)) d (taken_in d)
-  singles_sent (Sent k whole ranges more) h =
+  singles_sent (Ok x) h =
+      let k = x.count in
       let all = elements_in rows ids n in
       let w = ordered (chosen all flags) in
       let e : members_of (take k (groups_wanted q a known all)) ≡ take k w = rw marked (members_are q a known all apart behind k) in
@@ -104,8 +104,7 @@ module _ (q : List ℕ) (a : Asked) (known : List Range) (rows ids : List ℕ) (
         queue_part rows ids n flags queue queue' queued k m stand,
         queue_first rows ids n flags queue queue' queued k m ∙ sym e,
       )
-  singles_sent Crowded h = tt
-  singles_sent (Short m) h = tt
+  singles_sent (Err e) h = tt
 
   -- what was decided of those that are chosen was decided of the groups, and so many rows of the queue are sent
   pub singles_decided : (b : Bounds) (d : Decided) (t : List ℕ) → DecidesPage (ordered (chosen (elements_in rows ids n) flags)) known b d t

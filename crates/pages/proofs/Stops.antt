@@ -11,8 +11,7 @@ use Rattle.laws.specs.Pick.{pick}
 use Rattle.laws.proofs.Cases.{by_bool, impossible}
 use Rattle.talk.specs.Page.{Greatest, Every, page_count}
 use Rattle.talk.proofs.PageRule.{page_greatest, greatest_one, greatest_some, every_none}
-use Rattle.pages.specs.declared.page.Decided.{Decided}
-use Rattle.pages.specs.declared.page.Decided.TheVariants.{Sent, Crowded, Short}
+use Rattle.pages.specs.Results.Decided.{Decided, Sent, Crowded, Short}
 use Rattle.pages.specs.Decision.{Measure, is_sendable, sendable, sent, decision}
 use Rattle.pages.specs.Tables.{stopped, ended, taken_in}
 
@@ -99,13 +98,13 @@ module _ (most limit room : ℕ) (m : Measure) (n : ℕ) where
 
   sends_none : (k whole ranges : ℕ) (more : Bool) → n ≡ 0 → m.whole 0 ≤ room → sent m n 0 ≡ Sent k whole ranges more → Sends k whole ranges more
   sends_none k whole ranges more z f q =
-      let e : k ≡ 0 = cc in
+      let e : k ≡ 0 = grind arith in
       record {
         greatest = record { most = omega arith; every = rw e (every_none _); stop = λ l. absurd (omega arith) };
         some = λ l. absurd (omega arith);
-        whole_is = cc;
-        ranges_are = cc;
-        more_is = cc;
+        whole_is = grind arith;
+        ranges_are = grind arith;
+        more_is = grind arith;
         fits = rw e f;
         carries = rw e (λ top h l. h);
       }
@@ -113,16 +112,16 @@ module _ (most limit room : ℕ) (m : Measure) (n : ℕ) where
   sends_some : (k whole ranges : ℕ) (more : Bool) → 0 < n → sendable most limit room m 1 ≡ true
       → sent m n (page_count (sendable most limit room m) n) ≡ Sent k whole ranges more → Sends k whole ranges more
   sends_some k whole ranges more l f q =
-      let e : page_count (sendable most limit room m) n ≡ k = cc in
+      let e : page_count (sendable most limit room m) n ≡ k = grind arith in
       let g : Greatest (sendable most limit room m) n k = rw e at (page_greatest (sendable most limit room m) n) in
       let some : 0 < k = greatest_some (sendable most limit room m) n k g f l in
       let last : sendable most limit room m k ≡ true = g.every k (omega arith) (omega arith) in
       record {
         greatest = g;
         some = λ h. some;
-        whole_is = cc;
-        ranges_are = cc;
-        more_is = cc;
+        whole_is = grind arith;
+        ranges_are = grind arith;
+        more_is = grind arith;
         fits = sendable_room most limit room k (m.stored k) (m.ranges k) (m.whole k) last;
         carries = λ top h u. omega (arith, sendable_ranges most limit room k (m.stored k) (m.ranges k) (m.whole k) last);
       }

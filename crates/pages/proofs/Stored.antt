@@ -15,26 +15,26 @@ use Rattle.laws.proofs.Cases.{impossible}
 use Rattle.laws.proofs.Placing.{laid_front}
 use Rattle.numbers.specs.Refusals.{fault_at}
 use Rattle.numbers.specs.declared.refusal.Refusal.{Refusal}
-use Rattle.objects.specs.declared.reading.Reading.{Reading}
-use Rattle.objects.specs.declared.reading.Reading.TheVariants as reading
+use Rattle.objects.specs.Results.Reading.{Reading}
+use Rattle.objects.specs.Results.Reading as reading
 use Rattle.ranges.specs.RangeTable.{range_width, ranges_at}
 use Rattle.ranges.proofs.RangeRows.{length_rows}
 use Rattle.store.specs.Knowledge.{most_said, said_numbers}
 use Rattle.store.specs.Store.{stored_of}
 use Rattle.store.specs.Tables.{row_numbers, most_elements, id_width, elements_in}
 use Rattle.order.specs.Order.{ordered, ranked_rows, ranked_width, ranked_numbers}
-use Rattle.store.specs.declared.package.Stored.TheVariants as stored
+use Rattle.store.specs.Results.Stored as stored
 use Rattle.store.proofs.Elements.{length_elements}
 use Rattle.request.specs.Message.{request_in, ReadsRequest}
-use Rattle.request.specs.declared.message.Request.{Request}
-use Rattle.request.specs.declared.message.Request.TheVariants as request
+use Rattle.request.specs.Results.Request.{Request}
+use Rattle.request.specs.Results.Request as request
 use Rattle.request.proofs.Whole.{request_table_free, request_held, asked_filters, asked_known}
 use Rattle.pages.specs.Tables.{sent_bytes}
 use Rattle.pages.specs.Answer.{Outcome, refused, outcome, knowledge_numbers, answer_of, range_rows, answer_told, rows_after, ranges_after, output_after, Tells, Gives}
 use Rattle.pages.specs.Held.{RequestHeld, WorkingTables, Ready, Follows}
-use Rattle.pages.specs.declared.answer.Answered.TheVariants as answer
-use Rattle.pages.specs.declared.deciding.Reckoned.{Reckoned}
-use Rattle.pages.specs.declared.deciding.Reckoned.TheVariants as reckoned
+use Rattle.pages.specs.Results.Answered as answer
+use Rattle.pages.specs.Results.Reckoned.{Reckoned}
+use Rattle.pages.specs.Results.Reckoned as reckoned
 use Rattle.pages.specs.declared.write.Sending.{Sending}
 
 -- ---- the lent tables: one is too short, or none

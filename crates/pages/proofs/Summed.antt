@@ -6,6 +6,7 @@ use mathlib.Core.List.{List, [], ◌∷◌, map}
 use Prim.Native.Nat.{ℕ, ◌+◌, ◌≤◌, ◌<◌}
 use native.Mathlib.Omega.{arith}
 use lib.ListN.{length, take, replicate, length-map}
+use Rattle.std.specs.Prelude.{Ok, Err}
 use Rattle.talk.specs.Each.{Each}
 use Rattle.talk.specs.Ranges.{insert}
 use Rattle.talk.specs.declared.range.Range.{Range}
@@ -24,8 +25,7 @@ use Rattle.pages.specs.Decision.{Measure, decision}
 use Rattle.pages.specs.Tables.{table_measure, Carries, DecidesPage, ToSum}
 use Rattle.pages.specs.Weighed.{sum_column, length_place, weighed, weighed_in, weighed_rows, WeighsRow, Weighs}
 use Rattle.pages.specs.declared.page.Bounds.{Bounds}
-use Rattle.pages.specs.declared.page.Decided.{Decided}
-use Rattle.pages.specs.declared.page.Decided.TheVariants.{Sent, Crowded, Short}
+use Rattle.pages.specs.Results.Decided.{Decided}
 use Rattle.pages.proofs.Lumps.{take_map}
 
 -- ---- of an element a page takes its serial number and its length
@@ -64,9 +64,8 @@ module _ (xs ys : List Element) (e : map bare xs ≡ map bare ys) where
       λ i. record { stored = stored i; ranges = ranges i; whole = whole i }
 
   same_carries : (l : List Range) (r : Decided) (t : List ℕ) → Carries xs l r t → Carries ys l r t
-  same_carries l (Sent k whole ranges more) t h = h ∙ same_ranges l k
-  same_carries l Crowded t h = tt
-  same_carries l (Short n) t h = tt
+  same_carries l (Ok x) t h = h ∙ same_ranges l x.count
+  same_carries l (Err e) t h = tt
 
   pub same_decided : (l : List Range) (b : Bounds) (r : Decided) (t : List ℕ) → DecidesPage xs l b r t → DecidesPage ys l b r t
   same_decided l b r t h =

@@ -18,8 +18,8 @@ use Rattle.order.specs.Order.{ordered, ranked_rows, ranked_width, ranked_numbers
 use Rattle.order.proofs.Ordering.{ranked_length}
 use Rattle.store.specs.declared.element.Element.{Element}
 use Rattle.pages.specs.Answer.{Outcome, refused, answered, knowledge_numbers, answer_of, answer_told, rows_after, ranges_after, range_rows, output_after, Gives, TellsLength, WritesAnswer}
-use Rattle.pages.specs.declared.answer.Answered.{Answered}
-use Rattle.pages.specs.declared.answer.Answered.TheVariants as answer
+use Rattle.pages.specs.Results.Answered.{Answered}
+use Rattle.pages.specs.Results.Answered as answer
 use Rattle.pages.proofs.Copying.{length_range_rows}
 use Rattle.pages.proofs.Exact.{exact_outcome}
 use Rattle.pages.proofs.OneAnswers.{answer_telling_lem, tells_one}
@@ -57,7 +57,7 @@ exact_answer s q rows ranges room w all l h =
 sent_on : (o : Outcome) (n m k : ℕ) → answer.Sent n m k ≡ answer_told o → (w : List ℕ) × (all : List Element) × (l : List Range) × (o ≡ answered w all l) × (length w ≡ n)
 unfolding answer_told
 sent_on (refused r) n m k e = impossible (cc)
-sent_on (answered w all l) n m k e = (w, all, l, refl, cc)
+sent_on (answered w all l) n m k e = (w, all, l, refl, grind arith)
 
 -- ---- a table whose first rows were filled is no shorter, and filled again it is the same
 

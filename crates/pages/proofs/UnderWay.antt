@@ -23,7 +23,7 @@ use Rattle.order.specs.Groups.{stored_length}
 use Rattle.pages.specs.Decision.{is_sendable, sendable, decision}
 use Rattle.pages.specs.Tables.{stopped, ended, taken_in, whole_of, laid_with, laid_all, Priced, table_measure, Decides}
 use Rattle.pages.specs.declared.page.Bounds.{Bounds}
-use Rattle.pages.specs.declared.page.Decided.{Decided}
+use Rattle.pages.specs.Results.Decided.{Decided}
 use Rattle.pages.specs.declared.page.Page.{Page}
 use Rattle.pages.specs.declared.price.Price.{Price}
 use Rattle.pages.proofs.Lengths.{stored_append}

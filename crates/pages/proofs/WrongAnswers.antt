@@ -7,13 +7,14 @@ use mathlib.Core.Logic.{inl}
 use Prim.Native.Nat.{ℕ}
 use native.Mathlib.Omega.{arith}
 use lib.ListN.{length, get_or, length-append}
+use Rattle.std.specs.Prelude.{Ok}
 use Rattle.laws.specs.Bytes.{le, bytes, be}
 use Rattle.laws.proofs.Cases.{impossible}
 use Rattle.numbers.specs.Compact.{compact_bytes, size_of, form_of, form_from, with_form}
 use Rattle.numbers.specs.ExtendedGuid.{extended_guid_bytes}
 use Rattle.numbers.specs.Guid.{swapped}
-use Rattle.numbers.specs.Refusals.{fault_at}
-use Rattle.numbers.specs.declared.extended_guid.ExtendedGuid.TheVariants.{Null}
+use Rattle.numbers.specs.Refusals.{fault_at, refusal_number}
+use Rattle.numbers.specs.Results.ExtendedGuid.{Null}
 use Rattle.objects.specs.Header.{header_at, header_of, sized, start_of, end_of, length_at}
 use Rattle.objects.specs.Steps.{valued, fixed_in, start_of_length, length_is, place_of, start_here, run_here, closed_at, inside, skip, next_is, end_here, finish}
 use Rattle.talk.specs.Ranges.{range, within, holds, insert}
@@ -39,12 +40,11 @@ use Rattle.pages.specs.Tables.{whole_of, fixed_length, Priced, Decides}
 use Rattle.pages.specs.Answer.{range_rows, answer_of, answer_told, tell_answered, rows_after, TellsLength, WritesAnswer}
 use Rattle.pages.specs.declared.price.Price.{Price}
 use Rattle.pages.specs.declared.page.Bounds.{Bounds}
-use Rattle.pages.specs.declared.page.Decided.{Decided}
-use Rattle.pages.specs.declared.page.Decided.TheVariants.{Sent, Crowded, Short}
+use Rattle.pages.specs.Results.Decided.{Decided, Sent, Crowded, Short}
 use Rattle.pages.specs.Held.{reckoned_for, reckoned_of, RequestReckoned, StoreReckoned}
-use Rattle.pages.specs.declared.answer.Answered.TheVariants as answer
-use Rattle.pages.specs.declared.deciding.Reckoned.{Reckoned}
-use Rattle.pages.specs.declared.deciding.Reckoned.TheVariants as reckoned
+use Rattle.pages.specs.Results.Answered as answer
+use Rattle.pages.specs.Results.Reckoned.{Reckoned}
+use Rattle.pages.specs.Results.Reckoned as reckoned
 use Rattle.pages.proofs.Refusing.{thirteen_if}
 
 abbrev key : ℕ → Key
@@ -124,7 +124,7 @@ abbrev bounds : ℕ → Bounds
 bounds room = record { most = 512; limit = 0; fixed = 41; room = room }
 
 abbrev needed_by : Decided → ℕ
-needed_by (Sent k whole ranges more) = 0
+needed_by (Ok x) = 0
 needed_by Crowded = 0
 needed_by (Short n) = n
 
@@ -173,8 +173,8 @@ unfolding reckoned_of store_walk package_start start_of_length length_is place_o
 another_fault h = let z : ◌≡◌ {A = ℕ} 3 2 = ap number_of h.0 in omega arith
   where
     number_of : Reckoned → ℕ
-    number_of (reckoned.Page page whole n) = 0
-    number_of (reckoned.Refused r) = r.number
+    number_of (Ok x) = 0
+    number_of (reckoned.Refused r) = refusal_number r
 
 queue_written : StoreReckoned [] [] 0 (reckoned.Refused (fault_at 2 0)) [] [] [] [] [] [] (7 ∷ []) (0 ∷ []) → ⊥
 unfolding store_walk package_start start_of_length length_is place_of start_here skip walk_from next_is end_here finish header_at header_of
@@ -194,7 +194,7 @@ unfolding reckoned_for request_knowing knowledge_part versions user_agent sub_re
 first_input h = let z : ◌≡◌ {A = ℕ} 0 1 = ap input_of (h empty empty_held).0 in omega arith
   where
     input_of : Reckoned → ℕ
-    input_of (reckoned.Page page whole n) = 0
+    input_of (Ok x) = 0
     input_of (reckoned.Refused r) = r.input
 
 ranges_written : RequestReckoned [] [] [] 0 0 (reckoned.Refused (in_request (fault_at 2 0))) (7 ∷ []) (0 ∷ []) [] [] → ⊥

@@ -3,12 +3,12 @@
 -- And what each call then promises (document 02, Q-6): "one call decides the page for an output length offered and reports its exact
 -- byte length, a second writes it. The second trusts nothing and decides again. Both fill the tables as the old call did".
 -- Assumes nothing.
-use Rattle.std.specs.Prelude.{◌≡◌, ℕ, ◌*◌, List, [], ◌∷◌, ◌++◌, length, take, drop, ltb}
+use Rattle.std.specs.Prelude.{◌≡◌, ℕ, ◌*◌, List, [], ◌∷◌, ◌++◌, length, take, drop, ltb, Ok, Err}
 use Rattle.laws.specs.Pick.{pick}
-use Rattle.numbers.specs.Refusals.{Told, gives, refuses, fault_at, too_short}
+use Rattle.numbers.specs.Refusals.{Told, gives, refuses, fault_at, refusal_number}
 use Rattle.numbers.specs.declared.refusal.Refusal.{Refusal}
-use Rattle.objects.specs.declared.reading.Reading.{Reading}
-use Rattle.objects.specs.declared.reading.Reading.TheVariants as reading
+use Rattle.objects.specs.Results.Reading.{Reading}
+use Rattle.objects.specs.Results.Reading as reading
 use Rattle.talk.specs.declared.range.Range.{Range}
 use Rattle.ranges.specs.RangeTable.{range_width}
 use Rattle.store.specs.KnowledgeWritten.{range_guid}
@@ -18,15 +18,14 @@ use Rattle.order.specs.Groups.{Group, members_of, firsts, stored_length}
 use Rattle.store.specs.Held.{ranges_with, storage_index}
 use Rattle.store.specs.declared.element.Element.{Element}
 use Rattle.request.specs.Message.{filters_of, request_knowing, request_in}
-use Rattle.request.specs.declared.message.Request.{Request}
-use Rattle.request.specs.declared.message.Request.TheVariants as request
+use Rattle.request.specs.Results.Request.{Request}
+use Rattle.request.specs.Results.Request as request
 use Rattle.pages.specs.Choice.{wanted_in}
-use Rattle.pages.specs.Decision.{Measure, most_carried, decision}
+use Rattle.pages.specs.Decision.{Measure, most_carried, decision, unsent_refusal}
 use Rattle.pages.specs.Written.{answer_bytes}
-use Rattle.pages.specs.declared.page.Decided.{Decided}
-use Rattle.pages.specs.declared.page.Decided.TheVariants.{Sent, Crowded, Short}
-use Rattle.pages.specs.declared.answer.Answered.{Answered}
-use Rattle.pages.specs.declared.answer.Answered.TheVariants as answer
+use Rattle.pages.specs.Results.Decided.{Decided}
+use Rattle.pages.specs.Results.Answered.{Answered}
+use Rattle.pages.specs.Results.Answered as answer
 
 pub data Outcome : Type 0 where
   refused : Refusal → Outcome
@@ -34,7 +33,7 @@ pub data Outcome : Type 0 where
 
 -- the refusal's number: 0 where nothing is refused
 unfoldable pub number_in : Outcome → ℕ
-number_in (refused r) = r.number
+number_in (refused r) = refusal_number r
 number_in (answered w all l) = 0
 
 -- ---- one page
@@ -69,11 +68,9 @@ page_measure a =
       whole = λ j. length (page_bytes a j);
     }
 
--- 9 "names the store, place 0", and so does 14, which has the needed length
 unfoldable pub on_decided : Ask → Decided → Outcome
-on_decided a (Sent k whole ranges more) = answered (page_bytes a k) a.elements (page_ranges a k)
-on_decided a Crowded = refused (fault_at 9 0)
-on_decided a (Short n) = refused (too_short n)
+on_decided a (Ok x) = answered (page_bytes a x.count) a.elements (page_ranges a x.count)
+on_decided a (Err e) = refused (unsent_refusal e)
 
 unfoldable pub page_decided : Ask → ℕ → Decided
 page_decided a room = decision a.most a.limit room (page_measure a) (length a.wanted)
@@ -104,7 +101,7 @@ abbrev pub ask_of : List ℕ → List Element → List ℕ → ℕ → ℕ → A
 ask_of s all q id limit = ask_for most_carried s all q id limit
 
 unfoldable pub on_request : List ℕ → List Element → List ℕ → ℕ → Request → Outcome
-on_request s all q room (request.Asked id limit place count rows) = page_outcome (ask_of s all q id limit) room
+on_request s all q room (Ok x) = page_outcome (ask_of s all q x.id x.limit) room
 on_request s all q room (request.Refused r) = refused r
 
 -- ---- the store's faults, then the request's
@@ -129,7 +126,7 @@ answer_of s q rows ranges room =
 -- ---- what a call answers: "The call returns the answer's length and both row counts"
 
 abbrev pub tell_answered : Answered → Told
-tell_answered (answer.Sent n rows ranges) = gives (n ∷ rows ∷ ranges ∷ [])
+tell_answered (Ok x) = gives (x.length ∷ x.rows ∷ x.ranges ∷ [])
 tell_answered (answer.Refused r) = refuses r
 
 unfoldable pub answer_told : Outcome → Answered

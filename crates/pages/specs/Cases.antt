@@ -9,7 +9,7 @@ use Rattle.talk.specs.declared.range.Range.{Range}
 use Rattle.store.specs.Store.{store_walk, Stands}
 use Rattle.store.specs.declared.element.Element.{Element}
 use Rattle.request.specs.Message.{request_in}
-use Rattle.request.specs.declared.message.Request.TheVariants as request
+use Rattle.request.specs.Results.Request as request
 use Rattle.pages.specs.Decision.{sendable}
 use Rattle.pages.specs.Answer.{Ask, page_ranges, page_bytes, page_measure, ask_of}
 

@@ -4,12 +4,14 @@
 -- elements' stored lengths sum to at most the constraint. The answer holds the greatest k such that every page of 1 to k is
 -- allowed, fits the output and carries at most 512 ranges. With nothing wanted, k is 0."
 -- Assumes nothing.
-use Rattle.std.specs.Prelude.{Bool, true, false, [], ◌∷◌, ℕ, leb, ltb, eqb}
+use Rattle.std.specs.Prelude.{Bool, true, false, [], ◌∷◌, ℕ, Ok, Err, leb, ltb, eqb}
 use Rattle.laws.specs.Pick.{pick}
 use Rattle.numbers.specs.Refusals.{Told, gives, refuses, fault_at, too_short}
+use Rattle.numbers.specs.declared.refusal.Refusal.{Refusal}
 use Rattle.talk.specs.Page.{page_count}
-use Rattle.pages.specs.declared.page.Decided.{Decided}
-use Rattle.pages.specs.declared.page.Decided.TheVariants.{Sent, Crowded, Short}
+use Rattle.pages.specs.declared.page.Unsent.{Unsent}
+use Rattle.pages.specs.declared.page.Unsent.TheVariants as unsent
+use Rattle.pages.specs.Results.Decided.{Decided, Sent, Crowded, Short}
 
 -- "carries at most 512 ranges"
 abbrev pub most_carried : ℕ
@@ -43,9 +45,12 @@ decision most limit room m n =
     (pick (leb (m.whole 1) room) (sent m n (page_count (sendable most limit room m) n)) (Short (m.whole 1)))
     Crowded)
 
--- how many groups, how long the answer, how many ranges, and 1 where a wanted group remains; or 9; or 14. Both name "the
--- store, place 0"
+-- 9 "names the store, place 0", and so does 14, which has the needed length
+abbrev pub unsent_refusal : Unsent → Refusal
+unsent_refusal unsent.Crowded = fault_at 9 0
+unsent_refusal (unsent.Short n) = too_short n
+
+-- how many groups, how long the answer, how many ranges, and 1 where a wanted group remains; or 9; or 14
 abbrev pub tell_decided : Decided → Told
-tell_decided (Sent k whole ranges more) = gives (k ∷ whole ∷ ranges ∷ pick more 1 0 ∷ [])
-tell_decided Crowded = refuses (fault_at 9 0)
-tell_decided (Short n) = refuses (too_short n)
+tell_decided (Ok x) = gives (x.count ∷ x.length ∷ x.ranges ∷ pick x.more 1 0 ∷ [])
+tell_decided (Err e) = refuses (unsent_refusal e)

@@ -2,12 +2,10 @@
 -- answers and what the working tables hold after it, and what stands ready to be sent. Nothing here is needed to read the calls' own
 -- promises.
 -- Assumes nothing.
-use Rattle.std.specs.Prelude.{◌≡◌, Bool, true, false, not, ℕ, ◌*◌, ◌≤◌, List, [], ◌++◌, length, take}
+use Rattle.std.specs.Prelude.{◌≡◌, Bool, true, false, not, ℕ, ◌*◌, ◌≤◌, List, [], ◌++◌, length, take, Ok, Err}
 use Rattle.laws.specs.Pick.{pick}
-use Rattle.numbers.specs.Refusals.{fault_at, too_short}
-use Rattle.numbers.specs.declared.extended_guid.ExtendedGuid.{ExtendedGuid}
-use Rattle.objects.specs.declared.reading.Reading.{Reading}
-use Rattle.objects.specs.declared.reading.Reading.TheVariants.{At, Refused}
+use Rattle.numbers.specs.Results.ExtendedGuid.{ExtendedGuid}
+use Rattle.objects.specs.Results.Reading.{At, Reading, Refused}
 use Rattle.talk.specs.Ranges.{Normal}
 use Rattle.talk.specs.Wanted.{keep}
 use Rattle.talk.specs.declared.range.Range.{Range}
@@ -22,17 +20,17 @@ use Rattle.order.specs.Groups.{Group, members, members_of, groups, some_of}
 use Rattle.request.specs.Choice.{flags_of, set_flags}
 use Rattle.request.specs.Meaning.{filters_read, lets_in, left_in}
 use Rattle.request.specs.Message.{filters_of, request_knowing, request_in}
-use Rattle.request.specs.declared.message.Request.{Request}
-use Rattle.request.specs.declared.message.Request.TheVariants as request
+use Rattle.request.specs.Results.Request.{Request}
+use Rattle.request.specs.Results.Request as request
 use Rattle.pages.specs.Choice.{is_known}
+use Rattle.pages.specs.Decision.{unsent_refusal}
 use Rattle.pages.specs.Tables.{fixed_length, sent_bytes, ToSend}
 use Rattle.pages.specs.Answer.{Ask, Outcome, refused, answered, ask_for, ask_of, known_in, page_decided, page_outcome, on_request, outcome}
 use Rattle.pages.specs.declared.page.Bounds.{Bounds}
-use Rattle.pages.specs.declared.page.Decided.{Decided}
-use Rattle.pages.specs.declared.page.Decided.TheVariants as decided
+use Rattle.pages.specs.Results.Decided.{Decided}
 use Rattle.pages.specs.declared.deciding.Asked.{Asked}
-use Rattle.pages.specs.declared.deciding.Reckoned.{Reckoned}
-use Rattle.pages.specs.declared.deciding.Reckoned.TheVariants as reckoned
+use Rattle.pages.specs.Results.Reckoned.{Reckoned}
+use Rattle.pages.specs.Results.Reckoned as reckoned
 use Rattle.pages.specs.declared.write.Sending.{Sending}
 
 -- the working tables have the lengths of their arrays
@@ -78,14 +76,14 @@ bounds_for a index room = record { most = a.most; limit = a.limit; fixed = fixed
 -- decision, behind the request's faults, behind the store's
 
 unfoldable pub reckoned_on : Ask → Decided → Reckoned
-reckoned_on a (decided.Sent k whole ranges more) =
-    reckoned.Page (record { count = length (members_of (take k a.wanted)); id = a.id; index = storage_index a.elements; partial = more; ranges = ranges }) whole (length a.elements)
-reckoned_on a decided.Crowded = reckoned.Refused (fault_at 9 0)
-reckoned_on a (decided.Short n) = reckoned.Refused (too_short n)
+reckoned_on a (Ok x) =
+    reckoned.Page (record { count = length (members_of (take x.count a.wanted)); id = a.id; index = storage_index a.elements; partial = x.more; ranges = x.ranges }) x.length
+    (length a.elements)
+reckoned_on a (Err e) = reckoned.Refused (unsent_refusal e)
 
 unfoldable pub reckoned_for : List ℕ → List ℕ → ℕ → Request → Reckoned
-reckoned_for s q room (request.Asked id limit place count rows) =
-    let a = ask_of s (store_walk s).elements q id limit in
+reckoned_for s q room (Ok x) =
+    let a = ask_of s (store_walk s).elements q x.id x.limit in
     reckoned_on a (page_decided a room)
 reckoned_for s q room (request.Refused r) = reckoned.Refused r
 
@@ -98,7 +96,7 @@ reckoned_of s q room (Refused r) = reckoned.Refused r
 -- on the order in which serial numbers were put to the ranges, and on the way by which the page was chosen
 
 abbrev pub KnownOn : List ℕ → List ℕ → List ℕ → Request → Type 0
-KnownOn q t t' (request.Asked id limit place count rows) = length t' ≡ length t
+KnownOn q t t' (Ok x) = length t' ≡ length t
 KnownOn q t t' (request.Refused r) = t' ≡ (request_knowing q t).table
 
 abbrev pub KnownThen : List ℕ → List ℕ → List ℕ → Reading → Type 0
@@ -106,7 +104,7 @@ KnownThen q t t' (At e v) = KnownOn q t t' (request_in q [])
 KnownThen q t t' (Refused r) = t' ≡ t
 
 abbrev pub QueueOn : List ℕ → List ℕ → Request → Type 0
-QueueOn queue queue' (request.Asked id limit place count rows) = length queue' ≡ length queue
+QueueOn queue queue' (Ok x) = length queue' ≡ length queue
 QueueOn queue queue' (request.Refused r) = queue' ≡ queue
 
 abbrev pub QueueThen : List ℕ → List ℕ → List ℕ → Reading → Type 0
@@ -124,7 +122,7 @@ pub record Ready (o : Outcome) (s : List ℕ) (room : ℕ) (page : Sending) (who
 
 -- so an answer is either ready, or the refusal that the outcome is
 abbrev pub Follows : Outcome → List ℕ → ℕ → Reckoned → List ℕ → List ℕ → List ℕ → List ℕ → Type 0
-Follows o s room (reckoned.Page page whole n) elements ids known queue = Ready o s room page whole n elements ids known queue
+Follows o s room (Ok x) elements ids known queue = Ready o s room x.page x.length x.elements elements ids known queue
 Follows o s room (reckoned.Refused r) elements ids known queue = o ≡ refused r
 
 -- ---- what deciding promises: its answer, the tables at exit, which are as long as they were, and that the outcome follows; of a request

@@ -1,3 +1,4 @@
+pub mod Results
 pub mod Choice
 pub mod Decision
 pub mod Written

@@ -1,11 +1,11 @@
 -- What the functions of the answering calls say of their working tables: a page under way, its price, pages of groups, and the part of an
 -- answer between its elements and its knowledge. Nothing here is needed to read the calls' own promises.
 -- Assumes nothing.
-use Rattle.std.specs.Prelude.{◌≡◌, Bool, true, false, not, ℕ, ◌+◌, ◌-◌, ◌*◌, ◌^◌, ◌≤◌, ◌<◌, List, [], ◌∷◌, ◌++◌, map, length, take, leb, eqb}
+use Rattle.std.specs.Prelude.{◌≡◌, Bool, true, false, not, ℕ, ◌+◌, ◌-◌, ◌*◌, ◌^◌, ◌≤◌, ◌<◌, List, [], ◌∷◌, ◌++◌, map, length, take, leb, eqb, Ok, Err}
 use Rattle.laws.specs.Pick.{pick}
 use Rattle.numbers.specs.Compact.{compact_bytes}
 use Rattle.numbers.specs.ExtendedGuid.{extended_guid_bytes}
-use Rattle.numbers.specs.declared.extended_guid.ExtendedGuid.{ExtendedGuid}
+use Rattle.numbers.specs.Results.ExtendedGuid.{ExtendedGuid}
 use Rattle.objects.specs.Types.{package_type}
 use Rattle.objects.specs.Header.{end_bytes}
 use Rattle.talk.specs.Ranges.{insert}
@@ -29,8 +29,7 @@ use Rattle.pages.specs.Written.{changes_bytes, answer_bytes}
 use Rattle.pages.specs.Weighed.{sum_column, weighed_in, weighed_rows, length_place, Weighs}
 use Rattle.pages.specs.declared.page.Bounds.{Bounds}
 use Rattle.pages.specs.declared.page.Chosen.{Chosen}
-use Rattle.pages.specs.declared.page.Decided.{Decided}
-use Rattle.pages.specs.declared.page.Decided.TheVariants.{Sent, Crowded, Short}
+use Rattle.pages.specs.Results.Decided.{Decided, Sent, Crowded, Short}
 use Rattle.pages.specs.declared.price.Price.{Price}
 use Rattle.pages.specs.declared.weighed.Column.{Column}
 use Rattle.pages.specs.declared.whole.Flagged.{Flagged}
@@ -87,9 +86,8 @@ ended room k whole ranges = pick (eqb k 0) (pick (leb whole room) (Sent k whole 
 
 -- how many are sent
 abbrev pub taken_in : Decided → ℕ
-taken_in (Sent k whole ranges more) = k
-taken_in Crowded = 0
-taken_in (Short n) = 0
+taken_in (Ok x) = x.count
+taken_in (Err e) = 0
 
 -- the ranges that are known, and room for as many as a page may carry
 pub record ToCarry (t : List ℕ) (count most : ℕ) : Type 0 where
@@ -124,9 +122,8 @@ Decides w l b r t t' =
 -- what deciding the page promises, by whichever way: the decision, and the ranges of a page that is sent in the first rows of the table.
 -- What stands behind these rows hangs on the order in which serial numbers were put to it
 abbrev pub Carries : List Element → List Range → Decided → List ℕ → Type 0
-Carries w l (Sent k whole ranges more) t = ranges_at t 0 ranges ≡ ranges_with l (take k w)
-Carries w l Crowded t = Unit {0}
-Carries w l (Short n) t = Unit {0}
+Carries w l (Ok x) t = ranges_at t 0 x.ranges ≡ ranges_with l (take x.count w)
+Carries w l (Err e) t = Unit {0}
 
 abbrev pub DecidesPage : List Element → List Range → Bounds → Decided → List ℕ → Type 0
 DecidesPage w l b r t =
@@ -134,10 +131,9 @@ DecidesPage w l b r t =
 
 -- a page of some groups: what was decided of them, and that so many rows of a queue are the members of those that are sent
 abbrev pub SendsRows : List ℕ → List ℕ → List ℕ → List Group → Decided → ℕ → Type 0
-SendsRows rows ids queue gs (Sent k whole ranges more) n =
-    (n ≡ length (members_of (take k gs))) × Queued rows ids queue n × (queued_in rows ids n queue ≡ members_of (take k gs))
-SendsRows rows ids queue gs Crowded n = Unit {0}
-SendsRows rows ids queue gs (Short m) n = Unit {0}
+SendsRows rows ids queue gs (Ok x) n =
+    (n ≡ length (members_of (take x.count gs))) × Queued rows ids queue n × (queued_in rows ids n queue ≡ members_of (take x.count gs))
+SendsRows rows ids queue gs (Err e) n = Unit {0}
 
 abbrev pub DecidesGroups : List ℕ → List ℕ → List Group → List Range → Bounds → Decided → ℕ → List ℕ → List ℕ → Type 0
 DecidesGroups rows ids gs l b r n queue t = DecidesPage (map lump gs) l b r t × SendsRows rows ids queue gs r n
@@ -165,9 +161,8 @@ tries_all b count wanted stored =
 
 -- a page that no wanted element remains behind
 unfoldable pub is_whole : Decided → Bool
-is_whole (Sent k whole ranges more) = not more
-is_whole Crowded = false
-is_whole (Short n) = false
+is_whole (Ok x) = not x.more
+is_whole (Err e) = false
 
 -- what trying is lent: a queue in either order, of the same elements, none under 46 bytes, and a table of ranges of which no row counts
 pub record ToTry (rows ids lengths : List ℕ) (c : Column) (count : ℕ) (tried : List ℕ) (wanted : ℕ) (queue t : List ℕ) (b : Bounds) : Type 0 where

@@ -8,6 +8,8 @@ use Rattle.store.specs.declared.element.Element.{Element}
 use Rattle.order.specs.Links.{with_length}
 use Rattle.order.specs.Queue.{positions_from}
 use Rattle.pages.specs.declared.weighed.Column.{Column}
+use Rattle.pages.specs.declared.weighed.Wanted.{Wanted}
+use Rattle.pages.specs.declared.weighed.Weights.{Weights}
 
 -- where the length of row i stands
 abbrev pub length_place : Column → ℕ → ℕ
@@ -28,6 +30,10 @@ weighed rows ids lengths c i = with_length (element_in_row rows ids i) (get_or l
 -- those that are queued, w of them
 abbrev pub weighed_in : List ℕ → List ℕ → List ℕ → Column → ℕ → List ℕ → List Element
 weighed_in rows ids lengths c w queue = map (weighed rows ids lengths c) (take w queue)
+
+-- as functions are lent them
+abbrev pub wanted_rows : Weights → Wanted → List Element
+wanted_rows weights wanted = weighed_in weights.all.rows.now weights.all.ids.now weights.lengths.now weights.column wanted.count wanted.queue.now
 
 -- the first n rows, as they stand
 abbrev pub weighed_rows : List ℕ → List ℕ → List ℕ → Column → ℕ → List Element

@@ -5,7 +5,7 @@
 use Rattle.std.specs.Prelude.{ℕ, Bool, List, [], ◌∷◌, ◌++◌, length}
 use Rattle.laws.specs.Pick.{pick}
 use Rattle.numbers.specs.ExtendedGuid.{extended_guid_bytes}
-use Rattle.numbers.specs.declared.extended_guid.ExtendedGuid.{ExtendedGuid}
+use Rattle.numbers.specs.Results.ExtendedGuid.{ExtendedGuid}
 use Rattle.objects.specs.Types.{changes_type, plain_bit}
 use Rattle.objects.specs.Header.{start_bytes}
 use Rattle.talk.specs.declared.range.Range.{Range}

@@ -4,52 +4,45 @@
 ghost use Rattle.std.specs.Prelude.{◌≡◌, true, ◌*◌, ◌≤◌, ◌++◌, ltb, length, drop};
 ghost use Rattle.laws.specs.Pick.{pick};
 ghost use Rattle.ranges.specs.RangeTable.{range_width, ranges_at};
-ghost use Rattle.store.specs.Tables.{RowsStand, most_elements, elements_in};
+ghost use Rattle.store.specs.Tables.{most_elements};
+ghost use Rattle.store.specs.Elements.{elements_of};
 ghost use Rattle.order.specs.Order.{ordered, ranked_rows, ranked_width, ranked_numbers};
 ghost use Rattle.pages.specs.Answer.{knowledge_numbers, range_rows, outcome, Tells, Gives, TellsLength, WritesAnswer};
 
-use crate::deciding::{Reckoned, decide_answer};
+use crate::deciding::decide_answer;
 use crate::tables::copy_ranges;
 use crate::write::write_answer;
-use numbers::refusal::{Refusal, at_place};
+use numbers::refusal::{Fault, Refusal, at_place};
 use order::rows::{RANKED_NUMBERS, put_rows};
 use store::knowledge::SAID_NUMBERS;
-use store::table::{ID_NUMBERS, MOST_ELEMENTS, ROW_NUMBERS};
+use store::table::{Elements, ID_NUMBERS, MOST_ELEMENTS, ROW_NUMBERS};
 
 // How many numbers the lent table of ranges has at least.
 pub const KNOWLEDGE_NUMBERS: usize = 2048;
 
 // The answer's length, how many rows the store's table has, and how many the knowledge's; or the refusal.
 #[derive(Drop)]
-pub enum Answered {
-    Sent(usize, usize, usize),
-    Refused(Refusal),
+pub struct Filled {
+    pub length: usize,
+    pub rows: usize,
+    pub ranges: usize,
 }
+
+pub type Answered = Result<Filled, Refusal>;
 
 // Whether a lent table has too few numbers.
 fn too_few(rows: &[u64], ranges: &[u64]) -> bool
     ensures { result ≡ pick (ltb (length rows.now) ranked_numbers) true (ltb (length ranges.now) knowledge_numbers) }
 {
-    if rows.len() < RANKED_NUMBERS {
-        return true;
-    }
-    ranges.len() < KNOWLEDGE_NUMBERS
+    rows.len() < RANKED_NUMBERS || ranges.len() < KNOWLEDGE_NUMBERS
 }
 
-// The lent tables: the rows of n elements, in their order and with their ranks, and so many ranges.
-fn fill_tables(
-    rows: &mut [u64],
-    ranges: &mut [u64],
-    elements: &[u64],
-    ids: &[u64],
-    n: usize,
-    known: &[u64],
-    count: usize,
-)
-    requires { RowsStand elements.now ids.now n × (n ≤ most_elements) × (n * ranked_width ≤ length rows.old) × (count * range_width ≤ length known.now) × (count * range_width ≤ length ranges.old) }
-    ensures { (rows.new ≡ ranked_rows (ordered (elements_in elements.now ids.now n)) ++ drop (n * ranked_width) rows.old) × (ranges.new ≡ range_rows (ranges_at known.now 0 count) ++ drop (count * range_width) ranges.old) }
+// The lent tables: the rows of the elements, in their order and with their ranks, and so many ranges.
+fn fill_tables(rows: &mut [u64], ranges: &mut [u64], all: Elements, known: &[u64], count: usize)
+    requires { (all.count ≤ most_elements) × (all.count * ranked_width ≤ length rows.old) × (count * range_width ≤ length known.now) × (count * range_width ≤ length ranges.old) }
+    ensures { (rows.new ≡ ranked_rows (ordered (elements_of all.entry)) ++ drop (all.entry.count * ranked_width) rows.old) × (ranges.new ≡ range_rows (ranges_at known.now 0 count) ++ drop (count * range_width) ranges.old) }
 {
-    put_rows(rows, elements, ids, n);
+    put_rows(rows, all);
     copy_ranges(ranges, known, count);
 }
 
@@ -68,7 +61,7 @@ fn tell_length(
     let mut ids = [0u64; ID_NUMBERS];
     let mut known = [0u64; SAID_NUMBERS];
     let mut queue = [0u8; MOST_ELEMENTS];
-    match decide_answer(
+    let reckoned = decide_answer(
         store,
         request,
         offered,
@@ -76,13 +69,18 @@ fn tell_length(
         &mut ids,
         &mut known,
         &mut queue,
-    ) {
-        Reckoned::Refused(r) => Answered::Refused(r),
-        Reckoned::Page(page, whole, n) => {
-            fill_tables(rows, ranges, &elements, &ids, n, &known, page.ranges);
-            Answered::Sent(whole, n, page.ranges)
-        }
-    }
+    )?;
+    let all = Elements {
+        rows: &elements,
+        ids: &ids,
+        count: reckoned.elements,
+    };
+    fill_tables(rows, ranges, all, &known, reckoned.page.ranges);
+    Ok(Filled {
+        length: reckoned.length,
+        rows: reckoned.elements,
+        ranges: reckoned.page.ranges,
+    })
 }
 
 // The answer sent where the tables suffice.
@@ -100,7 +98,7 @@ fn send_answer(
     let mut ids = [0u64; ID_NUMBERS];
     let mut known = [0u64; SAID_NUMBERS];
     let mut queue = [0u8; MOST_ELEMENTS];
-    match decide_answer(
+    let reckoned = decide_answer(
         store,
         request,
         out.len(),
@@ -108,15 +106,20 @@ fn send_answer(
         &mut ids,
         &mut known,
         &mut queue,
-    ) {
-        Reckoned::Refused(r) => Answered::Refused(r),
-        Reckoned::Page(page, whole, n) => {
-            let count = page.ranges;
-            write_answer(out, store, &elements, &ids, &queue, page, &known);
-            fill_tables(rows, ranges, &elements, &ids, n, &known, count);
-            Answered::Sent(whole, n, count)
-        }
-    }
+    )?;
+    let carried = reckoned.page.ranges;
+    write_answer(out, store, &elements, &ids, &queue, reckoned.page, &known);
+    let all = Elements {
+        rows: &elements,
+        ids: &ids,
+        count: reckoned.elements,
+    };
+    fill_tables(rows, ranges, all, &known, carried);
+    Ok(Filled {
+        length: reckoned.length,
+        rows: reckoned.elements,
+        ranges: carried,
+    })
 }
 
 // How long the answer to a request is in an output of the offered length, with both tables. Nothing is asked of the caller, and nothing
@@ -132,7 +135,7 @@ pub fn length(
     ensures { TellsLength store.now request.now offered result rows.old rows.new ranges.old ranges.new }
 {
     if too_few(rows, ranges) {
-        return Answered::Refused(at_place(13, 0));
+        return Err(at_place(Fault::TablesTooShort, 0));
     }
     tell_length(store, request, offered, rows, ranges)
 }
@@ -150,7 +153,7 @@ pub fn write(
     ensures { WritesAnswer store.now request.now result rows.old rows.new ranges.old ranges.new out.old out.new }
 {
     if too_few(rows, ranges) {
-        return Answered::Refused(at_place(13, 0));
+        return Err(at_place(Fault::TablesTooShort, 0));
     }
     send_answer(store, request, rows, ranges, out)
 }

@@ -4,35 +4,37 @@
 ghost use Rattle.std.specs.Prelude.{◌≡◌, ◌≤◌, length, drop};
 ghost use Rattle.ranges.specs.RangeTable.{ranges_at, RangesStand};
 ghost use Rattle.store.specs.Knowledge.{said_numbers};
-ghost use Rattle.store.specs.Tables.{RowsStand, elements_in};
+ghost use Rattle.store.specs.Tables.{elements_in};
 ghost use Rattle.pages.specs.Tables.{ToChoose, DecidesGroups};
 ghost use Rattle.pages.specs.Held.{SomeStore, WorkingTables, RequestHeld, wanted_flags, groups_wanted, bounds_for, PageReckoned, RequestReckoned, StoreReckoned};
 
 use crate::grouped::decide_groups;
-use crate::page::{Bounds, Chosen, Decided, taken_in};
+use crate::page::{Bounds, Chosen, taken_in};
 use crate::singles::decide_singles;
 use crate::wanted::clear_known;
 use crate::write::{Sending, fixed_length};
 use numbers::extended_guid::ExtendedGuid;
-use numbers::refusal::{Refusal, at_place, too_short};
-use objects::reading::Reading;
+use numbers::refusal::Refusal;
 use request::choice::choose;
-use request::message::{Request, read_request};
+use request::message::read_request;
 use store::held::storage_index;
 use store::knowledge::SAID_NUMBERS;
-use store::package::{Stored, read_store};
+use store::package::read_store;
 use store::sharing::serials_once;
-use store::table::{ID_NUMBERS, MOST_ELEMENTS, ROW_NUMBERS};
+use store::table::{Elements, ID_NUMBERS, MOST_ELEMENTS, ROW_NUMBERS};
 
 // A page carries at most so many ranges.
 pub const MOST_CARRIED: usize = 512;
 
 // The page that is sent, how long its answer is, and how many elements the store has; or the refusal.
 #[derive(Drop)]
-pub enum Reckoned {
-    Page(Sending, usize, usize),
-    Refused(Refusal),
+pub struct Reckoning {
+    pub page: Sending,
+    pub length: usize,
+    pub elements: usize,
 }
+
+pub type Reckoned = Result<Reckoning, Refusal>;
 
 // A request that was read: its id, how many ranges a page for it may carry, its limit, where its filters stand, how many they are,
 // and how many ranges are known.
@@ -47,28 +49,12 @@ pub struct Asked {
 }
 
 // The flags of n elements: 1 where one is wanted, 0 where not.
-fn mark_wanted(
-    request: &[u8],
-    a: Asked,
-    elements: &[u64],
-    ids: &[u64],
-    n: usize,
-    known: &[u64],
-    flags: &mut [u8],
-)
-    requires { RowsStand elements.now ids.now n × (n ≤ length flags.old) × RangesStand known.now a.known }
-    ensures { flags.new ≡ wanted_flags request.now a (ranges_at known.now 0 a.known) (elements_in elements.now ids.now n) (drop n flags.old) }
+fn mark_wanted(request: &[u8], a: Asked, all: Elements, known: &[u64], flags: &mut [u8])
+    requires { (all.count ≤ length flags.old) × RangesStand known.now a.known }
+    ensures { flags.new ≡ wanted_flags request.now a (ranges_at known.now 0 a.known) (elements_in all.entry.rows.now all.entry.ids.now all.entry.count) (drop all.entry.count flags.old) }
 {
-    choose(
-        request,
-        Reading::At(a.place, 0),
-        a.count,
-        elements,
-        ids,
-        n,
-        flags,
-    );
-    clear_known(elements, ids, n, known, a.known, flags);
+    choose(request, Ok((a.place, 0)), a.count, all, flags);
+    clear_known(all, known, a.known, flags);
 }
 
 // What is asked of a page: at most so many ranges, the limit, and room in the output.
@@ -88,61 +74,55 @@ fn decide_page(
     request: &[u8],
     a: Asked,
     index: ExtendedGuid,
-    elements: &[u64],
-    ids: &[u64],
-    n: usize,
+    all: Elements,
     known: &mut [u64],
     queue: &mut [u8],
     room: usize,
 ) -> Chosen
-    requires { ToChoose elements.now ids.now n queue.old known.old a.known a.most }
-    ensures { DecidesGroups elements.now ids.now (groups_wanted request.now a (ranges_at known.old 0 a.known) (elements_in elements.now ids.now n)) (ranges_at known.old 0 a.known) (bounds_for a index room) result.decided result.rows queue.new known.new }
+    requires { ToChoose all.rows.now all.ids.now all.count queue.old known.old a.known a.most }
+    ensures { DecidesGroups all.entry.rows.now all.entry.ids.now (groups_wanted request.now a (ranges_at known.old 0 a.known) (elements_in all.entry.rows.now all.entry.ids.now all.entry.count)) (ranges_at known.old 0 a.known) (bounds_for a index room) result.decided result.rows queue.new known.new }
 {
     let mut flags = [0u8; MOST_ELEMENTS];
-    mark_wanted(request, a, elements, ids, n, known, &mut flags);
+    mark_wanted(request, a, all, known, &mut flags);
     let bounds = bounds_of(a, index, room);
     let count = a.known;
-    if serials_once(elements, n) {
-        let decided = decide_singles(elements, ids, n, &flags, known, count, queue, bounds);
+    if serials_once(all.rows, all.count) {
+        let decided = decide_singles(all, &flags, known, count, queue, bounds);
         return Chosen {
             decided,
             rows: taken_in(decided),
         };
     }
-    decide_groups(elements, ids, n, &flags, known, count, queue, bounds)
+    decide_groups(all, &flags, known, count, queue, bounds)
 }
 
 // The page for a request that was read, of the store that stands in the tables.
 fn decide_asked(
     request: &[u8],
     a: Asked,
-    elements: &[u64],
-    ids: &[u64],
-    n: usize,
+    all: Elements,
     known: &mut [u64],
     queue: &mut [u8],
     room: usize,
 ) -> Reckoned
-    requires { SomeStore elements.now ids.now n × RequestHeld request.now a known.old × (n ≤ length queue.old) }
-    ensures { PageReckoned request.now a elements.now ids.now n room result known.old known.new queue.old queue.new }
+    requires { SomeStore all.rows.now all.ids.now all.count × RequestHeld request.now a known.old × (all.count ≤ length queue.old) }
+    ensures { PageReckoned request.now a all.entry.rows.now all.entry.ids.now all.entry.count room result known.old known.new queue.old queue.new }
 {
-    let index = storage_index(elements, ids, n);
-    let chosen = decide_page(request, a, index, elements, ids, n, known, queue, room);
-    let decided = chosen.decided;
-    match decided {
-        Decided::Crowded => Reckoned::Refused(at_place(9, 0)),
-        Decided::Short(needed) => Reckoned::Refused(too_short(needed)),
-        Decided::Sent(_, whole, count, partial) => {
-            let page = Sending {
-                count: chosen.rows,
-                id: a.id,
-                index,
-                partial,
-                ranges: count,
-            };
-            Reckoned::Page(page, whole, n)
-        }
-    }
+    let index = storage_index(all);
+    let chosen = decide_page(request, a, index, all, known, queue, room);
+    let decision = chosen.decided?;
+    let page = Sending {
+        count: chosen.rows,
+        id: a.id,
+        index,
+        partial: decision.more,
+        ranges: decision.ranges,
+    };
+    Ok(Reckoning {
+        page,
+        length: decision.length,
+        elements: all.count,
+    })
 }
 
 // The request's faults, then the page, of the store that stands in the tables; they may be empty if it has no elements. (Of the length of
@@ -150,30 +130,24 @@ fn decide_asked(
 // second; a table of ranges that is written to.
 pub fn decide_request(
     request: &[u8],
-    elements: &[u64],
-    ids: &[u64],
-    n: usize,
+    all: Elements,
     known: &mut [u64; SAID_NUMBERS],
     queue: &mut [u8],
     room: usize,
 ) -> Reckoned
-    requires { SomeStore elements.now ids.now n × (length known.old ≡ said_numbers) × (n ≤ length queue.old) }
-    ensures { RequestReckoned request.now elements.now ids.now n room result known.old known.new queue.old queue.new }
+    requires { SomeStore all.rows.now all.ids.now all.count × (length known.old ≡ said_numbers) × (all.count ≤ length queue.old) }
+    ensures { RequestReckoned request.now all.entry.rows.now all.entry.ids.now all.entry.count room result known.old known.new queue.old queue.new }
 {
-    match read_request(request, known) {
-        Request::Refused(r) => Reckoned::Refused(r),
-        Request::Asked(id, limit, place, count, k) => {
-            let a = Asked {
-                id,
-                most: MOST_CARRIED,
-                limit,
-                place,
-                count,
-                known: k,
-            };
-            decide_asked(request, a, elements, ids, n, known, queue, room)
-        }
-    }
+    let query = read_request(request, known)?;
+    let a = Asked {
+        id: query.id,
+        most: MOST_CARRIED,
+        limit: query.limit,
+        place: query.place,
+        count: query.count,
+        known: query.known,
+    };
+    decide_asked(request, a, all, known, queue, room)
 }
 
 // The store's faults, then the request's, then the page's: what is to be sent into an output of `room` bytes. Nothing that was in the
@@ -191,8 +165,11 @@ pub fn decide_answer(
     requires { WorkingTables elements.old ids.old known.old queue.old }
     ensures { StoreReckoned store.now request.now room result elements.old elements.new ids.old ids.new known.old known.new queue.old queue.new }
 {
-    match read_store(store, elements, ids) {
-        Stored::Refused(r) => Reckoned::Refused(r),
-        Stored::Holds(n) => decide_request(request, elements, ids, n, known, queue, room),
-    }
+    let n = read_store(store, elements, ids)?;
+    let all = Elements {
+        rows: elements,
+        ids,
+        count: n,
+    };
+    decide_request(request, all, known, queue, room)
 }

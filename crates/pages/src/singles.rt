@@ -9,27 +9,32 @@ ghost use Rattle.order.specs.Queue.{chosen, queue_of};
 ghost use Rattle.pages.specs.Tables.{ToChoose, DecidesPage};
 
 use crate::page::{Bounds, Decided};
-use crate::weighed::length_column;
+use crate::weighed::{Wanted, Weights, length_column};
 use crate::whole::decide_queued;
 use order::queue::queue_rows;
+use store::table::Elements;
 
 // The longest page of those of n elements whose flag is not 0, queued in row order, each as long as its row says.
 pub(crate) fn decide_singles(
-    elements: &[u64],
-    ids: &[u64],
-    n: usize,
+    all: Elements,
     flags: &[u8],
     known: &mut [u64],
     count: usize,
     queue: &mut [u8],
     bounds: Bounds,
 ) -> Decided
-    requires { ToChoose elements.now ids.now n queue.old known.old count bounds.most × (n ≤ length flags.now) × (bounds.fixed ≤ 2 ^ 32) }
-    ensures { (queue.new ≡ laid 0 (queue_of (elements_in elements.now ids.now n) flags.now) queue.old) × DecidesPage (ordered (chosen (elements_in elements.now ids.now n) flags.now)) (ranges_at known.old 0 count) bounds result known.new }
+    requires { ToChoose all.rows.now all.ids.now all.count queue.old known.old count bounds.most × (all.count ≤ length flags.now) × (bounds.fixed ≤ 2 ^ 32) }
+    ensures { (queue.new ≡ laid 0 (queue_of (elements_in all.entry.rows.now all.entry.ids.now all.entry.count) flags.now) queue.old) × DecidesPage (ordered (chosen (elements_in all.entry.rows.now all.entry.ids.now all.entry.count) flags.now)) (ranges_at known.old 0 count) bounds result known.new }
 {
-    let wanted = queue_rows(elements, ids, n, flags, queue);
-    let column = length_column();
-    decide_queued(
-        elements, ids, n, elements, column, flags, queue, wanted, known, count, bounds,
-    )
+    let wanted = queue_rows(all, flags, queue);
+    let weights = Weights {
+        all,
+        lengths: all.rows,
+        column: length_column(),
+    };
+    let wanted = Wanted {
+        queue,
+        count: wanted,
+    };
+    decide_queued(weights, flags, wanted, known, count, bounds)
 }

@@ -25,9 +25,7 @@ pub(crate) fn copy_ranges(to: &mut [u64], table: &[u64], rows: usize)
     requires { (rows * range_width ≤ length to.old) × (rows * range_width ≤ length table.now) }
     ensures { to.new ≡ range_rows (ranges_at table.now 0 rows) ++ drop (rows * range_width) to.old }
 {
-    let mut k = 0;
-    while k < rows {
+    for k in 0..rows {
         put_range_row(to, k, range_at(table, k));
-        k += 1;
     }
 }

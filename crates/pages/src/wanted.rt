@@ -1,14 +1,14 @@
 // Elements of the working tables: those that the ranges know are no longer wanted.
 ghost use Rattle.std.specs.Prelude.{◌≡◌, ◌≤◌, length};
 ghost use Rattle.ranges.specs.RangeTable.{ranges_at, RangesStand};
-ghost use Rattle.store.specs.Tables.{RowsStand, elements_in};
+ghost use Rattle.store.specs.Elements.{elements_of};
 ghost use Rattle.request.specs.Choice.{set_flags};
 ghost use Rattle.pages.specs.Choice.{is_known};
 
+use numbers::guid::Guid;
 use ranges::is_known;
 use store::element::Element;
-use store::held::key_guid;
-use store::table::element_in_row;
+use store::table::Elements;
 
 // Whether the first rows of the table of ranges hold an element's serial number.
 fn knows_element(table: &[u64], count: usize, x: Element) -> bool
@@ -16,27 +16,18 @@ fn knows_element(table: &[u64], count: usize, x: Element) -> bool
     ensures { result ≡ is_known (ranges_at table.now 0 count) x }
 {
     let serial = x.serial;
-    is_known(table, count, key_guid(serial), serial.number)
+    is_known(table, count, Guid::from(serial), serial.number)
 }
 
 // The flag of each of n elements whose serial number is known is put to 0. Ruled out (proofs/WrongAnswers): a known one that stays
 // wanted; an unknown one that does not.
-pub(crate) fn clear_known(
-    rows: &[u64],
-    ids: &[u64],
-    n: usize,
-    table: &[u64],
-    count: usize,
-    flags: &mut [u8],
-)
-    requires { RowsStand rows.now ids.now n × (n ≤ length flags.old) × RangesStand table.now count }
-    ensures { flags.new ≡ set_flags (is_known (ranges_at table.now 0 count)) 0 (elements_in rows.now ids.now n) flags.old }
+pub(crate) fn clear_known(all: Elements, table: &[u64], count: usize, flags: &mut [u8])
+    requires { (all.count ≤ length flags.old) × RangesStand table.now count }
+    ensures { flags.new ≡ set_flags (is_known (ranges_at table.now 0 count)) 0 (elements_of all.entry) flags.old }
 {
-    let mut i = 0;
-    while i < n {
-        if knows_element(table, count, element_in_row(rows, ids, i)) {
+    for i in 0..all.count {
+        if knows_element(table, count, all.element(i)) {
             flags[i] = 0;
         }
-        i += 1;
     }
 }

@@ -4,7 +4,7 @@ ghost use Rattle.std.specs.Prelude.{◌≡◌};
 ghost use Rattle.pages.specs.Weighed.{length_column, sum_column, weighed, WeighsRow};
 
 use store::element::Element;
-use store::table::{LENGTH_COLUMN, ROW_WIDTH, element_in_row};
+use store::table::{Elements, LENGTH_COLUMN, ROW_WIDTH, element_in_row};
 
 // Where in a table of lengths that of row i stands: at i * width + at.
 #[derive(Clone, Copy)]
@@ -30,27 +30,34 @@ pub(crate) fn sum_column() -> Column
     Column { width: 1, at: 0 }
 }
 
-// The element of row i, with the length that the column has for it. Ruled out (proofs/WrongAnswers): with the length that stands in its
-// row; with that of another row.
-pub(crate) fn weighed_row(
-    rows: &[u64],
-    ids: &[u64],
-    lengths: &[u64],
-    c: Column,
-    i: usize,
-) -> Element
-    requires { WeighsRow rows.now ids.now lengths.now c i }
-    ensures { result ≡ weighed rows.now ids.now lengths.now c i }
-{
-    let x = element_in_row(rows, ids, i);
-    let id = x.id;
-    let serial = x.serial;
-    let at = i * c.width + c.at;
-    Element {
-        place: x.place,
-        length: lengths[at] as usize,
-        kind: x.kind,
-        id,
-        serial,
+// The rows of a store's elements, and the column of a table of lengths that they are weighed by.
+#[derive(Clone, Copy)]
+pub(crate) struct Weights<'a> {
+    pub(crate) all: Elements<'a>,
+    pub(crate) lengths: &'a [u64],
+    pub(crate) column: Column,
+}
+
+impl Weights<'_> {
+    // The element of row i, with the length that the column has for it. Ruled out (proofs/WrongAnswers): with the length that stands in
+    // its row; with that of another row.
+    #[tactic(auto, unfolding(crate::specs::Weighed::weighed))]
+    pub(crate) fn row(self, i: usize) -> Element
+        requires { WeighsRow self.all.rows.now self.all.ids.now self.lengths.now self.column i }
+        ensures { result ≡ weighed self.entry.all.rows.now self.entry.all.ids.now self.entry.lengths.now self.entry.column i }
+    {
+        let x = element_in_row(self.all.rows, self.all.ids, i);
+        let at = i * self.column.width + self.column.at;
+        Element {
+            length: self.lengths[at] as usize,
+            ..x
+        }
     }
+}
+
+// The rows that are wanted, in their order: so many positions at the front of a queue.
+#[derive(Clone, Copy)]
+pub(crate) struct Wanted<'a> {
+    pub(crate) queue: &'a [u8],
+    pub(crate) count: usize,
 }

@@ -4,7 +4,7 @@ ghost use Rattle.std.specs.Prelude.{◌≡◌, ◌+◌, ◌≤◌, length};
 ghost use Rattle.laws.specs.Placed.{Lays};
 ghost use Rattle.store.specs.Held.{elements_bytes};
 ghost use Rattle.order.specs.Queue.{Queued, queued_in};
-ghost use Rattle.pages.specs.Written.{changes_bytes, partial_byte};
+ghost use Rattle.pages.specs.Written.{changes_bytes};
 ghost use Rattle.pages.specs.Tables.{ToSend, sent_bytes, answer_middle, fixed_length};
 
 use numbers::compact::compact_length;
@@ -22,13 +22,15 @@ use store::table::element_in_row;
 pub const CHANGES: u64 = 0x5F;
 
 // The answer's length without elements and ranges. Ruled out (proofs/WrongAnswers), with id 1 and no storage index: 40, and 45.
+#[tactic(auto, unfolding(crate::specs::Tables::fixed_length))]
 pub(crate) fn fixed_length(id: u64, index: ExtendedGuid) -> usize
     ensures { (result ≡ fixed_length id index) × (result ≤ 69) }
 {
     39 + compact_length(id) + extended_guid_length(index)
 }
 
-// The stored bytes of the first k elements that are queued.
+// The stored bytes of the first k elements that are queued. (By rows and ids, as `write_answer` is told how many are sent, and not how many
+// the store has.)
 fn lay_elements(
     out: &mut [u8],
     at: usize,
@@ -42,23 +44,11 @@ fn lay_elements(
     ensures { Lays at (elements_bytes store.now (queued_in rows.now ids.now k queue.now)) out.old result out.new }
 {
     let mut p = at;
-    let mut i = 0;
-    while i < k {
+    for i in 0..k {
         let x = element_in_row(rows, ids, row_at(queue, i));
         p = lay_part(out, p, part(store, x.place, x.length as u64));
-        i += 1;
     }
     p
-}
-
-// The partial byte.
-fn partial_byte(partial: bool) -> u8
-    ensures { result ≡ partial_byte partial }
-{
-    if partial {
-        return 1;
-    }
-    0
 }
 
 // The storage index and the partial byte.
@@ -69,7 +59,7 @@ fn lay_changes(out: &mut [u8], at: usize, index: ExtendedGuid, partial: bool) ->
     let n = extended_guid_length(index) + 1;
     let behind_start = lay_start(out, at, CHANGES, PLAIN, n as u64);
     let behind_index = lay_extended_guid(out, behind_start, index);
-    lay_byte(out, behind_index, partial_byte(partial))
+    lay_byte(out, behind_index, u8::from(partial))
 }
 
 // From the package's end to the knowledge.

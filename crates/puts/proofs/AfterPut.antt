@@ -14,10 +14,10 @@ use Rattle.laws.specs.Bytes.{AllBytes}
 use Rattle.laws.specs.Once.{seen, once}
 use Rattle.laws.proofs.Cases.{impossible}
 use Rattle.numbers.specs.Guid.{GuidFits}
-use Rattle.numbers.specs.declared.extended_guid.ExtendedGuid.{ExtendedGuid}
+use Rattle.numbers.specs.Results.ExtendedGuid.{ExtendedGuid}
 use Rattle.numbers.specs.declared.guid.Guid.{Guid}
-use Rattle.objects.specs.declared.reading.Reading.{Reading}
-use Rattle.objects.specs.declared.reading.Reading.TheVariants as reading
+use Rattle.objects.specs.Results.Reading.{Reading}
+use Rattle.objects.specs.Results.Reading as reading
 use Rattle.talk.specs.Each.{Each}
 use Rattle.ranges.specs.Ranged.{knows}
 use Rattle.store.specs.Element.{key_of, same_key, ids_in}

@@ -1,10 +1,10 @@
 -- What was read of a store and of a put, and what was planned for them, is what the definition of the new store speaks of.
 -- Assumes nothing.
 use mathlib.Core.Path.{◌≡◌, sym, ap, ◌∙◌}
-use mathlib.Core.List.{List, [], ◌++◌, map}
+use mathlib.Core.List.{List, [], ◌++◌, map, append-nil}
 use Prim.Native.Nat.{ℕ, ◌+◌, ◌-◌, ◌≤◌, ◌<◌}
 use native.Mathlib.Omega.{arith}
-use lib.ListN.{length, take, length-append}
+use lib.ListN.{length, take}
 use lib.Seq.{take_at}
 use Rattle.numbers.specs.declared.guid.Guid.{Guid}
 use Rattle.talk.specs.Each.{Each}
@@ -89,12 +89,10 @@ module _ (s rows ids q handed_rows handed_ids : List ℕ) (g : Guid) (n m highes
   pub plan_taken : (plan t : List ℕ) (count : ℕ) → count ≡ length planned → plan ≡ planned ++ t → take count plan ≡ planned
   plan_taken plan t count e f = rw f (take_at planned t count (sym e))
 
-  pub plan_made : (plan t : List ℕ) (count : ℕ) → count ≡ length planned → plan ≡ planned ++ t → count ≤ most_elements → Planning s rows ids q handed_rows handed_ids highest plan count
+  pub plan_made : (plan t : List ℕ) (count : ℕ) → count ≡ length planned → plan ≡ planned ++ t → count ≤ most_elements → Planning s rows ids q handed_rows handed_ids highest (take count plan)
   plan_made plan t count e f l =
-      record {
-        few = l;
-        long = rw f (let a = length-append planned t in omega arith);
-        fits = λ k d.
-            let i : k < length planned = omega arith in
-            rw f (each_front (SourceFits s rows ids q handed_rows handed_ids highest) planned t k i all_fit);
-      }
+      rw (plan_taken plan t count e f)
+      (record {
+        few = omega arith;
+        fits = λ k i. rw (← append-nil planned) (each_front (SourceFits s rows ids q handed_rows handed_ids highest) planned [] k i all_fit);
+      })

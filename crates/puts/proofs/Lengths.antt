@@ -11,8 +11,8 @@ use Rattle.numbers.specs.Compact.{compact_bytes}
 use Rattle.numbers.specs.ExtendedGuid.{extended_guid_bytes}
 use Rattle.numbers.specs.Serial.{serial_bytes}
 use Rattle.numbers.specs.declared.guid.Guid.{Guid}
-use Rattle.numbers.specs.declared.extended_guid.ExtendedGuid.TheVariants.{Named}
-use Rattle.numbers.specs.declared.serial.Serial.TheVariants.{Numbered}
+use Rattle.numbers.specs.Results.ExtendedGuid.{Named}
+use Rattle.numbers.specs.Results.Serial.{Numbered}
 use Rattle.numbers.proofs.Guids.{length_tagged}
 use Rattle.objects.specs.Header.{start_bytes}
 use Rattle.store.specs.Written.{key_guid, field_bytes, written_element, inside_of, content_in}

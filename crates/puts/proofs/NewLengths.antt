@@ -4,7 +4,7 @@ use mathlib.Core.Path.{◌≡◌, refl, ap}
 use mathlib.Core.List.{List, ◌++◌}
 use Prim.Native.Nat.{ℕ, zero, suc, ◌+◌, ◌<◌}
 use native.Mathlib.Omega.{arith}
-use lib.ListN.{length, take, get_or, length-append}
+use lib.ListN.{length, drop, get_or, length-append}
 use borrow.Author.Tests.{lt-ltb, le-ltb}
 use Rattle.laws.proofs.Cases.{by_lt}
 use Rattle.laws.proofs.Parts.{part_length}
@@ -21,7 +21,6 @@ use Rattle.request.proofs.ResponseLengths.{length_front, length_back, length_sub
 use Rattle.puts.specs.Plan.{sides, handed_row, source_bytes, source_length, planned_bytes, planned_length, SourceFits, Planning}
 use Rattle.puts.specs.Applied.{put_answer_bytes}
 use Rattle.puts.proofs.Lengths.{length_entering}
-use Rattle.enter.proofs.PlanTurns.{plan_from}
 use Rattle.puts.proofs.Plans.{bytes_turn, bytes_end, length_turn, length_end, source_kept, source_handed}
 
 -- ---- the answer
@@ -60,20 +59,20 @@ module _ (s rows ids q handed_rows handed_ids : List ℕ) (g : Guid) (highest : 
       rw (le-ltb source most_elements l, source_handed (sides s rows ids q handed_rows handed_ids g highest) source l)
       (length_entering q _ (element_in_row handed_rows handed_ids (handed_row source)) (h.stands.enters l)))
 
-  planned_from : (plan : List ℕ) (count : ℕ) → Planning s rows ids q handed_rows handed_ids highest plan count → (d k : ℕ) → k + d ≡ count
-      → length (planned_bytes (sides s rows ids q handed_rows handed_ids g highest) (plan_from plan k count)) ≡ planned_length rows ids q handed_rows handed_ids (plan_from plan k count)
-  planned_from plan count h zero k e =
-      rw (bytes_end plan k count (omega arith) h.long (sides s rows ids q handed_rows handed_ids g highest), length_end plan k count (omega arith) h.long rows ids q handed_rows handed_ids)
-  planned_from plan count h (suc d) k e =
-      let l : k < count = omega arith in
-      let a = bytes_turn plan k count l h.long (sides s rows ids q handed_rows handed_ids g highest) in
-      let b = length_turn plan k count l h.long rows ids q handed_rows handed_ids in
-      let c = length-append (source_bytes (sides s rows ids q handed_rows handed_ids g highest) (get_or plan k 0)) (planned_bytes (sides s rows ids q handed_rows handed_ids g highest) (plan_from plan (k + 1) count)) in
+  planned_from : (plan : List ℕ) → Planning s rows ids q handed_rows handed_ids highest plan → (d k : ℕ) → k + d ≡ length plan
+      → length (planned_bytes (sides s rows ids q handed_rows handed_ids g highest) (drop k plan)) ≡ planned_length rows ids q handed_rows handed_ids (drop k plan)
+  planned_from plan h zero k e =
+      rw (bytes_end plan k (omega arith) (sides s rows ids q handed_rows handed_ids g highest), length_end plan k (omega arith) rows ids q handed_rows handed_ids)
+  planned_from plan h (suc d) k e =
+      let l : k < length plan = omega arith in
+      let a = bytes_turn plan k l (sides s rows ids q handed_rows handed_ids g highest) in
+      let b = length_turn plan k l rows ids q handed_rows handed_ids in
+      let c = length-append (source_bytes (sides s rows ids q handed_rows handed_ids g highest) (get_or plan k 0)) (planned_bytes (sides s rows ids q handed_rows handed_ids g highest) (drop (k + 1) plan)) in
       let f = length_source (get_or plan k 0) (h.fits k l) in
-      let i = planned_from plan count h d (k + 1) (omega arith) in
+      let i = planned_from plan h d (k + 1) (omega arith) in
       let m = ap length a in
       omega arith
 
-  pub length_planned : (plan : List ℕ) (count : ℕ) → Planning s rows ids q handed_rows handed_ids highest plan count
-      → length (planned_bytes (sides s rows ids q handed_rows handed_ids g highest) (take count plan)) ≡ planned_length rows ids q handed_rows handed_ids (take count plan)
-  length_planned plan count h = planned_from plan count h count 0 (omega arith)
+  pub length_planned : (plan : List ℕ) → Planning s rows ids q handed_rows handed_ids highest plan
+      → length (planned_bytes (sides s rows ids q handed_rows handed_ids g highest) plan) ≡ planned_length rows ids q handed_rows handed_ids plan
+  length_planned plan h = planned_from plan h (length plan) 0 (omega arith)

@@ -16,7 +16,7 @@ use Rattle.numbers.specs.Guid.{GuidFits}
 use Rattle.numbers.specs.Refusals.{longest_input}
 use Rattle.numbers.specs.declared.guid.Guid.{Guid}
 use Rattle.numbers.proofs.Padding.{takes_refused}
-use Rattle.objects.specs.declared.reading.Reading.TheVariants.{At}
+use Rattle.objects.specs.Results.Reading.{At}
 use Rattle.store.specs.Chain.{Follows}
 use Rattle.store.specs.Element.{key_of, ids_in, element_at}
 use Rattle.store.specs.Store.{store_walk, Stands, store_padding, store_strictness}
@@ -24,7 +24,7 @@ use Rattle.store.specs.Tables.{most_elements}
 use Rattle.store.specs.Written.{written_element, ContentFits, content_in}
 use Rattle.store.specs.declared.element.Key.{Key}
 use Rattle.store.specs.declared.element.Element.{Element}
-use Rattle.store.specs.declared.element.ReadElement.TheVariants.{Is}
+use Rattle.store.specs.Results.ReadElement.{Is}
 use Rattle.store.proofs.Contents.{content_fits, content_wider}
 use Rattle.store.proofs.ElementFits.{NumberedFits}
 use Rattle.store.proofs.ElementWritten.{element_written}

@@ -9,9 +9,9 @@ use Rattle.numbers.specs.declared.guid.Guid.{Guid}
 use Rattle.numbers.proofs.OneAnswers.{refuses_telling, values_of}
 use Rattle.puts.specs.Put.{ReadsPut}
 use Rattle.puts.specs.Applied.{tell_applied, Puts}
-use Rattle.puts.specs.declared.put.Put.{Put}
-use Rattle.puts.specs.declared.apply.Applied.{Applied}
-use Rattle.puts.specs.declared.apply.Applied.TheVariants as applied
+use Rattle.puts.specs.Results.Put.{Put}
+use Rattle.puts.specs.Results.Applied.{Applied}
+use Rattle.puts.specs.Results.Applied as applied
 
 pub reads_put_one : (s : List ℕ) (r q : Put) (rows rows' rows'' ids ids' ids'' : List ℕ) → ReadsPut s r rows rows' ids ids' → ReadsPut s q rows rows'' ids ids''
     → (r ≡ q) × (rows' ≡ rows'') × (ids' ≡ ids'')

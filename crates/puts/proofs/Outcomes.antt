@@ -13,20 +13,20 @@ use Rattle.laws.proofs.Placing.{laid_front}
 use Rattle.numbers.specs.Refusals.{fault_at, too_short, longest_input}
 use Rattle.numbers.specs.declared.guid.Guid.{Guid}
 use Rattle.numbers.specs.declared.refusal.Refusal.{Refusal}
-use Rattle.numbers.specs.declared.extended_guid.ExtendedGuid.{ExtendedGuid}
+use Rattle.numbers.specs.Results.ExtendedGuid.{ExtendedGuid}
 use Rattle.talk.specs.declared.range.Range.{Range}
 use Rattle.store.specs.Held.{storage_index}
-use Rattle.objects.specs.declared.reading.Reading.{Reading}
-use Rattle.objects.specs.declared.reading.Reading.TheVariants as reading
+use Rattle.objects.specs.Results.Reading.{Reading}
+use Rattle.objects.specs.Results.Reading as reading
 use Rattle.store.specs.Store.{store_walk, stored_of, store_answer}
 use Rattle.store.specs.Tables.{most_elements}
 use Rattle.store.specs.declared.element.Element.{Element}
-use Rattle.store.specs.declared.package.Stored.TheVariants as stored
+use Rattle.store.specs.Results.Stored as stored
 use Rattle.enter.specs.Entering.{Kept}
 use Rattle.puts.specs.NewStore.{highest_under, new_elements, ranges_of, new_store}
 use Rattle.puts.specs.Put.{put_walk, put_in}
 use Rattle.puts.specs.Applied.{refused, entered, put_answer_bytes, answered, sized, counted, last_number, numbered, same_id, expecting, on_put, on_store, put_outcome, applied_told, store_after, output_after, GivesPut}
-use Rattle.puts.specs.declared.apply.Applied.TheVariants as applied
+use Rattle.puts.specs.Results.Applied as applied
 
 -- what is refused leaves both buffers
 pub refused_gives : (r : Refusal) (new out : List ℕ) → GivesPut (refused r) (applied.Refused r) new new out out

@@ -7,7 +7,7 @@ use Prim.Native.Nat.{ℕ}
 use Rattle.laws.specs.Once.{once}
 use Rattle.laws.proofs.Cases.{by_bool}
 use Rattle.objects.specs.Steps.{next_is}
-use Rattle.objects.specs.declared.reading.Reading.{Reading}
+use Rattle.objects.specs.Results.Reading.{Reading}
 use Rattle.store.specs.Chain.{Follows}
 use Rattle.store.specs.Element.{same_key, ids_in}
 use Rattle.store.specs.Store.{Stands}

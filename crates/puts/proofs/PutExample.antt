@@ -23,11 +23,11 @@ use Rattle.numbers.proofs.OneAnswers.{values_of}
 use Rattle.objects.specs.Header as header
 use Rattle.objects.specs.Header.{start_bytes, long_start, end_bytes, start_number, start_of, end_of, header_of, header_at, length_at}
 use Rattle.objects.specs.Nesting.{run_at}
-use Rattle.objects.specs.Steps.{place_of, value_of, valued, need, number, number_is, fixed_in, skip, start_here, length_is, start_of_length, run_here, closed_at, inside, end_here, next_is, finish, id_here, on_id, serial_here}
+use Rattle.objects.specs.Steps.{place_of, value_of, valued, need, number, number_is, fixed_in, skip, start_here, length_is, start_of_length, run_here, closed_at, inside, end_here, next_is, finish, id_here, serial_here, on_field}
 use Rattle.talk.specs.Ranges as ranges
 use Rattle.talk.specs.Ranges.{within, holds, is_before, absorb, insert}
 use Rattle.ranges.specs.Ranged.{range_of}
-use Rattle.store.specs.Element.{same_key, named_key, numbered_key, any_key, fresh_key, key_here, on_key, id_field, serial_field, fields_of, data_of, element_on, element_at}
+use Rattle.store.specs.Element.{same_key, named_key, numbered_key, any_key, fresh_key, key_here, id_field, serial_field, fields_of, data_of, element_on, element_at}
 use Rattle.store.specs.Held.{storage_index, stored_bytes, key_range}
 use Rattle.store.specs.KnowledgeWritten.{range_guid, range_data, range_bytes, ranges_bytes, cell_front, cell_back, knowledge_bytes}
 use Rattle.store.specs.Store.{package_start, walk_from, store_walk}
@@ -35,8 +35,8 @@ use Rattle.store.specs.Written.{field_bytes, written_element, package_front, ins
 use Rattle.request.specs.Message.{versions, user_agent, sub_request_fields, sub_request, knowledge_part, identified, id_in}
 use Rattle.request.specs.Response.{version_bytes, response_bytes, answer_front, sub_response_data, sub_response_bytes, ends_bytes}
 use Rattle.puts.specs.Applied.{Outcome, refused, entered, put_answer_bytes, answered, sized, counted, numbered, same_id, expecting, on_put, on_store, put_outcome, tell_applied, applied_told, store_after, Puts}
-use Rattle.puts.specs.declared.apply.Applied.{Applied}
-use Rattle.puts.specs.declared.apply.Applied.TheVariants as applied
+use Rattle.puts.specs.Results.Applied.{Applied}
+use Rattle.puts.specs.Results.Applied as applied
 use Rattle.enter.specs.Entering.{replaced_by, new_to, enter}
 use Rattle.enter.specs.Package.{kept_in, joined, packed}
 use Rattle.puts.specs.NewStore.{entering, entering_from, under_guid, highest_under, new_elements, ranges_of}
@@ -46,12 +46,12 @@ use Rattle.puts.specs.Put.{put_fields, put_changes, flag_fields, additional_flag
 
 -- numbers and names, headers, and the steps of a layout
 layouts : Unit {0}
-unfolding le bytes be compact_bytes size_of form_of form_from with_form read_form compact_for read_compact compact_value count_trailing_zeros guid_at guid_bytes tagged_bytes swapped extended_guid_bytes named_bytes short_bytes read_extended_guid form_of_id short_form named_of serial_bytes read_serial serial.numbered start_bytes long_start end_bytes start_number start_of end_of header.sized header_of header_at length_at run_at iterate turns place_of value_of valued need number number_is fixed_in skip start_here length_is start_of_length run_here closed_at inside end_here next_is finish id_here on_id serial_here
+unfolding le bytes be compact_bytes size_of form_of form_from with_form read_form compact_for read_compact compact_value count_trailing_zeros guid_at guid_bytes tagged_bytes swapped extended_guid_bytes named_bytes short_bytes read_extended_guid form_of_id short_form named_of serial_bytes read_serial serial.numbered start_bytes long_start end_bytes start_number start_of end_of header.sized header_of header_at length_at run_at iterate turns place_of value_of valued need number number_is fixed_in skip start_here length_is start_of_length run_here closed_at inside end_here next_is finish id_here on_field serial_here
 layouts = tt
 
 -- stores, ranges, and what is written
 stores : Unit {0}
-unfolding layouts seen same_key named_key numbered_key any_key fresh_key key_here on_key id_field serial_field fields_of data_of element_on element_at package_start walk_from store_walk storage_index stored_bytes field_bytes written_element package_front inside_of range_of within holds is_before ranges.joined absorb insert range_guid range_data range_bytes ranges_bytes cell_front cell_back knowledge_bytes version_bytes response_bytes answer_front sub_response_data sub_response_bytes ends_bytes
+unfolding layouts seen same_key named_key numbered_key any_key fresh_key key_here on_field id_field serial_field fields_of data_of element_on element_at package_start walk_from store_walk storage_index stored_bytes field_bytes written_element package_front inside_of range_of within holds is_before ranges.joined absorb insert range_guid range_data range_bytes ranges_bytes cell_front cell_back knowledge_bytes version_bytes response_bytes answer_front sub_response_data sub_response_bytes ends_bytes
 stores = tt
 
 -- puts

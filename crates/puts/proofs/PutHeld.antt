@@ -10,10 +10,10 @@ use Rattle.laws.specs.Bytes.{AllBytes}
 use Rattle.laws.proofs.Cases.{by_bool, by_lt, impossible}
 use Rattle.laws.proofs.Numbers.{drop_bytes, take_bytes}
 use Rattle.numbers.specs.Refusals.{longest_input}
-use Rattle.numbers.specs.declared.extended_guid.ExtendedGuid.{ExtendedGuid}
+use Rattle.numbers.specs.Results.ExtendedGuid.{ExtendedGuid}
 use Rattle.objects.specs.Steps.{place_of, value_of, skip, end_here, next_is, finish}
-use Rattle.objects.specs.declared.reading.Reading.{Reading}
-use Rattle.objects.specs.declared.reading.Reading.TheVariants as reading
+use Rattle.objects.specs.Results.Reading.{Reading}
+use Rattle.objects.specs.Results.Reading as reading
 use Rattle.talk.specs.Each.{Each}
 use Rattle.store.specs.Chain.{Follows}
 use Rattle.store.specs.Element.{ids_in}
@@ -30,8 +30,8 @@ use Rattle.store.proofs.StoreHeld.{each_at}
 use Rattle.store.proofs.Taken.{stands_before}
 use Rattle.puts.specs.Put.{put_strictness, put_package, put_end, put_front, before_package, handed_in, put_walk, put_read, put_in, ReadsPut}
 use Rattle.puts.specs.Plan.{inside_from, Enters, PutHeld}
-use Rattle.puts.specs.declared.put.Put.{Put}
-use Rattle.puts.specs.declared.put.Put.TheVariants as put
+use Rattle.puts.specs.Results.Put.{Put}
+use Rattle.puts.specs.Results.Put as put
 
 -- ---- one element
 
@@ -79,7 +79,7 @@ end_stands q c h = stands_before (λ (d : Reading). finish q (end_here q 0x40 d)
 
 answer_stands : (c : Reading) (a n : ℕ) (b : ExtendedGuid) (id m : ℕ) (expected : ExtendedGuid) → put.Handed id expected m ≡ put_read c a b n → Stands c × (m ≡ n)
 unfolding put_read
-answer_stands (reading.At e v) a n b id m expected q = (tt, cc)
+answer_stands (reading.At e v) a n b id m expected q = (tt, grind arith)
 answer_stands (reading.Refused r) a n b id m expected q = impossible (cc)
 
 -- a put that stands is not over-long, and its elements are those of its package

@@ -8,11 +8,10 @@ use Prim.Native.Nat.{ℕ}
 use lib.ListN.{length}
 use Rattle.laws.proofs.Cases.{by_bool, pick_all}
 use Rattle.objects.specs.Steps.{valued, start_here, run_here, next_is, Good}
-use Rattle.objects.specs.declared.reading.Reading.{Reading}
-use Rattle.objects.specs.declared.reading.Reading.TheVariants.{At, Refused}
+use Rattle.objects.specs.Results.Reading.{At, Reading, Refused}
 use Rattle.objects.proofs.Keep.{good_front, onward_valued, onward_number, onward_skip, onward_id, onward_start, onward_closed, onward_end}
 use Rattle.store.specs.Knowledge.{most_said, Knowing, knowledge_answer, ReadsKnowledge}
-use Rattle.store.specs.declared.knowledge.ReadKnowledge.{ReadKnowledge}
+use Rattle.store.specs.Results.ReadKnowledge.{ReadKnowledge}
 use Rattle.store.proofs.KnowledgeHeld.{onward_knowledge}
 use Rattle.store.proofs.TableFree.{table_free}
 use Rattle.request.specs.Filter.{request_padding}

@@ -1,5 +1,6 @@
 -- A put as a whole: over-long, or read on from what its package answered to its end.
 -- Assumes nothing.
+use native.Mathlib.Omega.{arith}
 use mathlib.Core.Path.{◌≡◌, refl, sym, subst, ◌∙◌}
 use mathlib.Core.List.{List}
 use Prim.Native.Nat.{ℕ, ◌≤◌, ◌<◌}
@@ -8,17 +9,16 @@ use borrow.Author.Tests.{lt-ltb, le-ltb}
 use Rattle.laws.proofs.Cases.{impossible}
 use Rattle.numbers.specs.Refusals.{longest_input, over_long}
 use Rattle.numbers.specs.declared.refusal.Refusal.{Refusal}
-use Rattle.numbers.specs.declared.extended_guid.ExtendedGuid.{ExtendedGuid}
+use Rattle.numbers.specs.Results.ExtendedGuid.{ExtendedGuid}
 use Rattle.objects.specs.Steps.{value_of, end_here, finish}
-use Rattle.objects.specs.declared.reading.Reading.{Reading}
-use Rattle.objects.specs.declared.reading.Reading.TheVariants.{At, Refused}
+use Rattle.objects.specs.Results.Reading.{At, Reading, Refused}
 use Rattle.store.specs.Store.{packaged_of, PackageTo}
 use Rattle.store.specs.Tables.{flat}
-use Rattle.store.specs.declared.package.Packaged.{Packaged}
-use Rattle.store.specs.declared.package.Packaged.TheVariants as packaged
+use Rattle.store.specs.Results.Packaged.{Packaged}
+use Rattle.store.specs.Results.Packaged as packaged
 use Rattle.request.specs.Message.{put_changes_request, identified, in_request}
 use Rattle.puts.specs.Put.{put_package, put_end, put_front, put_head, handed_in, put_walk, put_read, put_in, ReadsPut}
-use Rattle.puts.specs.declared.put.Put.TheVariants as put
+use Rattle.puts.specs.Results.Put as put
 use Rattle.puts.specs.declared.put.PutHead.{PutHead}
 
 -- ---- its length
@@ -39,8 +39,8 @@ ended_refused m r s (Refused q) id x h = cc
 ended_holds : (m n e : ℕ) (s : List ℕ) (c : Reading) (id : ℕ) (x : ExtendedGuid) → packaged.Holds e n ≡ packaged_of m c → put_read (put_end s (At e 0)) id x n ≡ put_read (put_end s c) id x m
 unfolding packaged_of put_end end_here
 ended_holds m n e s (At p v) id x h =
-    let a : n ≡ m = cc in
-    let b : e ≡ p = cc in
+    let a : n ≡ m = grind arith in
+    let b : e ≡ p = grind arith in
     rw (a, b)
 ended_holds m n e s (Refused r) id x h = impossible (cc)
 

@@ -10,7 +10,7 @@ use Rattle.talk.specs.Ranges.{insert, Normal}
 use Rattle.talk.proofs.Insertion.{length_insert, normal_insert}
 use Rattle.ranges.specs.RangeTable.{ranges_at, added_to, laid_in}
 use Rattle.ranges.specs.Ranged.{range_of}
-use Rattle.ranges.specs.declared.Added.TheVariants.{Rows, Full}
+use Rattle.ranges.specs.Results.Added.{Full, Rows}
 use Rattle.ranges.proofs.RangeRows.{length_rows, laid_rows_lem}
 use Rattle.store.specs.declared.element.Key.{Key}
 use Rattle.store.proofs.Uniting.{added_fits}

@@ -10,13 +10,12 @@ use lib.ListN.{length}
 use lib.Dec.{eqb}
 use Rattle.laws.specs.Pick.{pick}
 use Rattle.laws.proofs.Cases.{by_bool, by_lt, impossible}
-use Rattle.numbers.specs.Refusals.{fault_at, too_short, longest_input}
+use Rattle.numbers.specs.Refusals.{fault_at, too_short, longest_input, refusal_number}
 use Rattle.numbers.specs.declared.guid.Guid.{Guid}
-use Rattle.numbers.specs.declared.extended_guid.ExtendedGuid.{ExtendedGuid}
-use Rattle.numbers.specs.declared.extended_guid.ExtendedGuid.TheVariants.{Null, Named}
+use Rattle.numbers.specs.Results.ExtendedGuid.{ExtendedGuid, Named, Null}
 use Rattle.objects.specs.Steps.{value_of}
-use Rattle.objects.specs.declared.reading.Reading.{Reading}
-use Rattle.objects.specs.declared.reading.Reading.TheVariants as reading
+use Rattle.objects.specs.Results.Reading.{Reading}
+use Rattle.objects.specs.Results.Reading as reading
 use Rattle.store.specs.Element.{key_of}
 use Rattle.store.specs.Held.{storage_index}
 use Rattle.store.specs.Store.{store_walk, Stands}
@@ -177,10 +176,10 @@ module _ (s q : List ℕ) (g : Guid) (storeRoom room : ℕ) (store_reads : Stand
 
   abbrev Meaning : Outcome → Type 0
   Meaning (refused r) =
-      pick (eqb r.number 15) (AnotherIndex s q g)
-      (pick (eqb r.number 16) (NoNumberLeft s q g)
-      (pick (eqb r.number 9) (TooMany s q g)
-      (pick (eqb r.number 1) (TooLong s q g) (Short s q g storeRoom room r.needed))))
+      pick (eqb (refusal_number r) 15) (AnotherIndex s q g)
+      (pick (eqb (refusal_number r) 16) (NoNumberLeft s q g)
+      (pick (eqb (refusal_number r) 9) (TooMany s q g)
+      (pick (eqb (refusal_number r) 1) (TooLong s q g) (Short s q g storeRoom room r.needed))))
   Meaning (entered a w) = OutputFits s q g storeRoom room × (a ≡ answer s q g) × (w ≡ store_bytes s q g)
 
   meant : (o : Outcome) → outcome ≡ o → Meaning o → Meaning outcome

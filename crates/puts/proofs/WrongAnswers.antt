@@ -5,11 +5,12 @@ use mathlib.Core.List.{List, [], ◌∷◌, map}
 use Prim.Native.Nat.{ℕ}
 use native.Mathlib.Omega.{arith}
 use lib.ListN.{take}
+use Rattle.std.specs.Prelude.{Ok}
 use Rattle.laws.specs.Bytes.{le}
 use Rattle.laws.specs.Once.{seen}
-use Rattle.numbers.specs.Refusals.{Told, fault_at}
+use Rattle.numbers.specs.Refusals.{Told, fault_at, refusal_number}
 use Rattle.numbers.specs.declared.guid.Guid.{Guid}
-use Rattle.objects.specs.Steps.{place_of, valued, fixed_in, skip, id_here, on_id, start_here, length_is, start_of_length, run_here, closed_at, inside, end_here, next_is, finish}
+use Rattle.objects.specs.Steps.{place_of, valued, fixed_in, skip, id_here, start_here, length_is, start_of_length, run_here, closed_at, inside, end_here, next_is, finish, on_field}
 use Rattle.objects.specs.Header.{header_at, header_of}
 use Rattle.store.specs.Element.{same_key}
 use Rattle.store.specs.Store.{package_start, walk_from, store_walk}
@@ -19,29 +20,29 @@ use Rattle.enter.specs.Entering.{Kept, replaced_by, new_to, enter}
 use Rattle.puts.specs.NewStore.{under_guid, highest_under}
 use Rattle.puts.specs.Put.{put_fields, put_changes, additional_flags, optional_bytes, client_knowledge, before_package, put_package, put_end, put_walk, put_read, put_in, ReadsPut}
 use Rattle.puts.specs.Applied.{on_store, put_outcome, applied_told, store_after, Puts}
-use Rattle.puts.specs.declared.put.Put.{Put}
-use Rattle.puts.specs.declared.put.Put.TheVariants as put
-use Rattle.puts.specs.declared.apply.Applied.{Applied}
-use Rattle.puts.specs.declared.apply.Applied.TheVariants as applied
+use Rattle.puts.specs.Results.Put.{Put}
+use Rattle.puts.specs.Results.Put as put
+use Rattle.puts.specs.Results.Applied.{Applied}
+use Rattle.puts.specs.Results.Applied as applied
 
 -- ---- reading a put of no bytes
 
 abbrev handed_number : Put → ℕ
-handed_number (put.Handed id expected count) = 0
-handed_number (put.Refused r) = r.number
+handed_number (Ok x) = 0
+handed_number (put.Refused r) = refusal_number r
 
 abbrev handed_input : Put → ℕ
-handed_input (put.Handed id expected count) = 0
+handed_input (Ok x) = 0
 handed_input (put.Refused r) = r.input
 
 -- its version is missing: 2, and not 7
 version_first : (rows rows' ids ids' : List ℕ) → ReadsPut [] (put.Refused (in_request (fault_at 7 0))) rows rows' ids ids' → ⊥
-unfolding put_in put_read put_walk put_end put_package before_package additional_flags optional_bytes client_knowledge knowledge_part put_changes put_fields identified sub_request user_agent versions fixed_in valued skip id_here on_id id_in start_here length_is start_of_length run_here closed_at inside end_here next_is finish place_of le
+unfolding put_in put_read put_walk put_end put_package before_package additional_flags optional_bytes client_knowledge knowledge_part put_changes put_fields identified sub_request user_agent versions fixed_in valued skip id_here on_field id_in start_here length_is start_of_length run_here closed_at inside end_here next_is finish place_of le
 version_first rows rows' ids ids' h = let z : ◌≡◌ {A = ℕ} 7 2 = ap handed_number h.0 in omega arith
 
 -- and of the second input, not of the first
 first_input : (rows rows' ids ids' : List ℕ) → ReadsPut [] (put.Refused (fault_at 2 0)) rows rows' ids ids' → ⊥
-unfolding put_in put_read put_walk put_end put_package before_package additional_flags optional_bytes client_knowledge knowledge_part put_changes put_fields identified sub_request user_agent versions fixed_in valued skip id_here on_id id_in start_here length_is start_of_length run_here closed_at inside end_here next_is finish place_of le
+unfolding put_in put_read put_walk put_end put_package before_package additional_flags optional_bytes client_knowledge knowledge_part put_changes put_fields identified sub_request user_agent versions fixed_in valued skip id_here on_field id_in start_here length_is start_of_length run_here closed_at inside end_here next_is finish place_of le
 first_input rows rows' ids ids' h = let z : ◌≡◌ {A = ℕ} 0 1 = ap handed_input h.0 in omega arith
 
 -- ---- applying a put of no bytes to a store of no bytes: the store's fault comes first

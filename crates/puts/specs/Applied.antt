@@ -2,17 +2,16 @@
 -- or the answer's bytes and the new store's. "after the request's faults come 15, 16, 9, 1 for the new store, 14 for its buffer, 14 for
 -- the output"; all six fall on no item: they name the store, place 0.
 -- Assumes nothing.
-use Rattle.std.specs.Prelude.{◌≡◌, ℕ, ◌+◌, Bool, true, false, List, [], ◌∷◌, ◌++◌, length, drop, ltb}
+use Rattle.std.specs.Prelude.{◌≡◌, ℕ, ◌+◌, Bool, true, false, List, [], ◌∷◌, ◌++◌, length, drop, ltb, Ok}
 use Rattle.laws.specs.Pick.{pick}
 use Rattle.numbers.specs.Refusals.{Told, gives, refuses, fault_at, too_short, longest_input}
 use Rattle.numbers.specs.declared.guid.Guid.{Guid}
 use Rattle.numbers.specs.declared.refusal.Refusal.{Refusal}
-use Rattle.numbers.specs.declared.extended_guid.ExtendedGuid.{ExtendedGuid}
-use Rattle.numbers.specs.declared.extended_guid.ExtendedGuid.TheVariants.{Null, Named}
+use Rattle.numbers.specs.Results.ExtendedGuid.{ExtendedGuid, Named, Null}
 use Rattle.objects.specs.Types.{package_type}
 use Rattle.objects.specs.Header.{end_bytes}
-use Rattle.objects.specs.declared.reading.Reading.{Reading}
-use Rattle.objects.specs.declared.reading.Reading.TheVariants as reading
+use Rattle.objects.specs.Results.Reading.{Reading}
+use Rattle.objects.specs.Results.Reading as reading
 use Rattle.talk.specs.declared.range.Range.{Range}
 use Rattle.store.specs.Element.{key_of, same_key}
 use Rattle.store.specs.Held.{storage_index}
@@ -25,10 +24,10 @@ use Rattle.request.specs.Response.{answer_front, sub_response_bytes, ends_bytes}
 use Rattle.puts.specs.Entering.{Kept}
 use Rattle.puts.specs.NewStore.{highest_under, new_elements, new_store, ranges_of}
 use Rattle.puts.specs.Put.{put_walk, put_in}
-use Rattle.puts.specs.declared.put.Put.{Put}
-use Rattle.puts.specs.declared.put.Put.TheVariants as put
-use Rattle.puts.specs.declared.apply.Applied.{Applied}
-use Rattle.puts.specs.declared.apply.Applied.TheVariants as applied
+use Rattle.puts.specs.Results.Put.{Put}
+use Rattle.puts.specs.Results.Put as put
+use Rattle.puts.specs.Results.Applied.{Applied}
+use Rattle.puts.specs.Results.Applied as applied
 
 pub data Outcome : Type 0 where
   refused : Refusal → Outcome
@@ -80,7 +79,7 @@ expecting s all q id expected g storeRoom room =
 -- ---- the put's faults, then these
 
 unfoldable pub on_put : List ℕ → List Element → List ℕ → Guid → ℕ → ℕ → Put → Outcome
-on_put s all q g storeRoom room (put.Handed id expected count) = expecting s all q id expected g storeRoom room
+on_put s all q g storeRoom room (Ok x) = expecting s all q x.id x.expected g storeRoom room
 on_put s all q g storeRoom room (put.Refused r) = refused r
 
 -- ---- the store's faults, then the put's

@@ -1,3 +1,4 @@
+pub mod Results
 pub mod Put
 pub mod Entering
 pub mod NewStore

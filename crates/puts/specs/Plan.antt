@@ -8,20 +8,22 @@ use Rattle.numbers.specs.Compact.{compact_bytes}
 use Rattle.numbers.specs.ExtendedGuid.{extended_guid_bytes}
 use Rattle.numbers.specs.Serial.{serial_bytes}
 use Rattle.numbers.specs.declared.guid.Guid.{Guid}
-use Rattle.numbers.specs.declared.serial.Serial.TheVariants.{Numbered}
-use Rattle.numbers.specs.declared.extended_guid.ExtendedGuid.TheVariants.{Named}
+use Rattle.numbers.specs.Results.Serial.{Numbered}
+use Rattle.numbers.specs.Results.ExtendedGuid.{Named}
 use Rattle.objects.specs.Types.{element_type, compound_bit}
 use Rattle.objects.specs.Header.{start_bytes}
 use Rattle.objects.specs.Steps.{place_of, value_of, skip}
-use Rattle.objects.specs.declared.reading.Reading.TheVariants.{At}
+use Rattle.objects.specs.Results.Reading.{At}
 use Rattle.talk.specs.Ranges.{insert}
 use Rattle.talk.specs.declared.range.Range.{Range}
 use Rattle.store.specs.Element.{key_of, opened}
 use Rattle.store.specs.Tables.{most_elements, RowsStand, element_in_row, elements_in}
-use Rattle.store.specs.Held.{stored_bytes, key_range}
+use Rattle.store.specs.Held.{StoreHeld, stored_bytes, key_range}
 use Rattle.store.specs.Written.{key_guid, written_element, inside_of, content_in}
 use Rattle.store.specs.declared.element.Key.{Key}
 use Rattle.store.specs.declared.element.Element.{Element}
+use Rattle.store.specs.declared.held.Held.{Held}
+use Rattle.puts.specs.declared.new_store.Inputs.{Inputs}
 use Rattle.request.specs.Filter.{request_padding}
 use Rattle.puts.specs.Put.{put_walk}
 -- ---- which elements there are then, by the ids alone: it stands in enter, and is passed on here
@@ -82,6 +84,10 @@ sides s rows ids q handed_rows handed_ids g highest =
       highest = highest;
     }
 
+abbrev pub sides_of : Inputs → Sides
+sides_of a =
+    sides a.stored.bytes.now a.stored.elements.rows.now a.stored.elements.ids.now a.handed.bytes.now a.handed.elements.rows.now a.handed.elements.ids.now a.guid a.highest
+
 -- which row of the put
 abbrev pub handed_row : ℕ → ℕ
 handed_row source = source - most_elements
@@ -128,10 +134,17 @@ pub record SourceFits (s rows ids q handed_rows handed_ids : List ℕ) (highest 
   pub stored : source < most_elements → (element_in_row rows ids source).place + (element_in_row rows ids source).length ≤ length s
   pub left : most_elements ≤ source → highest + 1 + handed_row source < 2 ^ 64
 
-pub record Planning (s rows ids q handed_rows handed_ids : List ℕ) (highest : ℕ) (plan : List ℕ) (count : ℕ) : Type 0 where
-  pub few : count ≤ most_elements
-  pub long : count ≤ length plan
-  pub fits : (k : ℕ) → k < count → SourceFits s rows ids q handed_rows handed_ids highest (get_or plan k 0)
+pub record Planning (s rows ids q handed_rows handed_ids : List ℕ) (highest : ℕ) (plan : List ℕ) : Type 0 where
+  pub few : length plan ≤ most_elements
+  pub fits : (k : ℕ) → k < length plan → SourceFits s rows ids q handed_rows handed_ids highest (get_or plan k 0)
+
+-- the same as the code has it
+abbrev pub HasSource : Inputs → ℕ → Type 0
+HasSource a source =
+    SourceFits a.stored.bytes.now a.stored.elements.rows.now a.stored.elements.ids.now a.handed.bytes.now a.handed.elements.rows.now a.handed.elements.ids.now a.highest source
+
+abbrev pub HasPlan : Inputs → List ℕ → Type 0
+HasPlan a plan = Planning a.stored.bytes.now a.stored.elements.rows.now a.stored.elements.ids.now a.handed.bytes.now a.handed.elements.rows.now a.handed.elements.ids.now a.highest plan
 
 -- ---- a put that was read: the rows and the ids of its m elements stand in the working tables
 
@@ -140,3 +153,9 @@ pub record PutHeld (q rows ids : List ℕ) (m : ℕ) : Type 0 where
   pub most : m ≤ most_elements
   pub stand : RowsStand rows ids m
   pub enters : (j : ℕ) → j < m → Enters q (element_in_row rows ids j)
+
+abbrev pub HoldsStore : Held → Type 0
+HoldsStore x = StoreHeld x.bytes.now x.elements.rows.now x.elements.ids.now x.elements.count
+
+abbrev pub HoldsPut : Held → Type 0
+HoldsPut x = PutHeld x.bytes.now x.elements.rows.now x.elements.ids.now x.elements.count

@@ -5,20 +5,19 @@
 use Rattle.std.specs.Prelude.{◌≡◌, ℕ, false, List, [], length, ltb}
 use Rattle.laws.specs.Pick.{pick}
 use Rattle.numbers.specs.Refusals.{longest_input, over_long}
-use Rattle.numbers.specs.declared.extended_guid.ExtendedGuid.{ExtendedGuid}
+use Rattle.numbers.specs.Results.ExtendedGuid.{ExtendedGuid}
 use Rattle.objects.specs.Types.{sub_request_type, request_type, package_type, plain_bit, with_room}
-use Rattle.objects.specs.Steps.{◌▹◌, value_of, valued, number, skip, id_here, on_id, start_here, run_here, closed, in_run, end_here, next_is, finish}
-use Rattle.objects.specs.declared.reading.Reading.{Reading}
-use Rattle.objects.specs.declared.reading.Reading.TheVariants.{At, Refused}
-use Rattle.objects.specs.declared.reading.ReadingId.{ReadingId}
+use Rattle.objects.specs.Steps.{◌▹◌, value_of, valued, number, skip, id_here, start_here, run_here, closed, in_run, end_here, next_is, finish, on_field}
+use Rattle.objects.specs.Results.Reading.{At, Reading, Refused}
+use Rattle.objects.specs.Results.ReadingId.{ReadingId}
 use Rattle.store.specs.Store.{Walk, walked, package_walk, laid_rows, laid_ids}
 use Rattle.store.specs.declared.element.Strictness.{Strictness}
 use Rattle.request.specs.Filter.{request_padding}
 use Rattle.request.specs.Message.{id_in, put_changes_request, identified, knowledge_part, in_request}
 use Rattle.puts.specs.declared.put.PutFields.{PutFields}
 use Rattle.puts.specs.declared.put.PutHead.{PutHead}
-use Rattle.puts.specs.declared.put.Put.{Put}
-use Rattle.puts.specs.declared.put.Put.TheVariants as put
+use Rattle.puts.specs.Results.Put.{Put}
+use Rattle.puts.specs.Results.Put as put
 
 -- ---- types by number (000, 2.2.1.5)
 
@@ -39,10 +38,10 @@ diagnostic_input_type = 0x8A
 -- behind the flag byte would be left over, 5 (D-86)
 
 abbrev pub expected_field : List ℕ → ReadingId
-expected_field d = id_here d (on_id (id_here d (At 0 0)))
+expected_field d = id_here d (on_field (id_here d (At 0 0)))
 
 unfoldable pub put_fields : List ℕ → PutFields
-put_fields d = record { expected = id_in (expected_field d); last = on_id (expected_field d) ▹ skip d 1 }
+put_fields d = record { expected = id_in (expected_field d); last = on_field (expected_field d) ▹ skip d 1 }
 
 abbrev pub put_start : List ℕ → Reading → Reading
 put_start s c = start_here request_padding s sub_request_type put_changes_type plain_bit with_room c

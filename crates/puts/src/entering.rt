@@ -3,33 +3,27 @@
 ghost use Rattle.std.specs.Prelude.{◌≡◌, ◌+◌, ◌^◌, ◌≤◌, ◌<◌, length};
 ghost use Rattle.laws.specs.Placed.{Lays};
 ghost use Rattle.numbers.specs.Serial.{serial_bytes};
-ghost use Rattle.numbers.specs.declared.serial.Serial.TheVariants.{Numbered};
+ghost use Rattle.numbers.specs.Results.Serial.{Numbered};
 ghost use Rattle.store.specs.Written.{key_guid, written_element, content_in};
 ghost use Rattle.puts.specs.Plan.{inside_from, entering_data, data_length, entering_length, Enters};
 
 use numbers::compact::compact_length;
 use numbers::extended_guid::extended_guid_length;
-use numbers::serial::{Serial, write_serial};
+use numbers::guid::Guid;
+use numbers::serial::write_serial;
 use objects::header_write::start_length;
-use objects::layout::{COMPOUND, ROOM, part};
-use objects::reading::Reading;
+use objects::layout::{COMPOUND, ROOM, ReadObjects, part};
+use objects::reading::ReadFields;
 use request::filter::REQUEST_PADDING;
 use store::element::{ELEMENT, Element, Key, PACKAGE};
-use store::held::{key_guid, named};
+use store::held::named;
 use store::lay::{lay_extended_guid, lay_number, lay_part, lay_start};
 
 // Where what is inside an element begins: behind the data of its start.
 fn inside_from(request: &[u8], x: Element) -> usize
     ensures { result ≡ inside_from request.now x }
 {
-    let o = Reading::At(x.place, 0).start(
-        request,
-        PACKAGE,
-        ELEMENT,
-        COMPOUND,
-        ROOM,
-        REQUEST_PADDING,
-    );
+    let o = Ok((x.place, 0)).start(request, PACKAGE, ELEMENT, COMPOUND, ROOM, REQUEST_PADDING);
     o.skip(request, o.value()).place()
 }
 
@@ -38,8 +32,7 @@ fn data_length(x: Element) -> usize
     requires { x.id.number < 2 ^ 32 }
     ensures { (result ≡ data_length x) × (result ≤ 55) }
 {
-    let id = x.id;
-    extended_guid_length(named(id)) + 25 + compact_length(x.kind)
+    extended_guid_length(named(x.id)) + 25 + compact_length(x.kind)
 }
 
 // How long it is as it enters.
@@ -57,7 +50,7 @@ fn lay_serial(out: &mut [u8], at: usize, k: Key) -> usize
     requires { at + 25 ≤ length out.old }
     ensures { Lays at (serial_bytes (Numbered (key_guid k) k.number)) out.old result out.new }
 {
-    write_serial(&mut out[at..], Serial::Numbered(key_guid(k), k.number));
+    let _ = write_serial(&mut out[at..], Some((Guid::from(k), k.number)));
     at + 25
 }
 
@@ -66,8 +59,7 @@ fn lay_data(out: &mut [u8], at: usize, x: Element, serial: Key) -> usize
     requires { (x.id.number < 2 ^ 32) × (at + length (entering_data serial x) ≤ length out.old) }
     ensures { Lays at (entering_data serial x) out.old result out.new }
 {
-    let id = x.id;
-    let behind_id = lay_extended_guid(out, at, named(id));
+    let behind_id = lay_extended_guid(out, at, named(x.id));
     let behind_serial = lay_serial(out, behind_id, serial);
     lay_number(out, behind_serial, x.kind)
 }

@@ -3,12 +3,12 @@ ghost use Rattle.std.specs.Prelude.{◌≡◌, ◌≤◌, length};
 ghost use Rattle.numbers.specs.Refusals.{longest_input};
 ghost use Rattle.objects.specs.Steps.{Good};
 ghost use Rattle.store.specs.Store.{PackageTo};
-ghost use Rattle.puts.specs.Put.{put_fields, put_changes, flag_fields, additional_flags, optional_bytes, client_knowledge, before_package, put_strictness, put_package, put_head, put_read, ReadsPut};
+ghost use Rattle.puts.specs.Put.{put_fields, put_changes, flag_fields, additional_flags, optional_bytes, client_knowledge, before_package, put_strictness, put_package, put_head, ReadsPut};
 
 use numbers::extended_guid::ExtendedGuid;
 use numbers::refusal::Refusal;
-use objects::layout::{PLAIN, ROOM};
-use objects::reading::Reading;
+use objects::layout::{PLAIN, ROOM, ReadObjects, closed};
+use objects::reading::{FRONT, GoesOn, ReadFields, Reading};
 use request::filter::{REQUEST_PADDING, SUB_REQUEST};
 use request::message::{REQUEST, id_in, identified, in_request, knowledge_part, on_knowledge};
 use store::element::{PACKAGE, Strictness};
@@ -48,16 +48,19 @@ pub struct PutHead {
 
 // What was handed in: the id, the storage index that is expected, how many elements.
 #[derive(Drop)]
-pub enum Put {
-    Handed(u64, ExtendedGuid, usize),
-    Refused(Refusal),
+pub struct Handed {
+    pub id: u64,
+    pub expected: ExtendedGuid,
+    pub count: usize,
 }
+
+pub type Put = Result<Handed, Refusal>;
 
 // Both extended GUIDs and the flags, in the part that their data run is. It is the second that is expected.
 fn put_fields(d: &[u8]) -> PutFields
     ensures { result ≡ put_fields d.now }
 {
-    let index = Reading::At(0, 0).extended_guid(d);
+    let index = FRONT.extended_guid(d);
     let expected = index.on().extended_guid(d);
     PutFields {
         expected: id_in(expected),
@@ -70,11 +73,9 @@ fn put_changes(s: &[u8], c: Reading) -> PutFields
 {
     let o = c.start(s, SUB_REQUEST, PUT_CHANGES, PLAIN, ROOM, REQUEST_PADDING);
     let f = put_fields(o.run(s));
-    let expected = f.expected;
-    let last = f.last;
     PutFields {
-        expected,
-        last: o.closed(s, last),
+        expected: f.expected,
+        last: closed(o, s, f.last),
     }
 }
 
@@ -82,7 +83,7 @@ fn put_changes(s: &[u8], c: Reading) -> PutFields
 fn flag_fields(d: &[u8]) -> Reading
     ensures { result ≡ flag_fields d.now }
 {
-    Reading::At(0, 0).skip(d, 2).number(d, REQUEST_PADDING)
+    FRONT.skip(d, 2).number(d, REQUEST_PADDING)
 }
 
 // The additional flags, which may be absent.
@@ -98,7 +99,7 @@ fn additional_flags(s: &[u8], c: Reading) -> Reading
             ROOM,
             REQUEST_PADDING,
         );
-        return o.closed(s, flag_fields(o.run(s)));
+        return closed(o, s, flag_fields(o.run(s)));
     }
     c
 }
@@ -109,7 +110,7 @@ fn optional_bytes(s: &[u8], c: Reading, kind: u64, n: u64) -> Reading
 {
     if c.next_is(s, kind) {
         let o = c.start(s, SUB_REQUEST, kind, PLAIN, ROOM, REQUEST_PADDING);
-        return o.closed(s, Reading::At(0, 0).skip(o.run(s), n));
+        return closed(o, s, FRONT.skip(o.run(s), n));
     }
     c
 }
@@ -155,20 +156,8 @@ fn put_package(
     if c.next_is(s, PACKAGE) {
         return read_package(s, c, REQUEST, rows, ids, put_strictness());
     }
-    match c {
-        Reading::At(e, _) => Packaged::Holds(e, 0),
-        Reading::Refused(r) => Packaged::Refused(r),
-    }
-}
-
-// The answer, if no fault stands.
-fn answer(c: Reading, id: u64, expected: ExtendedGuid, count: usize) -> Put
-    ensures { result ≡ put_read c id expected count }
-{
-    match c {
-        Reading::At(_, _) => Put::Handed(id, expected, count),
-        Reading::Refused(r) => Put::Refused(in_request(r)),
-    }
+    let (e, _) = c?;
+    Ok((e, 0))
 }
 
 // A put up to its package.
@@ -177,12 +166,10 @@ pub(crate) fn read_put_head(s: &[u8]) -> PutHead
 {
     let a = identified(s, PUT_CHANGES_REQUEST);
     let f = put_changes(s, a);
-    let expected = f.expected;
-    let last = f.last;
     PutHead {
         id: a.value(),
-        expected,
-        behind: before_package(s, last),
+        expected: f.expected,
+        behind: before_package(s, f.last),
     }
 }
 
@@ -199,16 +186,11 @@ pub(crate) fn read_put(
     requires { (length s.now ≤ longest_input) × (head ≡ put_head s.now) }
     ensures { ReadsPut s.now result rows.old rows.new ids.old ids.new }
 {
-    let id = head.id;
-    let expected = head.expected;
-    let behind = head.behind;
-    match put_package(s, behind, rows, ids) {
-        Packaged::Refused(r) => Put::Refused(in_request(r)),
-        Packaged::Holds(e, n) => answer(
-            Reading::At(e, 0).end(s, REQUEST).finish(s),
-            id,
-            expected,
-            n,
-        ),
-    }
+    let (e, count) = put_package(s, head.behind, rows, ids).map_err(in_request)?;
+    Ok((e, 0)).end(s, REQUEST).finish(s).map_err(in_request)?;
+    Ok(Handed {
+        id: head.id,
+        expected: head.expected,
+        count,
+    })
 }

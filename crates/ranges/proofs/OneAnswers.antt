@@ -11,8 +11,8 @@ use Rattle.laws.proofs.OneAnswer.{Telling}
 use Rattle.numbers.proofs.OneAnswers.{values_of}
 use Rattle.talk.specs.declared.range.Range.{Range}
 use Rattle.ranges.specs.RangeTable.{ranges_at, added_to, laid_in, tell_added, FirstNotBefore, Gathers}
-use Rattle.ranges.specs.declared.Added.{Added}
-use Rattle.ranges.specs.declared.Added.TheVariants as added
+use Rattle.ranges.specs.Results.Added.{Added}
+use Rattle.ranges.specs.Results.Added as added
 use Rattle.ranges.specs.declared.Gathered.{Gathered}
 use Rattle.ranges.proofs.RangeRows.{length_rows}
 

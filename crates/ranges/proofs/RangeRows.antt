@@ -9,7 +9,8 @@ use native.Mathlib.Nat.{zero-add}
 use native.Mathlib.Omega.{arith}
 use native.Mathlib.Numerals.{add-one}
 use lib.ListN.{length, take, drop, get_or, length-append, length-drop, take-append-drop}
-use lib.Seq.{drop-cons, drop-drop, take_at, drop_at, get_or-drop, length-take-le}
+use lib.Seq.{drop-cons, drop-drop, take_at, drop_at, length-take-le, paste}
+use Rattle.std.proofs.lemmas.List.{take-take, take-append-le}
 use borrow.Author.Tests.{le-leb, lt-leb}
 use Rattle.laws.proofs.Cases.{impossible}
 use Rattle.talk.specs.Ranges.{is_before, joined, absorb, insert}
@@ -17,7 +18,7 @@ use Rattle.talk.specs.declared.range.Range.{Range}
 use Rattle.talk.proofs.Order.{same_range}
 use Rattle.talk.proofs.Insertion.{insert_none, insert_past, insert_here, absorb_none, absorb_stop, absorb_join}
 use Rattle.ranges.specs.RangeTable.{range_at, ranges_at, range_numbers, numbers_of, laid_ranges, added_to, laid_in, FirstNotBefore}
-use Rattle.ranges.specs.declared.Added.TheVariants.{Rows, Full}
+use Rattle.ranges.specs.Results.Added.{Full, Rows}
 
 -- the first of the rows from k up to count
 pub rows_step : (t : List ℕ) (k count : ℕ) → k < count → ranges_at t k (count - k) ≡ range_at t k ∷ ranges_at t (k + 1) (count - (k + 1))
@@ -138,46 +139,7 @@ numbers_rows t k (suc n) h =
     (ap (λ (l : List ℕ). get_or t (k * 4) 0 ∷ get_or t (k * 4 + 1) 0 ∷ get_or t (k * 4 + 2) 0 ∷ get_or t (k * 4 + 3) 0 ∷ l)
     (numbers_rows t (suc k) n (omega arith) ∙ ap (λ (m : ℕ). take (n * 4) (drop m t)) (sym f)))
 
--- a row past what was written is as it was
-pub row_kept : (t t₀ : List ℕ) (k n : ℕ) → k ≤ n → drop (k * 4) t ≡ drop (k * 4) t₀ → range_at t n ≡ range_at t₀ n
-row_kept t t₀ k n h e =
-    let at : (m : ℕ) → k * 4 ≤ m → get_or t m 0 ≡ get_or t₀ m 0 = λ m p.
-    let f : k * 4 + (m - k * 4) ≡ m = omega arith in
-    rw f at (sym (get_or-drop (k * 4) t (m - k * 4) 0) ∙ ap (λ (l : List ℕ). get_or l (m - k * 4) 0) e ∙ get_or-drop (k * 4) t₀ (m - k * 4) 0) in
-    rw (at (n * 4) (omega arith), at (n * 4 + 1) (omega arith), at (n * 4 + 2) (omega arith), at (n * 4 + 3) (omega arith))
-
--- ---- the turns of `shift`: t' is t after row k was written, and t was t₀ from row k on
-
-module _ (t t₀ t' : List ℕ) (k : ℕ) (y : Range) (fits : k * 4 + 4 ≤ length t) (same : drop (k * 4) t ≡ drop (k * 4) t₀)
-    (put : t' ≡ take (k * 4) t ++ (range_numbers y ++ drop (k * 4 + 4) t)) where
-  put_length : length (take (k * 4) t ++ range_numbers y) ≡ (k + 1) * 4
-  put_length = omega (arith, length-append (take (k * 4) t) (range_numbers y), length-take-le (k * 4) t (omega arith))
-
-  put_split : t' ≡ take (k * 4) t ++ range_numbers y ++ drop (k * 4 + 4) t
-  put_split = put ∙ sym (append_assoc (take (k * 4) t) (range_numbers y) (drop (k * 4 + 4) t))
-
-  put_same : drop (k * 4 + 4) t ≡ drop (k * 4 + 4) t₀
-  put_same = sym (drop-drop 4 (k * 4) t) ∙ ap (drop 4) same ∙ drop-drop 4 (k * 4) t₀
-
-  pub put_rest : drop ((k + 1) * 4) t' ≡ drop ((k + 1) * 4) t₀
-  put_rest =
-      let e : k * 4 + 4 ≡ (k + 1) * 4 = omega arith in
-      ap (drop ((k + 1) * 4)) put_split
-      ∙ drop_at (take (k * 4) t ++ range_numbers y) (drop (k * 4 + 4) t) ((k + 1) * 4) put_length
-      ∙ put_same
-      ∙ ap (λ (m : ℕ). drop m t₀) e
-
-  pub put_turn : (l : List Range) (w : List ℕ) → take (k * 4) t ++ numbers_of (y ∷ l) ≡ w → take ((k + 1) * 4) t' ++ numbers_of l ≡ w
-  unfolding numbers_of
-  put_turn l w inv =
-      ap (λ (p : List ℕ). p ++ numbers_of l)
-      (ap (take ((k + 1) * 4)) put_split ∙ take_at (take (k * 4) t ++ range_numbers y) (drop (k * 4 + 4) t) ((k + 1) * 4) put_length)
-      ∙ append_assoc (take (k * 4) t) (range_numbers y) (numbers_of l)
-      ∙ inv
-
-  pub put_last : (w : List ℕ) → take (k * 4) t ++ numbers_of (y ∷ []) ≡ w → t' ≡ w ++ drop (k * 4 + 4) t₀
-  unfolding numbers_of
-  put_last w inv = put_split ∙ ap (λ (p : List ℕ). p ++ drop (k * 4 + 4) t) inv ∙ ap (λ (r : List ℕ). w ++ r) put_same
+-- ---- `shift`
 
 -- one row put over another: the rows behind it stand
 pub put_over : (t t' : List ℕ) (i j count : ℕ) (x : Range) → j ≡ i + 1 → j ≤ count → count * 4 ≤ length t → t' ≡ take (i * 4) t ++ (range_numbers x ++ drop (i * 4 + 4) t)
@@ -192,6 +154,20 @@ put_over t t' i j count x e h f put =
     ∙ take-append-drop m (drop (j * 4) t) in
     let p : t' ≡ take (i * 4) t ++ (range_numbers x ++ drop (j * 4) t) = rw k at put in
     rw k (p ∙ ap (λ (l : List ℕ). take (i * 4) t ++ (range_numbers x ++ l)) (sym behind))
+
+-- the rows from j on copied behind row i, whose numbers are p, and row i written before them
+pub put_before : (t s t' : List ℕ) (i j count p m : ℕ) (x : Range) → j ≤ count → count * 4 ≤ length t → p + m ≤ length t → p ≡ i * 4 + 4 → m ≡ (count - j) * 4
+    → s ≡ paste t p (drop (j * 4) t) m → t' ≡ take (i * 4) s ++ (range_numbers x ++ drop (i * 4 + 4) s)
+    → t' ≡ take (i * 4) t ++ (numbers_of (x ∷ ranges_at t j (count - j)) ++ drop (i * 4 + 4 + (count - j) * 4) t)
+unfolding numbers_of
+put_before t s t' i j count p m x f h room e g copied put =
+    let rows = take m (drop (j * 4) t) in
+    let split : s ≡ take p t ++ (rows ++ drop (p + m) t) = copied ∙ append_assoc (take p t) rows (drop (p + m) t) in
+    let long : length (take p t) ≡ p = length-take-le p t (omega arith) in
+    let before : take (i * 4) s ≡ take (i * 4) t =
+    ap (take (i * 4)) split ∙ take-append-le (i * 4) (take p t) _ (omega arith) ∙ take-take (i * 4) p t (omega arith) in
+    let behind : drop p s ≡ rows ++ drop (p + m) t = ap (drop p) split ∙ drop_at (take p t) _ p long in
+    rw (numbers_rows t j (count - j) (omega arith), ← g, ← e) (rw (← e, before, behind) at put)
 
 -- ---- what `add_range` answers
 

@@ -5,8 +5,7 @@ use Rattle.laws.specs.Pick.{pick}
 use Rattle.numbers.specs.Refusals.{Told, gives}
 use Rattle.talk.specs.Ranges.{is_before, absorb, Normal}
 use Rattle.talk.specs.declared.range.Range.{Range}
-use Rattle.ranges.specs.declared.Added.{Added}
-use Rattle.ranges.specs.declared.Added.TheVariants.{Rows, Full}
+use Rattle.ranges.specs.Results.Added.{Added, Full, Rows}
 use Rattle.ranges.specs.declared.Gathered.{Gathered}
 
 -- how many numbers a row has: the range's GUID as two, from, to

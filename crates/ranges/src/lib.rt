@@ -2,7 +2,7 @@
 // byte highest; from; to). One range is added, one pair of GUID and number is looked up.
 #![tactic(auto)]
 
-ghost use Rattle.std.specs.Prelude.{◌≡◌, ◌++◌, ◌∷◌, ◌+◌, ◌-◌, ◌*◌, ◌≤◌, min, max, length, take, drop};
+ghost use Rattle.std.specs.Prelude.{◌≡◌, ◌++◌, ◌∷◌, ◌+◌, ◌-◌, ◌*◌, ◌≤◌, length, take, drop};
 ghost use Rattle.talk.specs.Ranges.{is_before, joined, insert, within};
 ghost use Rattle.ranges.specs.RangeTable.{range_width, range_at, ranges_at, RangesStand, range_numbers, numbers_of, added_to, laid_in, FirstNotBefore, Gathers};
 ghost use Rattle.ranges.specs.Ranged.{range_of, knows};
@@ -14,14 +14,10 @@ use talk::range::Range;
 pub const RANGE_WIDTH: usize = 4;
 
 // The number that nothing follows.
-pub const LAST: u64 = 18446744073709551615;
+pub const LAST: u64 = u64::MAX;
 
 // How many rows there are then; or none was added, for want of room.
-#[derive(Drop)]
-pub enum Added {
-    Rows(usize),
-    Full,
-}
+pub type Added = Option<usize>;
 
 // A range, and the first row that it does not meet.
 #[derive(Drop)]
@@ -30,7 +26,7 @@ pub struct Gathered {
     pub next: usize,
 }
 
-// Whether a lies wholly before b, and does not touch it.
+// Whether a lies wholly before b, and does not touch it. (No order of `Ord`: of two that touch, neither lies before the other.)
 fn is_before(a: Range, b: Range) -> bool
     ensures { result ≡ is_before a b }
 {
@@ -40,13 +36,11 @@ fn is_before(a: Range, b: Range) -> bool
     if a.lower != b.lower {
         return a.lower < b.lower;
     }
-    if a.to == LAST {
-        return false;
-    }
-    a.to + 1 < b.from
+    a.to != LAST && a.to + 1 < b.from
 }
 
 // The numbers from `from` to `to` under a GUID.
+#[tactic(auto, unfolding(crate::specs::Ranged::range_of))]
 pub fn range_of(g: Guid, from: u64, to: u64) -> Range
     ensures { result ≡ range_of g from to }
 {
@@ -58,27 +52,16 @@ pub fn range_of(g: Guid, from: u64, to: u64) -> Range
     }
 }
 
-fn least(a: u64, b: u64) -> u64
-    ensures { result ≡ min a b }
-{
-    if b < a { b } else { a }
-}
-
-fn most(a: u64, b: u64) -> u64
-    ensures { result ≡ max a b }
-{
-    if a < b { b } else { a }
-}
-
 // Two ranges that touch or overlap, as one.
+#[tactic(auto, unfolding(talk::specs::Ranges::joined))]
 fn join(a: Range, b: Range) -> Range
     ensures { result ≡ joined a b }
 {
     Range {
         upper: a.upper,
         lower: a.lower,
-        from: least(a.from, b.from),
-        to: most(a.to, b.to),
+        from: a.from.min(b.from),
+        to: a.to.max(b.to),
     }
 }
 
@@ -121,6 +104,7 @@ pub fn rows_before(t: &[u64], count: usize, x: Range) -> usize
     if is_before(range_at(t, last), x) {
         return count;
     }
+    // By hand, as `partition_point` looks at one row more: with it, looking up took 3 to 13 hundredths longer.
     let mut low = 0;
     let mut high = last;
     while low < high {
@@ -140,39 +124,29 @@ pub fn gather(t: &[u64], count: usize, i: usize, x: Range) -> Gathered
     ensures { Gathers t.now count i x result }
 {
     let mut y = x;
-    let mut j = i;
-    while j < count {
+    for j in i..count {
         let z = range_at(t, j);
         if is_before(y, z) {
             return Gathered { range: y, next: j };
         }
         y = join(y, z);
-        j += 1;
     }
-    Gathered { range: y, next: j }
+    Gathered {
+        range: y,
+        next: count,
+    }
 }
 
-// x as row i, and behind it the rows that were j to count: rows move up or down, each read before it is written over.
+// x as row i, and behind it the rows that were j to count: rows move up or down.
 pub fn shift(t: &mut [u64], i: usize, j: usize, count: usize, x: Range)
     requires { (i ≤ j) × (j ≤ count) × (count * range_width ≤ length t.old) × (i * range_width + range_width + (count - j) * range_width ≤ length t.old) }
     ensures { t.new ≡ take (i * range_width) t.old ++ (numbers_of (x ∷ ranges_at t.old j (count - j)) ++ drop (i * range_width + range_width + (count - j) * range_width) t.old) }
 {
-    // One row for another: the rows behind it stand.
-    if j == i + 1 {
-        put_range(t, i, x);
-        return;
+    // Where one row comes for another, the rows behind it stand.
+    if j != i + 1 {
+        t.copy_within(j * RANGE_WIDTH..count * RANGE_WIDTH, (i + 1) * RANGE_WIDTH);
     }
-    let mut k = i;
-    let mut n = j;
-    let mut y = x;
-    while n < count {
-        let z = range_at(t, n);
-        put_range(t, k, y);
-        y = z;
-        k += 1;
-        n += 1;
-    }
-    put_range(t, k, y);
+    put_range(t, i, x);
 }
 
 // A range added to the first `count` rows: the rows are then those with the range inserted; or there is no room, and the
@@ -189,26 +163,18 @@ pub fn add_range(t: &mut [u64], count: usize, x: Range) -> Added
     let moved = count - j;
     let new = i + 1 + moved;
     if t.len() / RANGE_WIDTH < new {
-        return Added::Full;
+        return None;
     }
     shift(t, i, j, count, y);
-    Added::Rows(new)
+    Some(new)
 }
 
 // Whether n under the GUID lies in x.
+#[tactic(auto, unfolding(talk::specs::Ranges::within))]
 fn is_within(x: Range, upper: u64, lower: u64, n: u64) -> bool
     ensures { result ≡ within x upper lower n }
 {
-    if x.upper != upper {
-        return false;
-    }
-    if x.lower != lower {
-        return false;
-    }
-    if n < x.from {
-        return false;
-    }
-    n <= x.to
+    x.upper == upper && x.lower == lower && x.from <= n && n <= x.to
 }
 
 // Whether one of the first `count` rows holds n under the GUID: only the first that does not lie before it can. Ruled out

@@ -3,6 +3,7 @@
 
 ghost use Rattle.std.specs.Prelude.{◌≡◌};
 ghost use Rattle.laws.specs.Placed.{placed};
+ghost use Rattle.numbers.specs.Refusals.{refusal_number};
 ghost use Rattle.report.specs.Report.{numbers_bytes, three_numbers, refusal_report};
 
 use numbers::refusal::Refusal;
@@ -12,24 +13,21 @@ use store::lay::lay_le;
 pub fn put_report(report: &mut [u8], numbers: &[u64])
     ensures { report.new ≡ placed (numbers_bytes numbers.now) report.old }
 {
-    let n = numbers.len();
-    if report.len() / 8 < n {
+    if report.len() / 8 < numbers.len() {
         return;
     }
     let mut at = 0;
-    let mut i = 0;
-    while i < n {
-        at = lay_le(report, at, 8, numbers[i]);
-        i += 1;
+    for x in numbers {
+        at = lay_le(report, at, 8, *x);
     }
 }
 
 // A refusal's own report, and its number.
 pub fn refuse(report: &mut [u8], r: Refusal) -> u64
-    ensures { (result ≡ r.number) × (report.new ≡ placed (refusal_report r) report.old) }
+    ensures { (result ≡ refusal_number r) × (report.new ≡ placed (refusal_report r) report.old) }
 {
     put_report(report, &[r.input as u64, r.place as u64, r.needed as u64]);
-    r.number as u64
+    r.fault.number() as u64
 }
 
 // What is told on success: 0, a place and a length; and 0, the number that such a call returns.

@@ -15,8 +15,7 @@ use Rattle.laws.proofs.Agreement.{Same, same_less, same_on, same_whole}
 use Rattle.laws.proofs.Cases.{by_bool, impossible}
 use Rattle.numbers.specs.declared.refusal.Refusal.{Refusal}
 use Rattle.objects.specs.Steps.{value_of, valued, start_here, run_here, closed_at, in_run, end_here, next_is}
-use Rattle.objects.specs.declared.reading.Reading.{Reading}
-use Rattle.objects.specs.declared.reading.Reading.TheVariants.{At, Refused}
+use Rattle.objects.specs.Results.Reading.{At, Reading, Refused}
 use Rattle.objects.proofs.StepsCarry.{Carries, Gives, carries_then, gives_first, gives_next, gives_value, gives_by, gives_both, carries_by, gives_by_first, gives_by_next, carries_start, gives_next_is, carries_end, carries_run, gives_run, opened_from, gives_other_start, gives_no_start}
 use Rattle.store.specs.declared.element.Key.{Key}
 use Rattle.request.specs.Filter.{filter_fields, one_number, type_part, ids_field, ids_part, kind_part, filter_start, filter_opened, filter_kind, filter_at, filters_from, request_padding}
@@ -191,8 +190,8 @@ filters_stop : (left : ℕ) (s : List ℕ) (p u q v : ℕ) → next_is s 0x47 (A
 unfolding filters_read
 filters_stop left s p u q v e h =
     let x : At p (16 - left) ≡ At q v = sym (none_more left s p u e) ∙ h in
-    let y : p ≡ q = cc in
-    let z : 16 - left ≡ v = cc in
+    let y : p ≡ q = grind arith in
+    let z : 16 - left ≡ v = grind arith in
     record {
       size = 0;
       count = 0;

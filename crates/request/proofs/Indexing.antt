@@ -1,55 +1,21 @@
--- The index of the elements' ids, built row by row: what both tables hold after each row, and what is looked up in them then. It is
--- for `choice::index_ids` and `choice::choose`; nothing that is promised of a choice speaks of it.
+-- The index of the elements' ids, built row by row: what both tables hold after each row. It is for `choice::Index`; nothing that is
+-- promised of a choice speaks of it.
 -- Assumes nothing.
 use mathlib.Core.Path.{◌≡◌, refl, sym, ◌∙◌}
 use mathlib.Core.List.{List}
-use Prim.Native.Nat.{ℕ, zero, suc, ◌+◌, ◌≤◌, ◌<◌}
+use Prim.Native.Nat.{ℕ, suc, ◌+◌, ◌≤◌, ◌<◌}
 use native.Mathlib.Numerals.{add-one}
 use native.Mathlib.Omega.{arith}
-use lib.ListN.{length, get_or, set, length-set}
+use lib.ListN.{length, get_or, set}
 use lib.Seq.{get_or-set_same, get_or-set_other}
-use borrow.Author.Tests.{lt-ltb, le-ltb, eq-eqb, ne_eqb}
-use Rattle.laws.proofs.Cases.{by_lt, by_eq}
+use borrow.Author.Tests.{eq-eqb, ne_eqb}
+use Rattle.laws.proofs.Cases.{by_eq}
 use Rattle.store.specs.Tables.{id_in_row}
 use Rattle.store.proofs.Rows.{mark_lt}
-use Rattle.request.specs.Index.{index_marks, id_mark, heads_with, links_with, index_heads, index_links, last_with, NoHeads, Linked, Indexed}
+use Rattle.request.specs.Index.{index_marks, id_mark, last_with, Linked}
 
--- ---- the tables, row by row
-
-module _ (heads₀ links₀ ids : List ℕ) where
-  length_heads : (n : ℕ) → length (heads_with heads₀ ids n) ≡ length heads₀
-  unfolding heads_with
-  length_heads zero = refl
-  length_heads (suc i) = length-set (heads_with heads₀ ids i) (id_mark ids i) (suc i) ∙ length_heads i
-
-  length_links : (n : ℕ) → length (links_with heads₀ links₀ ids n) ≡ length links₀
-  unfolding links_with
-  length_links zero = refl
-  length_links (suc i) = length-set (links_with heads₀ links₀ ids i) i (get_or (heads_with heads₀ ids i) (id_mark ids i) 0) ∙ length_links i
-
-  -- too many rows
-  pub index_none : (n : ℕ) → length links₀ < n → (heads₀ ≡ index_heads heads₀ links₀ ids n) × (links₀ ≡ index_links heads₀ links₀ ids n)
-  unfolding index_heads index_links
-  index_none n l = rw (lt-ltb (length links₀) n l) (refl, refl)
-
-  module _ {heads links : List ℕ} (i : ℕ) (p : heads ≡ heads_with heads₀ ids i) (q : links ≡ links_with heads₀ links₀ ids i) where
-    -- one row more
-    pub heads_more : (mark : ℕ) → mark ≡ id_mark ids i → set heads mark (i + 1) ≡ heads_with heads₀ ids (i + 1)
-    unfolding heads_with
-    heads_more mark e = rw (add-one i, p, e)
-
-    pub links_more : (mark : ℕ) → mark ≡ id_mark ids i → set links i (get_or heads mark 0) ≡ links_with heads₀ links₀ ids (i + 1)
-    unfolding links_with
-    links_more mark e = rw (add-one i, p, q, e)
-
-    -- all rows
-    pub index_all : (n : ℕ) → i ≡ n → n ≤ length links₀ → (heads ≡ index_heads heads₀ links₀ ids n) × (links ≡ index_links heads₀ links₀ ids n)
-    unfolding index_heads index_links
-    index_all n e l = rw (le-ltb (length links₀) n l, ← e) (p, q)
-
--- ---- what is looked up
-
-linked_start : (heads links ids : List ℕ) → NoHeads heads → Linked heads links ids 0
+-- no row is in them
+pub linked_start : (heads links ids : List ℕ) → ((mark : ℕ) → mark < index_marks → get_or heads mark 0 ≡ 0) → Linked heads links ids 0
 unfolding last_with
 linked_start heads links ids h = record { head = h; link = λ i l. absurd (omega arith) }
 
@@ -78,24 +44,6 @@ module _ {heads links ids : List ℕ} {i : ℕ} (u : Linked heads links ids i) (
       (λ q. rw (q, get_or-set_same links i (get_or heads (id_mark ids i) 0) 0 more) (u.head (id_mark ids i) (mark_low ids i)))
       (λ q. get_or-set_other links i j (get_or heads (id_mark ids i) 0) 0 q ∙ u.link j (omega arith))
 
-  linked_more : Linked (set heads (id_mark ids i) (suc i)) (set links i (get_or heads (id_mark ids i) 0)) ids (suc i)
-  linked_more = record { head = new_head; link = new_link }
-
-module _ (heads links ids : List ℕ) (none : NoHeads heads) (room : index_marks ≤ length heads) where
-  linked_all : (n : ℕ) → n ≤ length links → Linked (heads_with heads ids n) (links_with heads links ids n) ids n
-  unfolding heads_with links_with
-  linked_all zero l = linked_start heads links ids none
-  linked_all (suc i) l =
-      let a = length_heads heads links ids i in
-      let b = length_links heads links ids i in
-      linked_more (linked_all i (omega arith)) (omega arith) (omega arith)
-
-  -- both tables as they are then, where nothing was in the first
-  pub indexed : (n : ℕ) → Indexed (index_heads heads links ids n) (index_links heads links ids n) ids n
-  unfolding index_heads index_links
-  indexed n =
-      by_lt (length links) n
-      (λ l. rw (lt-ltb (length links) n l) (record { room = room; linked = λ m. absurd (omega arith) }))
-      (λ l.
-      let a = length_heads heads links ids n in
-      rw (le-ltb (length links) n l) (record { room = omega arith; linked = λ m. linked_all n l }))
+  -- one row more
+  pub linked_more : (mark : ℕ) → mark ≡ id_mark ids i → Linked (set heads mark (i + 1)) (set links i (get_or heads mark 0)) ids (i + 1)
+  linked_more mark e = rw (add-one i, e) (record { head = new_head; link = new_link })

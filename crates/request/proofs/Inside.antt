@@ -7,8 +7,7 @@ use native.Mathlib.Omega.{arith}
 use lib.Dec.{eqb}
 use Rattle.laws.proofs.Cases.{pick_all}
 use Rattle.objects.specs.Steps.{place_of, value_of, Good}
-use Rattle.objects.specs.declared.reading.Reading.{Reading}
-use Rattle.objects.specs.declared.reading.Reading.TheVariants.{At}
+use Rattle.objects.specs.Results.Reading.{At, Reading}
 use Rattle.objects.proofs.Keep.{good_front, onward_fixed, onward_need, good_place, onward_valued, onward_number, onward_number_is, onward_null_id, onward_id}
 use Rattle.request.specs.Filter.{kind_taken, kind_byte, kind_field, filter_fields, one_number, id_step, ids_from, ids_field, request_padding}
 use Rattle.request.specs.Message.{sub_request_fields, argument_fields}

@@ -14,3 +14,5 @@ pub mod Indexing
 pub mod Following
 pub mod ShortIds
 pub mod ResponseLengths
+pub mod Bits
+pub mod SecondInput

@@ -1,21 +1,22 @@
 -- The calls on a request determine their answers: what is told is known by what tells it, and any two answers allowed are equal.
 -- Assumes nothing.
+use native.Mathlib.Omega.{arith}
 use mathlib.Core.Path.{◌≡◌, sym, ap, ◌∙◌}
 use mathlib.Core.List.{List}
 use Prim.Native.Nat.{ℕ}
+use Rattle.std.specs.Prelude.{Ok}
 use Rattle.laws.proofs.Cases.{impossible}
 use Rattle.laws.proofs.OneAnswer.{Telling}
 use Rattle.numbers.proofs.OneAnswers.{refuses_telling, values_of}
-use Rattle.objects.specs.declared.reading.Reading.{Reading}
+use Rattle.objects.specs.Results.Reading.{Reading}
 use Rattle.request.specs.Choice.{Chooses}
 use Rattle.request.specs.Message.{ReadsRequest, tell_request}
-use Rattle.request.specs.declared.message.Request.{Request}
-use Rattle.request.specs.declared.message.Request.TheVariants.{Asked, Refused}
+use Rattle.request.specs.Results.Request.{Refused, Request}
 
 pub request_telling : Telling tell_request
-request_telling (Asked a b c d e) (Asked f g h i j) q = let v = values_of _ _ q in cc
-request_telling (Asked a b c d e) (Refused r) q = let v = values_of _ _ q in impossible (cc)
-request_telling (Refused r) (Asked f g h i j) q = let v = values_of _ _ q in impossible (cc)
+request_telling (Ok x) (Ok y) q = let v = values_of _ _ q in grind arith
+request_telling (Ok x) (Refused r) q = let v = values_of _ _ q in impossible (cc)
+request_telling (Refused r) (Ok x) q = let v = values_of _ _ q in impossible (cc)
 request_telling (Refused r) (Refused t) q = ap Refused (refuses_telling r t q)
 
 -- the answer, and the table at exit

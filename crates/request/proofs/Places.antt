@@ -13,15 +13,14 @@ use Rattle.laws.proofs.Cases.{pick_all, impossible}
 use Rattle.numbers.specs.Refusals.{longest_input, over_long}
 use Rattle.numbers.specs.declared.refusal.Refusal.{Refusal}
 use Rattle.objects.specs.Steps.{place_of, nothing_open, start_here, run_here, closed, end_here, next_is, finish, Good}
-use Rattle.objects.specs.declared.reading.Reading.{Reading}
-use Rattle.objects.specs.declared.reading.Reading.TheVariants.{At, Refused}
+use Rattle.objects.specs.Results.Reading.{At, Reading, Refused}
 use Rattle.objects.proofs.Keep.{good_front, good_place, onward_fixed, onward_valued, onward_skip, onward_start, onward_start_of_length, onward_closed, onward_inside, onward_end, onward_finish}
 use Rattle.objects.proofs.InputFaults.{InputFault, input_fault}
 use Rattle.store.specs.Knowledge.{most_said, Knowing}
 use Rattle.store.proofs.KnowledgeHeld.{onward_knowledge}
 use Rattle.request.specs.Filter.{filter_fields, one_number, type_part, ids_field, ids_part, kind_part, filter_start, filter_kind, filter_opened, filter_at, filters_from, request_padding}
 use Rattle.request.specs.Message.{versions, request_signature, user_agent, sub_request_fields, sub_request, query_changes, argument_fields, arguments, constraint, knowledge_part, package_part, query_changes_request, identified, constrained_from, constrained, filtered, request_end, request_knowing, in_request, request_answer, request_in}
-use Rattle.request.specs.declared.message.Request.TheVariants as request
+use Rattle.request.specs.Results.Request as request
 use Rattle.request.proofs.Inside.{good_one_number, good_sub_request_fields, good_argument_fields, good_filter_fields, good_ids_field}
 
 -- a start, and its data run read by fields that stay within it

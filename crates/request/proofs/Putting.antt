@@ -11,7 +11,7 @@ use lib.Dec.{eqb}
 use Rattle.laws.specs.Pick.{pick}
 use Rattle.laws.specs.Once.{seen}
 use Rattle.objects.specs.Steps.{place_of, value_of, need, id_here, start_here, run_here}
-use Rattle.objects.specs.declared.reading.Reading.{Reading}
+use Rattle.objects.specs.Results.Reading.{Reading}
 use Rattle.store.specs.Element.{same_key}
 use Rattle.store.specs.declared.element.Key.{Key}
 use Rattle.store.specs.declared.element.Element.{Element}

@@ -14,13 +14,12 @@ use Rattle.laws.proofs.Cases.{pick_all}
 use Rattle.numbers.specs.Refusals.{longest_input}
 use Rattle.objects.specs.Steps.{value_of, valued, start_here, run_here, closed_at, closed, next_is}
 use Rattle.objects.specs.Steps as steps
-use Rattle.objects.specs.declared.reading.Reading.{Reading}
-use Rattle.objects.specs.declared.reading.Reading.TheVariants.{At, Refused}
+use Rattle.objects.specs.Results.Reading.{At, Reading, Refused}
 use Rattle.talk.specs.Ranges.{Normal, AllFit}
 use Rattle.store.specs.Knowledge.{most_said, said_numbers, Knowing}
 use Rattle.store.proofs.KnowledgeFits.{number_fits, run_bytes, knowledge_fits}
 use Rattle.request.specs.Message.{versions, request_signature, user_agent, sub_request_fields, sub_request, query_changes_request, identified, knowledge_part, filtered, request_knowing, request_in}
-use Rattle.request.specs.declared.message.Request.TheVariants as request
+use Rattle.request.specs.Results.Request as request
 use Rattle.request.proofs.Whole.{request_table_free, request_held, asked_id}
 
 -- ---- the id

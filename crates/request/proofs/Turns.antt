@@ -7,7 +7,7 @@ use Prim.Native.Nat.{ℕ, zero, suc, ◌+◌, ◌-◌, ◌<◌, ◌≤◌}
 use native.Mathlib.Omega.{arith}
 use borrow.Author.Tests.{eq-eqb, ne_eqb}
 use Rattle.objects.specs.Steps.{place_of, need, start_here, valued, next_is}
-use Rattle.objects.specs.declared.reading.Reading.{Reading}
+use Rattle.objects.specs.Results.Reading.{Reading}
 use Rattle.request.specs.Filter.{id_step, ids_from, filter_at, filters_from, request_padding}
 
 -- ---- ids: i of n are read

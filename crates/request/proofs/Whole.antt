@@ -12,19 +12,18 @@ use Rattle.laws.proofs.Cases.{by_bool, impossible}
 use Rattle.numbers.specs.Refusals.{longest_input, over_long}
 use Rattle.numbers.specs.declared.refusal.Refusal.{Refusal}
 use Rattle.objects.specs.Steps.{place_of, value_of, valued, start_here, end_here, next_is, finish}
-use Rattle.objects.specs.declared.reading.Reading.{Reading}
-use Rattle.objects.specs.declared.reading.Reading.TheVariants.{At, Refused}
+use Rattle.objects.specs.Results.Reading.{At, Reading, Refused}
 use Rattle.talk.specs.Ranges.{Normal}
 use Rattle.ranges.specs.RangeTable.{ranges_at}
 use Rattle.store.specs.Knowledge.{most_said, said_numbers, knowledge_answer, ReadsKnowledge}
-use Rattle.store.specs.declared.knowledge.ReadKnowledge.{ReadKnowledge}
+use Rattle.store.specs.Results.ReadKnowledge.{ReadKnowledge}
 use Rattle.store.proofs.KnowledgeHeld.{Held, knowledge_held}
 use Rattle.store.proofs.TableFree.{Alike, table_free}
 use Rattle.request.specs.Filter.{filter_opened, filter_at, filters_from, request_padding}
 use Rattle.request.specs.Meaning.{filter_read, filters_read}
 use Rattle.request.specs.Message.{knowledge_part, package_part, query_changes_request, identified, constrained, filtered, request_end, request_knowing, in_request, request_answer, on_knowledge, rows_known, request_in, filters_of, ReadsRequest}
-use Rattle.request.specs.declared.message.Request.{Request}
-use Rattle.request.specs.declared.message.Request.TheVariants as request
+use Rattle.request.specs.Results.Request.{Request}
+use Rattle.request.specs.Results.Request as request
 
 -- ---- its length
 
@@ -102,7 +101,7 @@ from_place s (Refused r) = rw (none_after s r)
 asked_parts : (c : Reading) (a b p n m a' b' p' n' m' : ℕ) → request_answer c a b p n m ≡ request.Asked a' b' p' n' m'
     → (p ≡ p') × (n ≡ n') × (m ≡ m') × (a ≡ a')
 unfolding request_answer
-asked_parts (At e v) a b p n m a' b' p' n' m' h = (cc, cc, cc, cc)
+asked_parts (At e v) a b p n m a' b' p' n' m' h = (grind arith, grind arith, grind arith, grind arith)
 asked_parts (Refused r) a b p n m a' b' p' n' m' h = impossible (cc)
 
 module _ (s t : List ℕ) (a b p n m : ℕ) (h : request_in s t ≡ request.Asked a b p n m) where

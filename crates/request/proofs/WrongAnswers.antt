@@ -17,8 +17,7 @@ use Rattle.objects.specs.Nesting.{run_at}
 use Rattle.objects.specs.Steps.{value_of, need, number, number_is, null_id, valued, fixed_in, skip, start_here, length_is, start_of_length, run_here, closed_at, inside, end_here, next_is, finish, place_of}
 use Rattle.request.specs.Filter.{filters_from}
 use Rattle.request.specs.Message.{versions, user_agent, sub_request_fields, sub_request, query_changes, argument_fields, arguments, constraint, knowledge_part, package_part, identified, constrained_from, request_end, request_knowing, in_request, request_answer, request_in, ReadsRequest, tell_request}
-use Rattle.request.specs.declared.message.Request.{Request}
-use Rattle.request.specs.declared.message.Request.TheVariants.{Asked, Refused}
+use Rattle.request.specs.Results.Request.{Asked, Refused, Request}
 
 -- an empty request lacks its version: 2, and not 7
 version_first : ReadsRequest [] (7 ∷ []) (Refused (in_request (fault_at 7 0))) (7 ∷ []) → ⊥

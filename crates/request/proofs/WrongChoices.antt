@@ -6,7 +6,7 @@ use Rattle.laws.proofs.Cases.{impossible}
 use Rattle.laws.specs.Bytes.{le}
 use Rattle.objects.specs.Steps.{value_of, need, fixed_in, start_here, run_here}
 use Rattle.objects.specs.Header.{header_at, header_of, sized, start_of, length_at}
-use Rattle.objects.specs.declared.reading.Reading.TheVariants.{At}
+use Rattle.objects.specs.Results.Reading.{At}
 use Rattle.request.specs.Filter.{kind_taken, filter_fields}
 use Rattle.request.specs.Meaning.{filter_read, filters_read, matches, set_by, left_in, lets_in}
 use Rattle.store.specs.Tables.{elements_in_rows}

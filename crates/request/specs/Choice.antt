@@ -5,7 +5,7 @@ use Rattle.laws.specs.Pick.{pick}
 use Rattle.laws.specs.Once.{seen}
 use Rattle.objects.specs.Types.{filter_type, filter_of_ids_type, plain_bit, with_room}
 use Rattle.objects.specs.Steps.{value_of, start_here, run_here}
-use Rattle.objects.specs.declared.reading.Reading.{Reading}
+use Rattle.objects.specs.Results.Reading.{Reading}
 use Rattle.store.specs.Element.{same_key}
 use Rattle.store.specs.Tables.{elements_in}
 use Rattle.store.specs.declared.element.Key.{Key}

@@ -6,10 +6,9 @@ use Rattle.std.specs.Prelude.{ℕ, zero, suc, ◌-◌, Bool, true, false, List, 
 use Rattle.laws.specs.Pick.{pick}
 use Rattle.numbers.specs.Compact.{padding_refused}
 use Rattle.objects.specs.Types.{filter_type, filter_of_type_type, plain_bit, with_room, filter_of_ids_type, sub_request_type, compound_bit, no_room}
-use Rattle.objects.specs.Steps.{◌▹◌, place_of, value_of, need, fixed_in, id_here, on_id, start_here, run_here, closed, in_run, end_here, next_is, valued}
+use Rattle.objects.specs.Steps.{◌▹◌, place_of, value_of, need, fixed_in, id_here, start_here, run_here, closed, in_run, end_here, next_is, valued, on_field}
 use Rattle.objects.specs.Steps as steps
-use Rattle.objects.specs.declared.reading.Reading.{Reading}
-use Rattle.objects.specs.declared.reading.Reading.TheVariants.{At}
+use Rattle.objects.specs.Results.Reading.{At, Reading}
 use Rattle.request.specs.declared.filter.FilterFields.{FilterFields}
 
 -- "Refusals: 3 for padding only in requests, at the same place" (document 02, Q-10): in every part of a request, what is passed over
@@ -51,7 +50,7 @@ type_part s c = c ▹ start_here request_padding s filter_type filter_of_type_ty
 -- Data Element IDs: their count, and so many extended GUIDs (000, 2.2.1.8). "9 .. 64 ids in a filter" falls on the 65th id, after
 -- its own 2 and 3 (D-17)
 abbrev pub id_step : List ℕ → Reading → Reading
-id_step d c = on_id (id_here d c)
+id_step d c = on_field (id_here d c)
 
 unfoldable pub ids_from : ℕ → List ℕ → ℕ → Reading → Reading
 ids_from zero d n c = pick (eqb n 0) c (need false 9 (place_of c) (id_step d c))

@@ -1,3 +1,4 @@
+pub mod Results
 pub mod Filter
 pub mod ShortId
 pub mod Meaning

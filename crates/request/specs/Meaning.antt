@@ -4,12 +4,12 @@
 use Rattle.std.specs.Prelude.{ℕ, zero, suc, ◌-◌, Bool, true, false, List, [], ◌∷◌, ◌++◌, map, eqb}
 use Rattle.laws.specs.Pick.{pick}
 use Rattle.laws.specs.Once.{seen}
-use Rattle.numbers.specs.declared.extended_guid.ExtendedGuid.TheVariants as id
+use Rattle.numbers.specs.Results.ExtendedGuid as id
 use Rattle.objects.specs.Types.{filter_type, filter_of_ids_type, plain_bit, with_room}
 use Rattle.objects.specs.Steps.{value_of, id_here, start_here, run_here}
-use Rattle.objects.specs.declared.reading.Reading.{Reading}
-use Rattle.objects.specs.declared.reading.ReadingId.{ReadingId}
-use Rattle.objects.specs.declared.reading.ReadingId.TheVariants as id'
+use Rattle.objects.specs.Results.Reading.{Reading}
+use Rattle.objects.specs.Results.ReadingId.{ReadingId}
+use Rattle.objects.specs.Results.ReadingId as id'
 use Rattle.store.specs.Element.{key_of, same_key}
 use Rattle.store.specs.declared.element.Key.{Key}
 use Rattle.store.specs.declared.element.Element.{Element}

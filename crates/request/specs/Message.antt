@@ -2,27 +2,26 @@
 -- each. "Constraint, filters, knowledge and package may be absent, nothing else": these begin with `next_is`. Padding is refused in every
 -- part (`request_padding`). A put has the same front, up to the sub-request's fields.
 -- Assumes nothing.
-use Rattle.std.specs.Prelude.{◌≡◌, ℕ, ◌%◌, List, [], ◌∷◌, length, ltb, eqb}
+use Rattle.std.specs.Prelude.{◌≡◌, ℕ, ◌%◌, List, [], ◌∷◌, length, ltb, eqb, Ok}
 use Rattle.laws.specs.Pick.{pick}
 use Rattle.numbers.specs.Refusals.{Told, gives, refuses, longest_input, over_long}
 use Rattle.numbers.specs.declared.refusal.Refusal.{Refusal}
-use Rattle.numbers.specs.declared.extended_guid.ExtendedGuid.{ExtendedGuid}
-use Rattle.numbers.specs.declared.extended_guid.ExtendedGuid.TheVariants as id
+use Rattle.numbers.specs.Results.ExtendedGuid.{ExtendedGuid}
+use Rattle.numbers.specs.Results.ExtendedGuid as id
 use Rattle.objects.specs.Types.{request_type, user_agent_type, compound_bit, with_room, sub_request_type, query_changes_type, plain_bit, arguments_type, constraint_type, knowledge_type, package_type}
 use Rattle.objects.specs.Steps.{◌▹◌, nothing_open, place_of, value_of, valued, need, fixed_in, number, number_is, null_id, skip, start_here, start_of_length, in_run, inside, end_here, next_is, finish}
-use Rattle.objects.specs.declared.reading.Reading.{Reading}
-use Rattle.objects.specs.declared.reading.Reading.TheVariants.{At, Refused}
-use Rattle.objects.specs.declared.reading.ReadingId.{ReadingId}
-use Rattle.objects.specs.declared.reading.ReadingId.TheVariants as id'
+use Rattle.objects.specs.Results.Reading.{At, Reading, Refused}
+use Rattle.objects.specs.Results.ReadingId.{ReadingId}
+use Rattle.objects.specs.Results.ReadingId as id'
 use Rattle.talk.specs.Ranges.{Normal}
 use Rattle.ranges.specs.RangeTable.{ranges_at}
 use Rattle.store.specs.Knowledge.{most_said, Knowing, knowing, knowledge_at}
-use Rattle.store.specs.declared.knowledge.ReadKnowledge.{ReadKnowledge}
-use Rattle.store.specs.declared.knowledge.ReadKnowledge.TheVariants as read
+use Rattle.store.specs.Results.ReadKnowledge.{ReadKnowledge}
+use Rattle.store.specs.Results.ReadKnowledge as read
 use Rattle.request.specs.Filter.{one_number, filters_from, request_padding}
 use Rattle.request.specs.Meaning.{Filter, filters_read}
-use Rattle.request.specs.declared.message.Request.{Request}
-use Rattle.request.specs.declared.message.Request.TheVariants as request
+use Rattle.request.specs.Results.Request.{Request}
+use Rattle.request.specs.Results.Request as request
 
 -- "version at least 12, minimum version at most 12", and a signature: a request has its own, and so has an answer
 unfoldable pub versions : ℕ → List ℕ → Reading
@@ -112,7 +111,7 @@ request_knowing s t = pick (ltb longest_input (length s)) (knowing [] t most_sai
 -- ---- what reading answers: a fault of the request is one of the second input
 
 abbrev pub in_request : Refusal → Refusal
-in_request r = record { number = r.number; input = 1; place = r.place; needed = r.needed }
+in_request r = record { fault = r.fault; input = 1; place = r.place; needed = r.needed }
 
 -- the id, the limit, where the filters stand, how many they are, and how many ranges are known
 unfoldable pub request_answer : Reading → ℕ → ℕ → ℕ → ℕ → ℕ → Request
@@ -133,7 +132,7 @@ ReadsRequest s t r exit =
     × Normal (request_knowing s t).ranges
 
 abbrev pub tell_request : Request → Told
-tell_request (request.Asked id limit place count rows) = gives (id ∷ limit ∷ place ∷ count ∷ rows ∷ [])
+tell_request (Ok x) = gives (x.id ∷ x.limit ∷ x.place ∷ x.count ∷ x.known ∷ [])
 tell_request (request.Refused r) = refuses r
 
 -- ---- as the code goes on from a knowledge that was read: behind it, and with the number of its ranges

@@ -1,11 +1,13 @@
 // Filters, read one at a time: kind and operation, and the object that the kind has inside. Padding is refused, as in all of a request.
-ghost use Rattle.std.specs.Prelude.{◌≡◌};
-ghost use Rattle.request.specs.Filter.{kind_taken, kind_field, filter_fields, one_number, type_part, id_step, ids_from, ids_field, ids_part, kind_part, filter_at, filters_from};
-ghost use Rattle.request.specs.ShortId.{short_id};
+ghost use Rattle.std.specs.Prelude.{◌≡◌, IfSome};
+ghost use Rattle.request.specs.Filter.{kind_taken, kind_field, filter_start, filter_opened, filter_fields, one_number, type_part, id_step, ids_from, ids_field, ids_part, kind_part, filter_at, filters_from};
+ghost use Rattle.objects.specs.Steps.{run_here};
+ghost use Rattle.request.specs.ShortId.{Seen};
 
 use numbers::compact::PADDING_REFUSED;
-use objects::layout::{COMPOUND, NO_ROOM, PLAIN, ROOM};
-use objects::reading::Reading;
+use numbers::refusal::Fault;
+use objects::layout::{COMPOUND, NO_ROOM, PLAIN, ROOM, ReadObjects, closed};
+use objects::reading::{FRONT, GoesOn, ReadFields, Reading};
 
 // The types of the objects.
 pub const SUB_REQUEST: u64 = 0x42;
@@ -39,32 +41,28 @@ pub struct FilterFields {
     pub last: Reading,
 }
 
+#[tactic(auto, unfolding(crate::specs::Filter::kind_taken))]
 fn kind_taken(k: u64) -> bool
     ensures { result ≡ kind_taken k }
 {
-    if k == ALL {
-        return true;
-    }
-    if k == OF_TYPE {
-        return true;
-    }
-    k == WITH_IDS
+    matches!(k, ALL | OF_TYPE | WITH_IDS)
 }
 
 // The kind, in the part that the filter's data run is.
 fn kind_field(d: &[u8]) -> Reading
     ensures { result ≡ kind_field d.now }
 {
-    let k = Reading::At(0, 0).fixed_in(d, 1, 0, 255, 8);
-    k.need(kind_taken(k.value()), 8, 0)
+    let k = FRONT.fixed_in(d, 1, 0, 255, Fault::NotServed);
+    k.need(kind_taken(k.value()), Fault::NotServed, 0)
 }
 
 // Both bytes.
+#[tactic(auto, unfolding(crate::specs::Filter::filter_fields))]
 pub(crate) fn filter_fields(d: &[u8]) -> FilterFields
     ensures { result ≡ filter_fields d.now }
 {
     let k = kind_field(d);
-    let last = k.fixed_in(d, 1, 0, 1, 8);
+    let last = k.fixed_in(d, 1, 0, 1, Fault::NotServed);
     FilterFields {
         kind: k.value(),
         operation: last.value(),
@@ -73,58 +71,49 @@ pub(crate) fn filter_fields(d: &[u8]) -> FilterFields
 }
 
 // A data run of one number.
+#[tactic(auto, unfolding(crate::specs::Filter::one_number))]
 pub(crate) fn one_number(d: &[u8]) -> Reading
     ensures { result ≡ one_number d.now }
 {
-    Reading::At(0, 0).number(d, REQUEST_PADDING)
+    FRONT.number(d, REQUEST_PADDING)
 }
 
 // The type that a filter of that kind has inside.
+#[tactic(auto, using(crate::proofs::Inside::good_one_number), unfolding(crate::specs::Filter::type_part))]
 pub(crate) fn type_part(s: &[u8], c: Reading) -> Reading
     ensures { result ≡ type_part s.now c }
 {
     let o = c.start(s, FILTER, FILTER_TYPE, PLAIN, ROOM, REQUEST_PADDING);
-    o.closed(s, one_number(o.run(s)))
+    closed(o, s, one_number(o.run(s)))
 }
 
 // How long the id at the front of a part of 18 bytes or more is, where that is seen without reading it: in the form of 17 bytes, and in
-// that of 18 where the number is in the form's range, as it is 32 or more if its upper byte is 8 or more. Else 0.
-fn short_id(s: &[u8]) -> usize
-    ensures { result ≡ short_id s.now }
+// that of 18 where the number is in the form's range, as it is 32 or more if its upper byte is 8 or more.
+#[tactic(auto, using(crate::proofs::ShortIds::seen_17, crate::proofs::ShortIds::seen_18))]
+fn short_id(s: &[u8]) -> Option<usize>
+    ensures { IfSome result (Seen s.now) }
 {
     if s.len() < 18 {
-        return 0;
+        return None;
     }
-    let zeros = u8::trailing_zeros(s[0]);
-    if zeros == 2 {
-        return 17;
+    match s[0].trailing_zeros() {
+        2 => Some(17),
+        5 if 8 <= s[1] => Some(18),
+        _ => None,
     }
-    if zeros != 5 {
-        return 0;
-    }
-    if s[1] < 8 {
-        return 0;
-    }
-    18
 }
 
 // Past the id at c. Nobody asks for its GUID here, so where its length is seen the GUID is not read.
 fn past_id(d: &[u8], c: Reading) -> Reading
     ensures { result ≡ id_step d.now c }
 {
-    match c {
-        Reading::Refused(r) => Reading::Refused(r),
-        Reading::At(at, _) => {
-            if d.len() < at {
-                return c.extended_guid(d).on();
-            }
-            let n = short_id(&d[at..]);
-            if n == 0 {
-                return c.extended_guid(d).on();
-            }
-            Reading::At(at + n, 0)
-        }
+    if let Ok((at, _)) = c
+        && let Some(rest) = d.get(at..)
+        && let Some(n) = short_id(rest)
+    {
+        return Ok((at + n, 0));
     }
+    c.extended_guid(d).on()
 }
 
 // n ids, from c on.
@@ -132,19 +121,18 @@ fn ids_from(d: &[u8], n: u64, c: Reading) -> Reading
     ensures { result ≡ ids_from 64 d.now n c }
 {
     let mut at = c;
-    let mut i = 0;
-    while i < n {
+    for i in 0..n {
         let next = past_id(d, at);
         if i == MOST_IDS {
-            return next.need(false, 9, at.place());
+            return next.need(false, Fault::TooMany, at.place());
         }
         at = next;
-        i += 1;
     }
     at
 }
 
 // The count of ids, and the ids.
+#[tactic(auto, unfolding(crate::specs::Filter::ids_field))]
 fn ids_field(d: &[u8]) -> Reading
     ensures { result ≡ ids_field d.now }
 {
@@ -153,35 +141,47 @@ fn ids_field(d: &[u8]) -> Reading
 }
 
 // The ids that a filter of that kind has inside.
+#[tactic(auto, using(crate::proofs::Inside::good_ids_field), unfolding(crate::specs::Filter::ids_part))]
 fn ids_part(s: &[u8], c: Reading) -> Reading
     ensures { result ≡ ids_part s.now c }
 {
     let o = c.start(s, FILTER, FILTER_IDS, PLAIN, ROOM, REQUEST_PADDING);
-    o.closed(s, ids_field(o.run(s)))
+    closed(o, s, ids_field(o.run(s)))
 }
 
 // What a filter of this kind has inside.
+#[tactic(auto, unfolding(crate::specs::Filter::kind_part))]
 fn kind_part(s: &[u8], kind: u64, c: Reading) -> Reading
     ensures { result ≡ kind_part s.now kind c }
 {
-    if kind == OF_TYPE {
-        return type_part(s, c);
+    match kind {
+        OF_TYPE => type_part(s, c),
+        WITH_IDS => ids_part(s, c),
+        _ => c,
     }
-    if kind == WITH_IDS {
-        return ids_part(s, c);
-    }
-    c
 }
 
-// The filter that begins here.
-fn filter_at(s: &[u8], c: Reading) -> Reading
-    ensures { result ≡ filter_at s.now c }
+// The filter that begins here, read as far as behind its two bytes.
+#[tactic(auto, using(crate::proofs::Inside::good_filter_fields), unfolding(crate::specs::Filter::filter_opened))]
+pub(crate) fn open_filter(s: &[u8], c: Reading) -> FilterFields
+    ensures { result ≡ record (filter_fields (run_here s.now (filter_start s.now c))) { last = filter_opened s.now c } }
 {
     let o = c.start(s, SUB_REQUEST, FILTER, COMPOUND, ROOM, REQUEST_PADDING);
     let f = filter_fields(o.run(s));
-    let last = f.last;
-    let k = o.closed(s, last);
-    kind_part(s, f.kind, k).end(s, FILTER)
+    FilterFields {
+        kind: f.kind,
+        operation: f.operation,
+        last: closed(o, s, f.last),
+    }
+}
+
+// The filter that begins here.
+#[tactic(auto, unfolding(crate::specs::Filter::filter_at))]
+fn filter_at(s: &[u8], c: Reading) -> Reading
+    ensures { result ≡ filter_at s.now c }
+{
+    let f = open_filter(s, c);
+    kind_part(s, f.kind, f.last).end(s, FILTER)
 }
 
 // The filters; the number is how many they are.
@@ -189,13 +189,14 @@ pub fn read_filters(s: &[u8], c: Reading) -> Reading
     ensures { result ≡ filters_from 16 s.now c }
 {
     let mut at = c;
-    let mut n = 0;
-    while at.next_is(s, FILTER) {
-        if n == MOST_FILTERS {
-            return at.start(s, SUB_REQUEST, FILTER, COMPOUND, NO_ROOM, REQUEST_PADDING);
+    for n in 0..MOST_FILTERS {
+        if !at.next_is(s, FILTER) {
+            return at.valued(n);
         }
         at = filter_at(s, at);
-        n += 1;
     }
-    at.valued(n)
+    if at.next_is(s, FILTER) {
+        return at.start(s, SUB_REQUEST, FILTER, COMPOUND, NO_ROOM, REQUEST_PADDING);
+    }
+    at.valued(MOST_FILTERS)
 }

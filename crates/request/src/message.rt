@@ -5,9 +5,9 @@ ghost use Rattle.request.specs.Message.{versions, id_in, user_agent, sub_request
 
 use crate::filter::{REQUEST_PADDING, SUB_REQUEST, one_number, read_filters};
 use numbers::extended_guid::ExtendedGuid;
-use numbers::refusal::{LONGEST_INPUT, Refusal, over_long};
-use objects::layout::{COMPOUND, NOTHING, PLAIN, ROOM};
-use objects::reading::{Reading, ReadingId};
+use numbers::refusal::{Fault, LONGEST_INPUT, Refusal, over_long};
+use objects::layout::{COMPOUND, NOTHING, PLAIN, ROOM, ReadObjects, closed};
+use objects::reading::{FRONT, ReadFields, Reading, ReadingId};
 use store::element::PACKAGE;
 use store::knowledge::{KNOWLEDGE, MOST_SAID, ReadKnowledge, SAID_NUMBERS, read_knowledge};
 
@@ -29,7 +29,7 @@ pub const QUERY_CHANGES_REQUEST: u64 = 2;
 pub const SIGNATURE: u64 = 0x9B069439F329CF9C;
 
 // The limit where there is no constraint.
-pub const NO_LIMIT: u64 = 0xFFFFFFFFFFFFFFFF;
+pub const NO_LIMIT: u64 = u64::MAX;
 
 // Levels left inside the user agent and the package, and inside a specialized knowledge of another kind.
 const LEVELS_INSIDE: usize = 14;
@@ -38,32 +38,40 @@ pub const KNOWLEDGE_LEVELS: usize = 12;
 
 // What was asked: the id, the limit, where the filters stand, how many they are, and how many ranges are known.
 #[derive(Drop)]
-pub enum Request {
-    Asked(u64, u64, usize, u64, usize),
-    Refused(Refusal),
+pub struct Query {
+    pub id: u64,
+    pub limit: u64,
+    pub place: usize,
+    pub count: u64,
+    pub known: usize,
 }
 
+pub type Request = Result<Query, Refusal>;
+
 // The versions, and this signature.
+#[tactic(auto, unfolding(crate::specs::Message::versions))]
 pub fn versions(s: &[u8], signature: u64) -> Reading
     ensures { result ≡ versions signature s.now }
 {
-    Reading::At(0, 0)
-        .fixed_in(s, 2, 12, 0xFFFF, 7)
-        .fixed_in(s, 2, 0, 12, 7)
-        .fixed_in(s, 8, signature, signature, 7)
+    FRONT
+        .fixed_in(s, 2, 12, 0xFFFF, Fault::WrongVersion)
+        .fixed_in(s, 2, 0, 12, Fault::WrongVersion)
+        .fixed_in(s, 8, signature, signature, Fault::WrongVersion)
 }
 
 // The extended GUID that was read; null after a fault.
+#[tactic(auto, unfolding(crate::specs::Message::id_in))]
 pub fn id_in(c: ReadingId) -> ExtendedGuid
     ensures { result ≡ id_in c }
 {
     match c {
-        ReadingId::At(_, x) => x,
-        ReadingId::Refused(_) => ExtendedGuid::Null,
+        Ok((_, x)) => x,
+        Err(_) => None,
     }
 }
 
 // The start of the request, and the user agent.
+#[tactic(auto, unfolding(crate::specs::Message::user_agent))]
 fn user_agent(s: &[u8], c: Reading) -> Reading
     ensures { result ≡ user_agent s.now c }
 {
@@ -73,22 +81,25 @@ fn user_agent(s: &[u8], c: Reading) -> Reading
 }
 
 // Id, this type and priority of the sub-request, in the part that its data run is.
+#[tactic(auto, unfolding(crate::specs::Message::sub_request_fields))]
 fn sub_request_fields(d: &[u8], kind: u64) -> Reading
     ensures { result ≡ sub_request_fields kind d.now }
 {
-    let id = Reading::At(0, 0).number(d, REQUEST_PADDING);
-    id.number_is(d, kind, 8, REQUEST_PADDING)
+    let id = FRONT.number(d, REQUEST_PADDING);
+    id.number_is(d, kind, Fault::NotServed, REQUEST_PADDING)
         .number(d, REQUEST_PADDING)
         .valued(id.value())
 }
 
+#[tactic(auto, using(crate::proofs::Inside::good_sub_request_fields), unfolding(crate::specs::Message::sub_request))]
 fn sub_request(s: &[u8], c: Reading, kind: u64) -> Reading
     ensures { result ≡ sub_request kind s.now c }
 {
     let o = c.start(s, REQUEST, SUB_REQUEST, COMPOUND, ROOM, REQUEST_PADDING);
-    o.closed(s, sub_request_fields(o.run(s), kind))
+    closed(o, s, sub_request_fields(o.run(s), kind))
 }
 
+#[tactic(auto, unfolding(crate::specs::Message::query_changes))]
 fn query_changes(s: &[u8], c: Reading) -> Reading
     ensures { result ≡ query_changes s.now c }
 {
@@ -105,35 +116,39 @@ fn query_changes(s: &[u8], c: Reading) -> Reading
 }
 
 // Flags and cell ID, in the part that the arguments' data run is.
+#[tactic(auto, unfolding(crate::specs::Message::argument_fields))]
 fn argument_fields(d: &[u8]) -> Reading
     ensures { result ≡ argument_fields d.now }
 {
-    let flags = Reading::At(0, 0).fixed_in(d, 1, 0, 255, 8);
+    let flags = FRONT.fixed_in(d, 1, 0, 255, Fault::NotServed);
     flags
-        .need(flags.value() % 4 == 3, 8, 0)
-        .null_id(d, 8)
-        .null_id(d, 8)
+        .need(flags.value() % 4 == 3, Fault::NotServed, 0)
+        .null_id(d, Fault::NotServed)
+        .null_id(d, Fault::NotServed)
 }
 
+#[tactic(auto, using(crate::proofs::Inside::good_argument_fields), unfolding(crate::specs::Message::arguments))]
 fn arguments(s: &[u8], c: Reading) -> Reading
     ensures { result ≡ arguments s.now c }
 {
     let o = c.start(s, SUB_REQUEST, ARGUMENTS, PLAIN, ROOM, REQUEST_PADDING);
-    o.closed(s, argument_fields(o.run(s)))
+    closed(o, s, argument_fields(o.run(s)))
 }
 
 // The constraint, which may be absent.
+#[tactic(auto, using(crate::proofs::Inside::good_one_number), unfolding(crate::specs::Message::constraint))]
 fn constraint(s: &[u8], c: Reading) -> Reading
     ensures { result ≡ constraint s.now c }
 {
     if c.next_is(s, CONSTRAINT) {
         let o = c.start(s, SUB_REQUEST, CONSTRAINT, PLAIN, ROOM, REQUEST_PADDING);
-        return o.closed(s, one_number(o.run(s)));
+        return closed(o, s, one_number(o.run(s)));
     }
     c.valued(NO_LIMIT)
 }
 
 // The package, which may be absent: it is passed over.
+#[tactic(auto, unfolding(crate::specs::Message::package_part))]
 fn package_part(s: &[u8], c: Reading) -> Reading
     ensures { result ≡ package_part s.now c }
 {
@@ -147,6 +162,7 @@ fn package_part(s: &[u8], c: Reading) -> Reading
 }
 
 // Up to the fields of a sub-request of this type.
+#[tactic(auto, unfolding(crate::specs::Message::identified))]
 pub fn identified(s: &[u8], kind: u64) -> Reading
     ensures { result ≡ identified kind s.now }
 {
@@ -154,6 +170,7 @@ pub fn identified(s: &[u8], kind: u64) -> Reading
 }
 
 // From there to the constraint.
+#[tactic(auto, unfolding(crate::specs::Message::constrained_from))]
 fn constrained(s: &[u8], c: Reading) -> Reading
     ensures { result ≡ constrained_from s.now c }
 {
@@ -161,6 +178,7 @@ fn constrained(s: &[u8], c: Reading) -> Reading
 }
 
 // From behind the knowledge to the end.
+#[tactic(auto, unfolding(crate::specs::Message::request_end))]
 fn request_end(s: &[u8], c: Reading) -> Reading
     ensures { result ≡ request_end s.now c }
 {
@@ -170,22 +188,22 @@ fn request_end(s: &[u8], c: Reading) -> Reading
 }
 
 // On from behind the knowledge.
+#[tactic(auto, unfolding(crate::specs::Message::on_knowledge))]
 pub fn on_knowledge(k: ReadKnowledge) -> Reading
     ensures { result ≡ on_knowledge k }
 {
-    match k {
-        ReadKnowledge::Holds(e, _) => Reading::At(e, 0),
-        ReadKnowledge::Refused(r) => Reading::Refused(r),
-    }
+    let (e, _) = k?;
+    Ok((e, 0))
 }
 
 // How many ranges it has.
+#[tactic(auto, unfolding(crate::specs::Message::rows_known))]
 fn rows_known(k: ReadKnowledge) -> usize
     ensures { result ≡ rows_known k }
 {
     match k {
-        ReadKnowledge::Holds(_, n) => n,
-        ReadKnowledge::Refused(_) => 0,
+        Ok((_, n)) => n,
+        Err(_) => 0,
     }
 }
 
@@ -212,7 +230,7 @@ pub fn in_request(r: Refusal) -> Refusal
     ensures { result ≡ in_request r }
 {
     Refusal {
-        number: r.number,
+        fault: r.fault,
         input: 1,
         place: r.place,
         needed: r.needed,
@@ -220,12 +238,19 @@ pub fn in_request(r: Refusal) -> Refusal
 }
 
 // The answer, if no fault stands.
+#[tactic(auto, unfolding(crate::specs::Message::request_answer))]
 fn answer(c: Reading, id: u64, limit: u64, place: usize, count: u64, rows: usize) -> Request
     ensures { result ≡ request_answer c id limit place count rows }
 {
     match c {
-        Reading::At(_, _) => Request::Asked(id, limit, place, count, rows),
-        Reading::Refused(r) => Request::Refused(in_request(r)),
+        Ok((_, _)) => Ok(Query {
+            id,
+            limit,
+            place,
+            count,
+            known: rows,
+        }),
+        Err(r) => Err(in_request(r)),
     }
 }
 
@@ -236,7 +261,7 @@ pub fn read_request(s: &[u8], table: &mut [u64; SAID_NUMBERS]) -> Request
     ensures { ReadsRequest s.now table.old result table.new }
 {
     if LONGEST_INPUT < s.len() {
-        return Request::Refused(in_request(over_long()));
+        return Err(in_request(over_long()));
     }
     let a = identified(s, QUERY_CHANGES_REQUEST);
     let b = constrained(s, a);

@@ -18,34 +18,19 @@ fn space(alloc: Global) -> Result<Vec<u8>, AllocError>
     vec![in alloc; 0; 4194304]
 }
 
-// A two-byte header, n times, from `at` on.
-fn put_headers(s: &mut [u8], at: usize, n: usize, first: u8)
-    requires { (n ≤ 2000000) × (at + n * 2 ≤ length s.old) }
-{
-    for i in 0..n {
-        let p = at + i * 2;
-        s[p] = first;
-        s[p + 1] = 0;
-    }
-}
+// The end of type 1.
+const END: u8 = 5;
 
-// The end of type 1, n times, from `at` on.
-fn put_ends(s: &mut [u8], at: usize, n: usize)
-    requires { at + n ≤ length s.old }
-{
-    for i in 0..n {
-        s[at + i] = 5;
-    }
+// A two-byte header, as often as it fits into s.
+fn put_headers(s: &mut [u8], first: u8) {
+    let (headers, _) = s.as_chunks_mut::<2>();
+    headers.fill([first, 0]);
 }
 
 fn show<W: Write>(to: &mut W, r: Passed) -> io::Result<()> {
     match r {
-        Passed::To(e) => writeln!(to, "past {e}"),
-        Passed::Refused(r) => {
-            let number = r.number;
-            let place = r.place;
-            writeln!(to, "refused {number} at {place}")
-        }
+        Ok(e) => writeln!(to, "past {e}"),
+        Err(r) => writeln!(to, "refused {} at {}", r.fault.number(), r.place),
     }
 }
 
@@ -53,13 +38,12 @@ fn show<W: Write>(to: &mut W, r: Passed) -> io::Result<()> {
 fn flat<W: Write>(to: &mut W, s: &mut [u8], n: usize) -> io::Result<()>
     requires { (n ≤ 2000000) × (n * 2 + 3 ≤ length s.old) }
 {
-    put_headers(s, 0, 1, 0x0C);
-    put_headers(s, 2, n, 0x08);
-    put_ends(s, n * 2 + 2, 1);
-    let e = n * 2 + 3;
+    put_headers(&mut s[..2], 0x0C);
+    put_headers(&mut s[2..n * 2 + 2], 0x08);
+    s[n * 2 + 2] = END;
     show(
         to,
-        objects::nesting::pass_object(&s[0..e], 0, 16, PADDING_REFUSED),
+        objects::nesting::pass_object(&s[..n * 2 + 3], 0, 16, PADDING_REFUSED),
     )
 }
 
@@ -67,12 +51,11 @@ fn flat<W: Write>(to: &mut W, s: &mut [u8], n: usize) -> io::Result<()>
 fn nested<W: Write>(to: &mut W, s: &mut [u8], n: usize, depth: usize) -> io::Result<()>
     requires { (n ≤ 100) × (n * 3 ≤ length s.old) }
 {
-    put_headers(s, 0, n, 0x0C);
-    put_ends(s, n * 2, n);
-    let e = n * 3;
+    put_headers(&mut s[..n * 2], 0x0C);
+    s[n * 2..n * 3].fill(END);
     show(
         to,
-        objects::nesting::pass_object(&s[0..e], 0, depth, PADDING_REFUSED),
+        objects::nesting::pass_object(&s[..n * 3], 0, depth, PADDING_REFUSED),
     )
 }
 

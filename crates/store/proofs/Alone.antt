@@ -11,15 +11,15 @@ use lib.Seq.{drop-append_seam}
 use Rattle.laws.proofs.Agreement.{Same, same_whole, same_on, same_less}
 use Rattle.laws.proofs.Cases.{by_bool, pick_all}
 use Rattle.objects.specs.Steps.{next_is, Good}
-use Rattle.objects.specs.declared.reading.Reading.{Reading}
-use Rattle.objects.specs.declared.reading.Reading.TheVariants as reading
+use Rattle.objects.specs.Results.Reading.{Reading}
+use Rattle.objects.specs.Results.Reading as reading
 use Rattle.objects.proofs.Keep.{onward_start}
 use Rattle.store.specs.Element.{element_at, ids_in}
 use Rattle.store.specs.Chain.{Follows, further}
 use Rattle.store.specs.Store.{Walk, walked, on_element, elements_walk, Stands}
 use Rattle.store.specs.declared.element.Element.{Element}
-use Rattle.store.specs.declared.element.ReadElement.{ReadElement}
-use Rattle.store.specs.declared.element.ReadElement.TheVariants as element
+use Rattle.store.specs.Results.ReadElement.{ReadElement}
+use Rattle.store.specs.Results.ReadElement as element
 use Rattle.store.specs.declared.element.Strictness.{Strictness}
 use Rattle.store.proofs.Fields.{element_within}
 use Rattle.store.proofs.Walks.{elements_end, elements_over, elements_more}

@@ -13,13 +13,12 @@ use Rattle.numbers.specs.Refusals.{longest_input, over_long}
 use Rattle.numbers.specs.declared.refusal.Refusal.{Refusal}
 use Rattle.objects.specs.Types.{package_type, element_type}
 use Rattle.objects.specs.Steps.{next_is, end_here, finish}
-use Rattle.objects.specs.declared.reading.Reading.{Reading}
-use Rattle.objects.specs.declared.reading.Reading.TheVariants.{At, Refused}
+use Rattle.objects.specs.Results.Reading.{At, Reading, Refused}
 use Rattle.talk.specs.Each.{Each}
 use Rattle.store.specs.Store.{Walk, walked, walk_from, store_walk, store_start, nothing_of, beginning_of}
 use Rattle.store.specs.Tables.{elements_in_rows, flat}
 use Rattle.store.specs.Held.{StoreHeld}
-use Rattle.store.specs.declared.package.Beginning.TheVariants as beginning
+use Rattle.store.specs.Results.Beginning as beginning
 
 refused_on : (r : Refusal) (c : Reading) → nothing_of c ≡ beginning.Refused r → c ≡ Refused r
 unfolding nothing_of

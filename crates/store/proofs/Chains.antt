@@ -15,18 +15,18 @@ use Rattle.laws.proofs.Twice.{once_more}
 use Rattle.numbers.specs.Refusals.{longest_input}
 use Rattle.objects.specs.Steps.{◌▹◌, no, same_bit, nothing_open, place_of, skip, start_on, start_of_length, start_here, end_on, end_here, start_is, next_is, run_here, finish}
 use Rattle.objects.specs.Header.{header_at}
-use Rattle.objects.specs.declared.header.Header.{Header}
-use Rattle.objects.specs.declared.header.Header.TheVariants as header
-use Rattle.objects.specs.declared.reading.Reading.{Reading}
-use Rattle.objects.specs.declared.reading.Reading.TheVariants as reading
+use Rattle.objects.specs.Results.Header.{ReadHeader}
+use Rattle.objects.specs.Results.Header as header
+use Rattle.objects.specs.Results.Reading.{Reading}
+use Rattle.objects.specs.Results.Reading as reading
 use Rattle.store.specs.Element.{same_key, fields_of, opened, data_of, element_at, ids_in}
 use Rattle.store.specs.Tables.{most_elements}
 use Rattle.store.specs.Store.{package_start, Walk, walked, closing, on_element, walk_from, package_walk, finished, store_walk, Stands, store_padding, store_strictness}
 use Rattle.store.specs.Chain.{Follows, Fresh, Tiles}
 use Rattle.store.specs.declared.element.Key.{Key}
 use Rattle.store.specs.declared.element.Element.{Element}
-use Rattle.store.specs.declared.element.ReadElement.{ReadElement}
-use Rattle.store.specs.declared.element.ReadElement.TheVariants as element
+use Rattle.store.specs.Results.ReadElement.{ReadElement}
+use Rattle.store.specs.Results.ReadElement as element
 use Rattle.store.specs.declared.element.Strictness.{Strictness}
 use Rattle.objects.proofs.StepsCarry.{opened_from}
 use Rattle.store.proofs.Taken.{stands_closed, data_stands, element_some, element_unseen}
@@ -78,7 +78,7 @@ on_read strict left s done at v (element.Refused r) e f h = absurd h
 abbrev Faulty : Reading → Type 0
 Faulty c = Stands c → ⊥
 
-no_room_on : (padding : Bool) (s : List ℕ) (at : ℕ) (h : Header) → Stands (start_on padding s 0x15 0x01 true false at h) → ⊥
+no_room_on : (padding : Bool) (s : List ℕ) (at : ℕ) (h : ReadHeader) → Stands (start_on padding s 0x15 0x01 true false at h) → ⊥
 no_room_on padding s at (header.Refused r) = λ z. z
 no_room_on padding s at (header.End k u) = pick_all Faulty (eqb k 0x15) (no 5 at) (no 4 at) (λ e z. z) (λ e z. z)
 no_room_on padding s at (header.Start k b n u) =
@@ -140,7 +140,7 @@ chain_ids_once strict s xs at e c = once_fresh (λ x. x.id) [] xs refl (chain_id
 -- ---- a chain is walked
 
 -- where an end was read, no start stands
-end_on_no_start : (kind other at q u : ℕ) (h : Header) → end_on kind at h ≡ reading.At q u → start_is other h ≡ false
+end_on_no_start : (kind other at q u : ℕ) (h : ReadHeader) → end_on kind at h ≡ reading.At q u → start_is other h ≡ false
 end_on_no_start kind other at q u (header.Refused r) e = refl
 end_on_no_start kind other at q u (header.End k n) e = refl
 end_on_no_start kind other at q u (header.Start k b n m) e = impossible (cc)
@@ -203,17 +203,17 @@ unfolding skip
 skip_zero s n (reading.At at u) p v e =
     by_lt (length s - at) n
     (λ l. let z : no 2 at ≡ reading.At p v = rw (lt-ltb (length s - at) n l) at e in impossible (cc))
-    (λ l. let z : reading.At (at + n) 0 ≡ reading.At p v = rw (le-ltb (length s - at) n l) at e in cc)
+    (λ l. let z : reading.At (at + n) 0 ≡ reading.At p v = rw (le-ltb (length s - at) n l) at e in grind arith)
 skip_zero s n (reading.Refused r) p v e = impossible (cc)
 
 start_zero : (padding : Bool) (outer : ℕ) (s : List ℕ) (c : Reading) (p v : ℕ) → package_start padding outer s c ≡ reading.At p v → v ≡ 0
 unfolding package_start
 start_zero padding outer s c p v e = skip_zero s 1 (start_of_length padding s outer 0x15 true true 1 c) p v e
 
-end_zero_on : (kind at q u : ℕ) (h : Header) → end_on kind at h ≡ reading.At q u → u ≡ 0
+end_zero_on : (kind at q u : ℕ) (h : ReadHeader) → end_on kind at h ≡ reading.At q u → u ≡ 0
 end_zero_on kind at q u (header.Refused r) e = impossible (cc)
 end_zero_on kind at q u (header.End k n) e =
-    by_bool (eqb k kind) (λ b. let z : reading.At (at + n) 0 ≡ reading.At q u = rw b at e in cc)
+    by_bool (eqb k kind) (λ b. let z : reading.At (at + n) 0 ≡ reading.At q u = rw b at e in grind arith)
     (λ b. let z : no 4 at ≡ reading.At q u = rw b at e in impossible (cc))
 end_zero_on kind at q u (header.Start k b n m) e = impossible (cc)
 

@@ -18,39 +18,39 @@ use Rattle.laws.proofs.Numbers.{drop_bytes}
 use Rattle.laws.proofs.Parts.{tail_part, part_length}
 use Rattle.numbers.specs.Compact.{padding_refused, read_compact, accepted, compact_for, compact_bytes}
 use Rattle.numbers.specs.ExtendedGuid.{read_extended_guid, extended_guid_bytes}
-use Rattle.numbers.specs.declared.compact.Compact.{Compact}
-use Rattle.numbers.specs.declared.compact.Compact.TheVariants as compact
-use Rattle.numbers.specs.declared.extended_guid.ExtendedGuid.TheVariants as id
-use Rattle.numbers.specs.declared.extended_guid.ReadExtendedGuid.{ReadExtendedGuid}
-use Rattle.numbers.specs.declared.extended_guid.ReadExtendedGuid.TheVariants as extended
+use Rattle.numbers.specs.Results.Compact.{Compact}
+use Rattle.numbers.specs.Results.Compact as compact
+use Rattle.numbers.specs.Results.ExtendedGuid as id
+use Rattle.numbers.specs.Results.ReadExtendedGuid.{ReadExtendedGuid}
+use Rattle.numbers.specs.Results.ReadExtendedGuid as extended
 use Rattle.numbers.specs.Serial.{read_serial, serial_bytes}
-use Rattle.numbers.specs.declared.serial.Serial.{Serial}
-use Rattle.numbers.specs.declared.serial.Serial.TheVariants as numbered
-use Rattle.numbers.specs.declared.serial.ReadSerial.{ReadSerial}
-use Rattle.numbers.specs.declared.serial.ReadSerial.TheVariants as serials'
+use Rattle.numbers.specs.Results.Serial.{Serial}
+use Rattle.numbers.specs.Results.Serial as numbered
+use Rattle.numbers.specs.Results.ReadSerial.{ReadSerial}
+use Rattle.numbers.specs.Results.ReadSerial as serials'
 use Rattle.numbers.proofs.ExtendedGuids.{extended_guid_written_read}
 use Rattle.numbers.proofs.Padding.{Takes}
 use Rattle.numbers.proofs.RoundTrip.{written_read}
 use Rattle.numbers.proofs.Serials.{serial_written_read}
 use Rattle.objects.specs.Nesting.{run_at}
-use Rattle.objects.specs.Steps.{place_of, value_of, number_on, number, id_on, id_here, serial_on, serial_here, on_serial, start_here, run_here, closed, inside, Behind, GoodIn}
-use Rattle.objects.specs.declared.nesting.Passed.TheVariants as passed
-use Rattle.objects.specs.declared.reading.Reading.{Reading}
-use Rattle.objects.specs.declared.reading.Reading.TheVariants as reading
-use Rattle.objects.specs.declared.reading.ReadingSerial.{ReadingSerial}
-use Rattle.objects.specs.declared.reading.ReadingSerial.TheVariants as serial'
+use Rattle.objects.specs.Steps.{place_of, value_of, number_on, number, id_on, id_here, serial_on, serial_here, start_here, run_here, closed, inside, Behind, GoodIn, on_field}
+use Rattle.objects.specs.Results.Passed as passed
+use Rattle.objects.specs.Results.Reading.{Reading}
+use Rattle.objects.specs.Results.Reading as reading
+use Rattle.objects.specs.Results.ReadingSerial.{ReadingSerial}
+use Rattle.objects.specs.Results.ReadingSerial as serial'
 use Rattle.objects.proofs.Ahead.{run_next}
 use Rattle.objects.proofs.Deeper.{run_deeper}
 use Rattle.objects.proofs.Keep.{behind_place, onward_serial, onward_start}
 use Rattle.objects.proofs.Local.{run_local}
 use Rattle.objects.proofs.StepsCarry.{inside_on_lem, closed_from}
-use Rattle.store.specs.Element.{same_key, named_key, any_key, key_here, on_key, id_field, serial_field, fields_of, opened, data_of, element_at}
+use Rattle.store.specs.Element.{same_key, named_key, any_key, key_here, id_field, serial_field, fields_of, opened, data_of, element_at}
 use Rattle.store.specs.Store.{Stands}
 use Rattle.store.specs.Written.{Content, key_guid, ContentFits, behind_data, inside_of, content_in}
 use Rattle.store.specs.declared.element.Key.{Key}
 use Rattle.store.specs.declared.element.Element.{Element}
-use Rattle.store.specs.declared.element.ReadingKey.{ReadingKey}
-use Rattle.store.specs.declared.element.ReadElement.TheVariants.{Is}
+use Rattle.store.specs.Results.ReadingKey.{ReadingKey}
+use Rattle.store.specs.Results.ReadElement.{Is}
 use Rattle.store.specs.declared.element.Strictness.{Strictness}
 use Rattle.store.proofs.ElementCarry.{serial_beside}
 use Rattle.store.proofs.ElementFits.{NumberedFits, id_fits}
@@ -83,11 +83,11 @@ next_part l p m n = take-add m n (drop p l) ∙ ap (λ (k : List ℕ). take m (d
 -- an id that stands is written as it came
 record IdCame (d : List ℕ) (c : ReadingKey) : Type 0 where
   size : ℕ
-  on : on_key c ≡ reading.At size 0
+  on : on_field c ≡ reading.At size 0
   bytes : take size d ≡ extended_guid_bytes (id.Named (key_guid (key_here c)) (key_here c).number)
 
 named_came : (d : List ℕ) (r : ReadExtendedGuid) → AllBytes d → read_extended_guid (drop 0 d) ≡ r → StandsKey (named_key 0 (id_on 0 r)) → IdCame d (named_key 0 (id_on 0 r))
-unfolding named_key key_here on_key
+unfolding named_key key_here on_field
 named_came d (extended.Value id.Null n) b e h = absurd h
 named_came d (extended.Value (id.Named g x) n) b e h =
     record {
@@ -106,15 +106,15 @@ id_came ids d b h =
     subst (IdCame d) (sym f.1) (named_came d r b refl f.2)
 
 -- a serial number that stands goes on from behind itself, judged or not
-any_on : (c : ReadingSerial) → on_key (any_key c) ≡ on_serial c
-unfolding any_key on_key on_serial
+any_on : (c : ReadingSerial) → on_field (any_key c) ≡ on_field c
+unfolding any_key on_field
 any_on (serial'.At q numbered.Null) = refl
 any_on (serial'.At q (numbered.Numbered g x)) = refl
 any_on (serial'.Refused r) = refl
 
-serial_on_lem : (judges : Bool) (d : List ℕ) (c : Reading) → StandsKey (serial_field judges d c) → on_key (serial_field judges d c) ≡ on_serial (serial_here d c)
+serial_on_lem : (judges : Bool) (d : List ℕ) (c : Reading) → StandsKey (serial_field judges d c) → on_field (serial_field judges d c) ≡ on_field (serial_here d c)
 unfolding serial_field
-serial_on_lem judges d c h = ap on_key (sym (serial_beside judges false (λ e. impossible (cc)) d c h)) ∙ any_on (serial_here d c)
+serial_on_lem judges d c h = ap on_field (sym (serial_beside judges false (λ e. impossible (cc)) d c h)) ∙ any_on (serial_here d c)
 
 -- and its bytes are those of a serial number, null or not
 record SerialCame (d : List ℕ) (at : ℕ) (c : Reading) : Type 0 where
@@ -123,14 +123,14 @@ record SerialCame (d : List ℕ) (at : ℕ) (c : Reading) : Type 0 where
   on : c ≡ reading.At past 0
   bytes : take (past - at) (drop at d) ≡ serial_bytes serial
 
-serial_bytes_lem : (d : List ℕ) (at : ℕ) (r : ReadSerial) → AllBytes d → read_serial (drop at d) ≡ r → Stands (on_serial (serial_on at r)) → SerialCame d at (on_serial (serial_on at r))
-unfolding on_serial
+serial_bytes_lem : (d : List ℕ) (at : ℕ) (r : ReadSerial) → AllBytes d → read_serial (drop at d) ≡ r → Stands (on_field (serial_on at r)) → SerialCame d at (on_field (serial_on at r))
+unfolding on_field
 serial_bytes_lem d at (serials'.Value x n) b e h =
     let m : at + n - at ≡ n = omega arith in
     record { serial = x; past = at + n; on = refl; bytes = rw m (serial_written_read (drop at d) x n (drop_bytes at d b) e).0 }
 serial_bytes_lem d at (serials'.Refused r) b e h = absurd h
 
-serial_came : (d : List ℕ) (at v : ℕ) → AllBytes d → Stands (on_serial (serial_here d (reading.At at v))) → SerialCame d at (on_serial (serial_here d (reading.At at v)))
+serial_came : (d : List ℕ) (at v : ℕ) → AllBytes d → Stands (on_field (serial_here d (reading.At at v))) → SerialCame d at (on_field (serial_here d (reading.At at v)))
 unfolding serial_here
 serial_came d at v b h = serial_bytes_lem d at (read_serial (drop at d)) b refl h
 
@@ -139,8 +139,8 @@ compact_came : (d : List ℕ) (q n v : ℕ) (r : Compact) → AllBytes d → rea
     → (q ≤ n) × (take (n - q) (drop q d) ≡ compact_bytes v) × (v < 2 ^ 64)
 compact_came d q n v (compact.Value x w true) b e h = impossible (cc)
 compact_came d q n v (compact.Value x w false) b e h =
-    let y : q + w ≡ n = cc in
-    let z : x ≡ v = cc in
+    let y : q + w ≡ n = grind arith in
+    let z : x ≡ v = grind arith in
     let m : n - q ≡ w = omega arith in
     let k = written_read (drop q d) x w (drop_bytes q d b) e in
     (omega arith, rw (m, ← z) k.0, rw (← z) k.1)
@@ -161,15 +161,15 @@ run_came : (strict : Strictness) → strict.padding ≡ padding_refused → (ids
     → (fields_of strict ids d).last ≡ reading.At (length d) kind → RunCame d (fields_of strict ids d).id kind
 unfolding fields_of
 run_came strict refused ids d kind b e =
-    let c = on_key (id_field ids d) in
+    let c = on_field (id_field ids d) in
     let f = serial_field strict.serials d c in
-    let stands : Stands (number strict.padding d (on_key f)) = subst Stands (sym e) tt in
+    let stands : Stands (number strict.padding d (on_field f)) = subst Stands (sym e) tt in
     let w = keys_stand strict ids d stands in
     let i = id_came ids d b w.0 in
     let a = serial_on_lem strict.serials d c w.1 in
-    let came : SerialCame d i.size (on_serial (serial_here d c)) =
-    subst (λ (r : Reading). SerialCame d i.size (on_serial (serial_here d r))) (sym i.on)
-    (serial_came d i.size 0 b (subst (λ (r : Reading). Stands (on_serial (serial_here d r))) i.on (subst Stands a (stands_number strict.padding d (on_key f) stands)))) in
+    let came : SerialCame d i.size (on_field (serial_here d c)) =
+    subst (λ (r : Reading). SerialCame d i.size (on_field (serial_here d r))) (sym i.on)
+    (serial_came d i.size 0 b (subst (λ (r : Reading). Stands (on_field (serial_here d r))) i.on (subst Stands a (stands_number strict.padding d (on_field f) stands)))) in
     let q = came.past in
     let j = came.on in
     let l : Behind i.size (reading.At q 0) =

@@ -12,22 +12,21 @@ use Rattle.laws.specs.Once.{seen}
 use Rattle.laws.proofs.Agreement.{Same, same_front}
 use Rattle.laws.proofs.Cases.{impossible}
 use Rattle.laws.proofs.Parts.{part_length}
-use Rattle.numbers.specs.declared.serial.Serial.TheVariants as number'
+use Rattle.numbers.specs.Results.Serial as number'
 use Rattle.numbers.proofs.Padding.{Takes, takes_same}
-use Rattle.objects.specs.Steps.{place_of, value_of, number, id_here, serial_here, start_here, run_here, inside}
-use Rattle.objects.specs.declared.reading.Reading.{Reading}
-use Rattle.objects.specs.declared.reading.Reading.TheVariants as reading
-use Rattle.objects.specs.declared.reading.ReadingSerial.{ReadingSerial}
-use Rattle.objects.specs.declared.reading.ReadingSerial.TheVariants as serial'
+use Rattle.objects.specs.Steps.{place_of, value_of, number, id_here, serial_here, start_here, run_here, inside, on_field}
+use Rattle.objects.specs.Results.Reading.{Reading}
+use Rattle.objects.specs.Results.Reading as reading
+use Rattle.objects.specs.Results.ReadingSerial.{ReadingSerial}
+use Rattle.objects.specs.Results.ReadingSerial as serial'
 use Rattle.objects.proofs.StepsCarry.{Carries, Gives, carries_to, carries_then, gives_first, gives_next, gives_value, carries_start, carries_inside, carries_run, gives_run}
 use Rattle.objects.proofs.StepsTaken.{number_taken, start_taken, inside_deeper}
-use Rattle.store.specs.Element.{same_key, named_key, numbered_key, any_key, fresh_key, key_here, on_key, judged, id_field, serial_field, fields_of, opened, data_of, element_on, element_at}
+use Rattle.store.specs.Element.{same_key, named_key, numbered_key, any_key, fresh_key, key_here, judged, id_field, serial_field, fields_of, opened, data_of, element_on, element_at}
 use Rattle.store.specs.Store.{Stands}
 use Rattle.store.specs.declared.element.Key.{Key}
 use Rattle.store.specs.declared.element.Element.{Element}
-use Rattle.store.specs.declared.element.ReadingKey.{ReadingKey}
-use Rattle.store.specs.declared.element.ReadingKey.TheVariants.{At, Refused}
-use Rattle.store.specs.declared.element.ReadElement.TheVariants.{Is}
+use Rattle.store.specs.Results.ReadingKey.{At, ReadingKey, Refused}
+use Rattle.store.specs.Results.ReadElement.{Is}
 use Rattle.store.specs.declared.element.Strictness.{Strictness}
 use Rattle.store.proofs.Fields.{element_parts}
 use Rattle.store.proofs.Taken.{StandsKey, stands_closed, fresh_stands, keys_stand, data_stands, element_some}
@@ -80,11 +79,11 @@ fields_beside : (strict other : Strictness) → Wider strict other → (ids ids'
 unfolding fields_of id_field
 fields_beside strict other wider ids ids' d h i =
     let w = keys_stand strict ids d h in
-    let c = on_key (id_field ids d) in
+    let c = on_field (id_field ids d) in
     let a : id_field ids' d ≡ id_field ids d = judged_beside ids ids' 0 (named_key 0 (id_here d (reading.At 0 0))) w.0 i in
     let b : serial_field other.serials d c ≡ serial_field strict.serials d c =
     serial_beside strict.serials other.serials wider.judges d c w.1 in
-    let k = on_key (serial_field strict.serials d c) in
+    let k = on_field (serial_field strict.serials d c) in
     let n : number other.padding d k ≡ number strict.padding d k =
     stands_same (number strict.padding d k) (number other.padding d k) h (number_taken strict.padding other.padding wider.takes d k) in
     rw (a, b, n)

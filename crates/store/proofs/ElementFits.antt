@@ -12,30 +12,29 @@ use Rattle.laws.specs.Once.{seen}
 use Rattle.laws.proofs.Numbers.{drop_bytes}
 use Rattle.numbers.specs.ExtendedGuid.{read_extended_guid, ExtendedGuidFits}
 use Rattle.numbers.specs.Serial.{read_serial, SerialFits}
-use Rattle.numbers.specs.declared.extended_guid.ExtendedGuid.TheVariants as id
-use Rattle.numbers.specs.declared.extended_guid.ReadExtendedGuid.{ReadExtendedGuid}
-use Rattle.numbers.specs.declared.extended_guid.ReadExtendedGuid.TheVariants as extended
-use Rattle.numbers.specs.declared.serial.Serial.TheVariants as number
-use Rattle.numbers.specs.declared.serial.ReadSerial.{ReadSerial}
-use Rattle.numbers.specs.declared.serial.ReadSerial.TheVariants as serial
+use Rattle.numbers.specs.Results.ExtendedGuid as id
+use Rattle.numbers.specs.Results.ReadExtendedGuid.{ReadExtendedGuid}
+use Rattle.numbers.specs.Results.ReadExtendedGuid as extended
+use Rattle.numbers.specs.Results.Serial as number
+use Rattle.numbers.specs.Results.ReadSerial.{ReadSerial}
+use Rattle.numbers.specs.Results.ReadSerial as serial
 use Rattle.numbers.proofs.ExtendedGuids.{extended_guid_written_read}
 use Rattle.numbers.proofs.Serials.{serial_written_read}
-use Rattle.objects.specs.Steps.{nothing_open, place_of, id_on, id_here, serial_on, serial_here, run_here}
-use Rattle.objects.specs.declared.reading.Reading.{Reading}
-use Rattle.objects.specs.declared.reading.Reading.TheVariants as reading
-use Rattle.objects.specs.declared.reading.ReadingSerial.{ReadingSerial}
-use Rattle.objects.specs.declared.reading.ReadingSerial.TheVariants as serial'
+use Rattle.objects.specs.Steps.{nothing_open, place_of, id_on, id_here, serial_on, serial_here, run_here, on_field}
+use Rattle.objects.specs.Results.Reading.{Reading}
+use Rattle.objects.specs.Results.Reading as reading
+use Rattle.objects.specs.Results.ReadingSerial.{ReadingSerial}
+use Rattle.objects.specs.Results.ReadingSerial as serial'
 use Rattle.objects.proofs.Keep.{good_front, good_place}
 use Rattle.talk.specs.Each.{Each}
 use Rattle.talk.proofs.Things.{each_so}
 use Rattle.store.specs.Chain.{Follows}
-use Rattle.store.specs.Element.{same_key, ids_in, named_key, numbered_key, any_key, fresh_key, key_here, on_key, id_field, serial_field, fields_of, opened}
+use Rattle.store.specs.Element.{same_key, ids_in, named_key, numbered_key, any_key, fresh_key, key_here, id_field, serial_field, fields_of, opened}
 use Rattle.store.specs.Store.{package_start, store_walk, store_padding, store_strictness}
 use Rattle.store.specs.Written.{key_guid}
 use Rattle.store.specs.declared.element.Key.{Key}
 use Rattle.store.specs.declared.element.Element.{Element}
-use Rattle.store.specs.declared.element.ReadingKey.{ReadingKey}
-use Rattle.store.specs.declared.element.ReadingKey.TheVariants.{At, Refused}
+use Rattle.store.specs.Results.ReadingKey.{At, ReadingKey, Refused}
 use Rattle.store.specs.declared.element.Strictness.{Strictness}
 use Rattle.store.proofs.Fields.{element_parts, element_within}
 use Rattle.store.proofs.KnowledgeFits.{run_bytes}
@@ -95,7 +94,7 @@ serial_field_fits false d c b = subst NumberedFits (sym (any_key_lem (place_of c
 
 serial_fits : (strict : Strictness) (ids : List Key) (d : List ℕ) → AllBytes d → NumberedFits (fields_of strict ids d).serial
 unfolding fields_of
-serial_fits strict ids d b = serial_field_fits strict.serials d (on_key (id_field ids d)) b
+serial_fits strict ids d b = serial_field_fits strict.serials d (on_field (id_field ids d)) b
 
 -- ---- each element of a package
 

@@ -14,33 +14,32 @@ use Rattle.laws.proofs.Cases.{pick_all, impossible}
 use Rattle.numbers.specs.Compact.{compact_for}
 use Rattle.numbers.specs.ExtendedGuid.{named_of, short_form, long_form, form_of_id, read_extended_guid}
 use Rattle.numbers.specs.Serial.{numbered, read_serial}
-use Rattle.numbers.specs.declared.compact.Compact.{Compact}
-use Rattle.numbers.specs.declared.compact.Compact.TheVariants as compact
-use Rattle.numbers.specs.declared.extended_guid.ExtendedGuid.TheVariants as id
-use Rattle.numbers.specs.declared.extended_guid.ReadExtendedGuid.{ReadExtendedGuid}
-use Rattle.numbers.specs.declared.extended_guid.ReadExtendedGuid.TheVariants as extended
-use Rattle.numbers.specs.declared.serial.Serial.TheVariants as number
-use Rattle.numbers.specs.declared.serial.ReadSerial.{ReadSerial}
-use Rattle.numbers.specs.declared.serial.ReadSerial.TheVariants as serial
+use Rattle.numbers.specs.Results.Compact.{Compact}
+use Rattle.numbers.specs.Results.Compact as compact
+use Rattle.numbers.specs.Results.ExtendedGuid as id
+use Rattle.numbers.specs.Results.ReadExtendedGuid.{ReadExtendedGuid}
+use Rattle.numbers.specs.Results.ReadExtendedGuid as extended
+use Rattle.numbers.specs.Results.Serial as number
+use Rattle.numbers.specs.Results.ReadSerial.{ReadSerial}
+use Rattle.numbers.specs.Results.ReadSerial as serial
 use Rattle.numbers.proofs.Within.{CompactWithin, compact_within}
 use Rattle.objects.specs.Header.{start_of, end_of, sized, header_of, header_at}
-use Rattle.objects.specs.Steps.{place_of, id_on, id_here, serial_on, serial_here, number_on, run_here, closed_at, closed, Good, Behind}
+use Rattle.objects.specs.Steps.{place_of, id_on, id_here, serial_on, serial_here, number_on, run_here, closed_at, closed, Good, Behind, on_field}
 use Rattle.objects.specs.Steps as steps
-use Rattle.objects.specs.declared.header.Header.{Header}
-use Rattle.objects.specs.declared.header.Header.TheVariants as header
-use Rattle.objects.specs.declared.reading.Reading.{Reading}
-use Rattle.objects.specs.declared.reading.Reading.TheVariants as reading
+use Rattle.objects.specs.Results.Header.{ReadHeader}
+use Rattle.objects.specs.Results.Header as header
+use Rattle.objects.specs.Results.Reading.{Reading}
+use Rattle.objects.specs.Results.Reading as reading
 use Rattle.objects.proofs.StepsCarry.{opened_from}
 use Rattle.talk.specs.Each.{Each}
 use Rattle.talk.proofs.Things.{each_so}
 use Rattle.store.specs.Chain.{Follows}
-use Rattle.store.specs.Element.{same_key, named_key, numbered_key, fresh_key, key_here, on_key, id_field, serial_field, fields_of, opened, data_of, element_at, ids_in}
+use Rattle.store.specs.Element.{same_key, named_key, numbered_key, fresh_key, key_here, id_field, serial_field, fields_of, opened, data_of, element_at, ids_in}
 use Rattle.store.specs.Store.{store_walk, store_strictness, Stands}
 use Rattle.store.specs.declared.element.Key.{Key}
 use Rattle.store.specs.declared.element.Element.{Element}
-use Rattle.store.specs.declared.element.ReadingKey.{ReadingKey}
-use Rattle.store.specs.declared.element.ReadingKey.TheVariants.{At, Refused}
-use Rattle.store.specs.declared.element.ReadElement.TheVariants as element
+use Rattle.store.specs.Results.ReadingKey.{At, ReadingKey, Refused}
+use Rattle.store.specs.Results.ReadElement as element
 use Rattle.store.specs.declared.element.Strictness.{Strictness}
 use Rattle.store.proofs.Fields.{good_fields, element_parts}
 use Rattle.store.proofs.Taken.{inside_past, element_some}
@@ -48,7 +47,7 @@ use Rattle.store.proofs.Chains.{store_read}
 
 -- ---- a start has two bytes or four
 
-abbrev pub StartLeast : Header → Type 0
+abbrev pub StartLeast : ReadHeader → Type 0
 StartLeast (header.Start k c n u) = 2 ≤ u
 StartLeast (header.End k u) = Unit {0}
 StartLeast (header.Refused r) = Unit {0}
@@ -107,20 +106,20 @@ id_least s =
     pick_all NamedLeast (eqb (length s) 0) _ _ (λ e. tt)
     (λ e. pick_all NamedLeast (eqb (get_or s 0 0) 0) _ _ (λ f. tt) (λ f. form_least (count_trailing_zeros 8 (get_or s 0 0)) s))
 
-named_behind : (r : ReadExtendedGuid) → NamedLeast r → Behind 17 (on_key (named_key 0 (id_on 0 r)))
-unfolding named_key on_key
+named_behind : (r : ReadExtendedGuid) → NamedLeast r → Behind 17 (on_field (named_key 0 (id_on 0 r)))
+unfolding named_key on_field
 named_behind (extended.Value id.Null n) h = tt
 named_behind (extended.Value (id.Named g x) n) h = omega arith
 named_behind (extended.Refused r) h = tt
 
 -- what was read is where it was, or refused
-fresh_behind : (p at : ℕ) (was : Bool) (c : ReadingKey) → Behind p (on_key c) → Behind p (on_key (fresh_key at was c))
-unfolding fresh_key on_key
+fresh_behind : (p at : ℕ) (was : Bool) (c : ReadingKey) → Behind p (on_field c) → Behind p (on_field (fresh_key at was c))
+unfolding fresh_key on_field
 fresh_behind p at true (At q k) h = tt
 fresh_behind p at false (At q k) h = h
 fresh_behind p at was (Refused r) h = tt
 
-id_behind : (ids : List Key) (d : List ℕ) → Behind 17 (on_key (id_field ids d))
+id_behind : (ids : List Key) (d : List ℕ) → Behind 17 (on_field (id_field ids d))
 unfolding id_field id_here
 id_behind ids d =
     let c = named_key 0 (id_on 0 (read_extended_guid (drop 0 d))) in
@@ -142,19 +141,19 @@ serial_least s =
     pick_all P (eqb (get_or s 0 0) 0) _ _ (λ f. tt)
     (λ f. pick_all P (eqb (get_or s 0 0) 128) _ _ (λ g. pick_all P (ltb (length s) 25) _ _ (λ h. tt) (λ h. omega arith)) (λ g. tt)))
 
-numbered_behind : (p place at : ℕ) (r : ReadSerial) → p ≤ at → NumberedLeast r → Behind (p + 25) (on_key (numbered_key place (serial_on at r)))
-unfolding numbered_key on_key
+numbered_behind : (p place at : ℕ) (r : ReadSerial) → p ≤ at → NumberedLeast r → Behind (p + 25) (on_field (numbered_key place (serial_on at r)))
+unfolding numbered_key on_field
 numbered_behind p place at (serial.Value number.Null n) l h = tt
 numbered_behind p place at (serial.Value (number.Numbered g x) n) l h = omega arith
 numbered_behind p place at (serial.Refused r) l h = tt
 
-serial_here_behind : (p : ℕ) (d : List ℕ) (c : Reading) → Behind p c → Behind (p + 25) (on_key (numbered_key (place_of c) (serial_here d c)))
-unfolding serial_here numbered_key on_key
+serial_here_behind : (p : ℕ) (d : List ℕ) (c : Reading) → Behind p c → Behind (p + 25) (on_field (numbered_key (place_of c) (serial_here d c)))
+unfolding serial_here numbered_key on_field
 serial_here_behind p d (reading.At at v) h = numbered_behind p (place_of (reading.At at v)) at (read_serial (drop at d)) h (serial_least (drop at d))
 serial_here_behind p d (reading.Refused r) h = tt
 
 -- one that is judged
-serial_behind : (p : ℕ) (judges : Bool) (d : List ℕ) (c : Reading) → judges ≡ true → Behind p c → Behind (p + 25) (on_key (serial_field judges d c))
+serial_behind : (p : ℕ) (judges : Bool) (d : List ℕ) (c : Reading) → judges ≡ true → Behind p c → Behind (p + 25) (on_field (serial_field judges d c))
 unfolding serial_field
 serial_behind p true d c j h = serial_here_behind p d c h
 serial_behind p false d c j h = impossible (cc)
@@ -173,8 +172,8 @@ number_behind p padding d (reading.Refused r) h = tt
 fields_behind : (strict : Strictness) → strict.serials ≡ true → (ids : List Key) (d : List ℕ) → Behind 43 (fields_of strict ids d).last
 unfolding fields_of
 fields_behind strict j ids d =
-    let c = on_key (id_field ids d) in
-    number_behind 42 strict.padding d (on_key (serial_field strict.serials d c)) (serial_behind 17 strict.serials d c j (id_behind ids d))
+    let c = on_field (id_field ids d) in
+    number_behind 42 strict.padding d (on_field (serial_field strict.serials d c)) (serial_behind 17 strict.serials d c j (id_behind ids d))
 
 closed_behind : (p n : ℕ) (s : List ℕ) (c f : Reading) → Behind p c → Behind n f → Good (run_here s c) f → Behind (p + n) (closed s c f)
 unfolding closed_at

@@ -15,22 +15,22 @@ use Rattle.numbers.specs.Compact.{compact_bytes}
 use Rattle.numbers.specs.ExtendedGuid.{named_bytes, extended_guid_bytes}
 use Rattle.numbers.specs.Serial.{serial_bytes}
 use Rattle.numbers.specs.declared.guid.Guid.{Guid}
-use Rattle.numbers.specs.declared.extended_guid.ExtendedGuid.TheVariants.{Named}
-use Rattle.numbers.specs.declared.serial.Serial.TheVariants.{Numbered}
+use Rattle.numbers.specs.Results.ExtendedGuid.{Named}
+use Rattle.numbers.specs.Results.Serial.{Numbered}
 use Rattle.numbers.proofs.Forms.{size_le, form_of_le, length_compact}
 use Rattle.numbers.proofs.Guids.{length_tagged}
 use Rattle.numbers.proofs.ExtendedGuids.{length_short, named_5, named_10, named_17, named_32}
 use Rattle.objects.specs.Header.{start_bytes}
-use Rattle.objects.specs.Steps.{place_of, value_of, number, serial_here, run_here, closed_at, inside}
-use Rattle.objects.specs.declared.reading.Reading.TheVariants as reading
-use Rattle.objects.specs.declared.reading.ReadingSerial.TheVariants as serial'
+use Rattle.objects.specs.Steps.{place_of, value_of, number, serial_here, run_here, closed_at, inside, on_field}
+use Rattle.objects.specs.Results.Reading as reading
+use Rattle.objects.specs.Results.ReadingSerial as serial'
 use Rattle.objects.proofs.Written.{behind, id_written, serial_written, reads_number}
 use Rattle.objects.proofs.ObjectsWritten.{reads_start, reads_inside}
-use Rattle.store.specs.Element.{same_key, named_key, numbered_key, any_key, fresh_key, key_here, on_key, id_field, serial_field, fields_of, opened, data_of, element_on, element_at}
+use Rattle.store.specs.Element.{same_key, named_key, numbered_key, any_key, fresh_key, key_here, id_field, serial_field, fields_of, opened, data_of, element_on, element_at}
 use Rattle.store.specs.Written.{Content, key_guid, field_bytes, written_element, ContentFits, element_of}
 use Rattle.store.specs.declared.element.Key.{Key}
-use Rattle.store.specs.declared.element.ReadingKey.TheVariants.{At}
-use Rattle.store.specs.declared.element.ReadElement.TheVariants.{Is}
+use Rattle.store.specs.Results.ReadingKey.{At}
+use Rattle.store.specs.Results.ReadElement.{Is}
 use Rattle.store.specs.declared.element.Strictness.{Strictness}
 
 -- ---- how long the fields are
@@ -99,7 +99,7 @@ module _ (strict : Strictness) (c : Content) (f : ContentFits strict.padding str
 
   fields_are : (ids : List Key) → seen same_key c.id ids ≡ false
       → fields_of strict ids (field_bytes c) ≡ record { id = c.id; serial = c.serial; last = reading.At (length (field_bytes c)) c.kind }
-  unfolding fields_of on_key key_here
+  unfolding fields_of on_field key_here
   fields_are ids h = rw (id_is ids h, serial_is strict.serials, kind_is)
 
 -- ---- the element

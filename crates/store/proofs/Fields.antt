@@ -8,58 +8,57 @@ use native.Mathlib.Omega.{arith}
 use lib.ListN.{length}
 use Rattle.laws.specs.Once.{seen}
 use Rattle.laws.proofs.Cases.{impossible}
-use Rattle.numbers.specs.declared.extended_guid.ExtendedGuid.TheVariants as id
-use Rattle.numbers.specs.declared.serial.Serial.TheVariants as number
-use Rattle.objects.specs.Steps.{place_of, value_of, id_here, on_id, serial_here, on_serial, run_here, closed, inside, Good, Behind}
-use Rattle.objects.specs.declared.reading.Reading.{Reading}
-use Rattle.objects.specs.declared.reading.Reading.TheVariants as reading
-use Rattle.objects.specs.declared.reading.ReadingId.{ReadingId}
-use Rattle.objects.specs.declared.reading.ReadingId.TheVariants as id'
-use Rattle.objects.specs.declared.reading.ReadingSerial.{ReadingSerial}
-use Rattle.objects.specs.declared.reading.ReadingSerial.TheVariants as serial'
+use Rattle.numbers.specs.Results.ExtendedGuid as id
+use Rattle.numbers.specs.Results.Serial as number
+use Rattle.objects.specs.Steps.{place_of, value_of, id_here, serial_here, run_here, closed, inside, Good, Behind, on_field}
+use Rattle.objects.specs.Results.Reading.{Reading}
+use Rattle.objects.specs.Results.Reading as reading
+use Rattle.objects.specs.Results.ReadingId.{ReadingId}
+use Rattle.objects.specs.Results.ReadingId as id'
+use Rattle.objects.specs.Results.ReadingSerial.{ReadingSerial}
+use Rattle.objects.specs.Results.ReadingSerial as serial'
 use Rattle.objects.proofs.Keep.{Onward, onto, fault_within, good_front, good_place, behind_place, onward_id, onward_serial, onward_number, onward_start, onward_closed, onward_inside}
-use Rattle.store.specs.Element.{same_key, named_key, numbered_key, any_key, fresh_key, key_here, on_key, id_field, serial_field, fields_of, opened, data_of, element_on, element_at}
+use Rattle.store.specs.Element.{same_key, named_key, numbered_key, any_key, fresh_key, key_here, id_field, serial_field, fields_of, opened, data_of, element_on, element_at}
 use Rattle.store.specs.declared.element.Key.{Key}
 use Rattle.store.specs.declared.element.Element.{Element}
-use Rattle.store.specs.declared.element.ReadingKey.{ReadingKey}
-use Rattle.store.specs.declared.element.ReadingKey.TheVariants.{At, Refused}
-use Rattle.store.specs.declared.element.ReadElement.TheVariants as element
+use Rattle.store.specs.Results.ReadingKey.{At, ReadingKey, Refused}
+use Rattle.store.specs.Results.ReadElement as element
 use Rattle.store.specs.declared.element.Strictness.{Strictness}
 
 -- ---- the fields
 
-good_named : (d : List ℕ) (p : ℕ) (c : ReadingId) → p ≤ length d → Good d (on_id c) → Good d (on_key (named_key p c))
-unfolding on_id named_key on_key
+good_named : (d : List ℕ) (p : ℕ) (c : ReadingId) → p ≤ length d → Good d (on_field c) → Good d (on_field (named_key p c))
+unfolding on_field named_key
 good_named d p (id'.At q id.Null) h g = fault_within (length d) 10 p (omega arith) h
 good_named d p (id'.At q (id.Named i x)) h g = g
 good_named d p (id'.Refused r) h g = g
 
-good_numbered : (d : List ℕ) (p : ℕ) (c : ReadingSerial) → p ≤ length d → Good d (on_serial c) → Good d (on_key (numbered_key p c))
-unfolding on_serial numbered_key on_key
+good_numbered : (d : List ℕ) (p : ℕ) (c : ReadingSerial) → p ≤ length d → Good d (on_field c) → Good d (on_field (numbered_key p c))
+unfolding on_field numbered_key
 good_numbered d p (serial'.At q number.Null) h g = fault_within (length d) 10 p (omega arith) h
 good_numbered d p (serial'.At q (number.Numbered i x)) h g = g
 good_numbered d p (serial'.Refused r) h g = g
 
-good_any : (d : List ℕ) (c : ReadingSerial) → Good d (on_serial c) → Good d (on_key (any_key c))
-unfolding on_serial any_key on_key
+good_any : (d : List ℕ) (c : ReadingSerial) → Good d (on_field c) → Good d (on_field (any_key c))
+unfolding on_field any_key
 good_any d (serial'.At q number.Null) g = g
 good_any d (serial'.At q (number.Numbered i x)) g = g
 good_any d (serial'.Refused r) g = g
 
-good_fresh : (d : List ℕ) (p : ℕ) (was : Bool) (c : ReadingKey) → p ≤ length d → Good d (on_key c) → Good d (on_key (fresh_key p was c))
-unfolding fresh_key on_key
+good_fresh : (d : List ℕ) (p : ℕ) (was : Bool) (c : ReadingKey) → p ≤ length d → Good d (on_field c) → Good d (on_field (fresh_key p was c))
+unfolding fresh_key on_field
 good_fresh d p true (At q k) h g = fault_within (length d) 11 p (omega arith) h
 good_fresh d p false (At q k) h g = g
 good_fresh d p was (Refused r) h g = g
 
-pub good_id_field : (ids : List Key) (d : List ℕ) → Good d (on_key (id_field ids d))
+pub good_id_field : (ids : List Key) (d : List ℕ) → Good d (on_field (id_field ids d))
 unfolding id_field
 good_id_field ids d =
     let c = named_key 0 (id_here d (reading.At 0 0)) in
     good_fresh d 0 (seen same_key (key_here c) ids) c (omega arith)
     (good_named d 0 (id_here d (reading.At 0 0)) (omega arith) ((onward_id d (reading.At 0 0)).good (good_front d 0)))
 
-pub good_serial_field : (judges : Bool) (d : List ℕ) (c : Reading) → Good d c → Good d (on_key (serial_field judges d c))
+pub good_serial_field : (judges : Bool) (d : List ℕ) (c : Reading) → Good d c → Good d (on_field (serial_field judges d c))
 unfolding serial_field
 good_serial_field true d c g = good_numbered d (place_of c) (serial_here d c) (good_place d c g) ((onward_serial d c).good g)
 good_serial_field false d c g = good_any d (serial_here d c) ((onward_serial d c).good g)
@@ -67,7 +66,7 @@ good_serial_field false d c g = good_any d (serial_here d c) ((onward_serial d c
 pub good_fields : (strict : Strictness) (ids : List Key) (d : List ℕ) → Good d (fields_of strict ids d).last
 unfolding fields_of
 good_fields strict ids d =
-    (onward_number strict.padding d (on_key (serial_field strict.serials d (on_key (id_field ids d))))).good (good_serial_field strict.serials d (on_key (id_field ids d)) (good_id_field ids d))
+    (onward_number strict.padding d (on_field (serial_field strict.serials d (on_field (id_field ids d))))).good (good_serial_field strict.serials d (on_field (id_field ids d)) (good_id_field ids d))
 
 -- ---- the element
 

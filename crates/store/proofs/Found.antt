@@ -4,25 +4,26 @@ use mathlib.Core.Path.{◌≡◌, refl}
 use mathlib.Core.List.{List, [], ◌∷◌, ◌++◌, map, append_assoc}
 use Prim.Native.Nat.{ℕ, zero, suc, ◌+◌, ◌*◌, ◌≤◌, ◌<◌}
 use native.Mathlib.Omega.{arith}
-use lib.ListN.{length, drop, length-append, length-drop}
+use lib.ListN.{length, take, drop, length-append, length-drop}
 use lib.Seq.{get_or-append-add}
 use lib.Dec.{ltb}
+use Rattle.std.specs.Result.{result_unwrap_or}
 use Rattle.laws.proofs.Cases.{pick_all, impossible}
 use Rattle.numbers.specs.Refusals.{fault_at, longest_input}
 use Rattle.numbers.specs.declared.refusal.Refusal.{Refusal}
 use Rattle.objects.specs.Steps.{nothing_open, next_is}
-use Rattle.objects.specs.declared.reading.Reading.{Reading}
-use Rattle.objects.specs.declared.reading.Reading.TheVariants as reading
+use Rattle.objects.specs.Results.Reading.{Reading}
+use Rattle.objects.specs.Results.Reading as reading
 use Rattle.store.specs.Element.{element_at}
 use Rattle.store.specs.Tables.{row_width, id_width, most_elements, row_numbers, RowsStand, row_of, id_of, flat, rows_of, ids_of, element_in_row}
 use Rattle.store.specs.Store.{Walk, on_element, walk_from, package_start, package_walk, store_walk, stored_of, store_answer, laid_rows, laid_ids, store_strictness}
-use Rattle.store.specs.Accessor.{element_in, found_on, found_in}
+use Rattle.store.specs.Accessor.{element_in, found_on, found_in, bytes_at}
 use Rattle.store.specs.declared.element.Element.{Element}
-use Rattle.store.specs.declared.element.ReadElement.{ReadElement}
-use Rattle.store.specs.declared.element.ReadElement.TheVariants as element
+use Rattle.store.specs.Results.ReadElement.{ReadElement}
+use Rattle.store.specs.Results.ReadElement as element
 use Rattle.store.specs.declared.element.Strictness.{Strictness}
-use Rattle.store.specs.declared.package.Stored.TheVariants as stored
-use Rattle.store.specs.declared.accessor.Found.TheVariants.{At, Refused}
+use Rattle.store.specs.Results.Stored as stored
+use Rattle.store.specs.Results.Found.{At, Found, Refused}
 use Rattle.store.proofs.Rows.{length_flat}
 
 -- whatever stands in the table of ids
@@ -43,6 +44,11 @@ unfolding element_in
 found_none [] i h = refl
 found_none (x ∷ done) zero h = absurd (omega arith)
 found_none (x ∷ done) (suc i) h = found_none done i (omega arith)
+
+-- the bytes at what was found; on a refusal none, at the front
+pub part_found : (s : List ℕ) (f : Found) → take (result_unwrap_or f (0, 0)).1 (drop (result_unwrap_or f (0, 0)).0 s) ≡ bytes_at s f
+part_found s (At at n) = refl
+part_found s (Refused r) = refl
 
 -- ---- at most so many elements
 

@@ -8,7 +8,7 @@ use Rattle.laws.specs.Bytes.{bytes, be}
 use Rattle.laws.proofs.Cases.{impossible}
 use Rattle.numbers.specs.Guid.{swapped}
 use Rattle.numbers.specs.declared.guid.Guid.{Guid}
-use Rattle.numbers.specs.declared.extended_guid.ExtendedGuid.TheVariants.{Null, Named}
+use Rattle.numbers.specs.Results.ExtendedGuid.{Named, Null}
 use Rattle.talk.specs.Ranges.{range}
 use Rattle.talk.specs.declared.range.Range.{Range}
 use Rattle.ranges.specs.Ranged.{range_of}
@@ -34,7 +34,7 @@ index_missed h = impossible (cc)
 
 index_of_any : Named zeros 1 ≡ storage_index (element 5 1 ∷ element 1 2 ∷ []) → ⊥
 unfolding storage_index
-index_of_any h = impossible (cc)
+index_of_any h = impossible (grind arith)
 
 -- ---- serial_range: all numbers up to the serial number; a range of the number 0
 

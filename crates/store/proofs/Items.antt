@@ -9,21 +9,20 @@ use lib.ListN.{length}
 use lib.Dec.{leb}
 use borrow.Author.Tests.{leb-true}
 use Rattle.laws.proofs.Cases.{pick_all}
-use Rattle.numbers.specs.declared.serial.Serial.TheVariants as number
-use Rattle.objects.specs.Steps.{value_of, need, on_serial, run_here, closed, next_is, Good}
-use Rattle.objects.specs.declared.reading.Reading.{Reading}
-use Rattle.objects.specs.declared.reading.Reading.TheVariants.{At, Refused}
-use Rattle.objects.specs.declared.reading.ReadingSerial.{ReadingSerial}
-use Rattle.objects.specs.declared.reading.ReadingSerial.TheVariants as serial'
+use Rattle.numbers.specs.Results.Serial as number
+use Rattle.objects.specs.Steps.{value_of, need, run_here, closed, next_is, Good, on_field}
+use Rattle.objects.specs.Results.Reading.{At, Reading, Refused}
+use Rattle.objects.specs.Results.ReadingSerial.{ReadingSerial}
+use Rattle.objects.specs.Results.ReadingSerial as serial'
 use Rattle.objects.proofs.Keep.{Onward, onto, good_front, onward_need, good_place, onward_number, onward_guid, onward_serial, onward_start, onward_closed}
 use Rattle.talk.specs.Ranges.{Normal}
 use Rattle.talk.specs.declared.range.Range.{Range}
 use Rattle.talk.proofs.Insertion.{length_insert, normal_insert}
-use Rattle.store.specs.Knowledge.{from_field, to_field, range_fields, item_of, range_start, range_item, entry_of, entry_start, entry_serial, entry_item, item_at, on_item, united}
+use Rattle.store.specs.Knowledge.{from_field, to_field, range_fields, item_of, range_start, range_item, entry_of, entry_start, entry_serial, entry_item, item_at, united}
 use Rattle.ranges.specs.Ranged.{range_of}
 use Rattle.store.specs.Store.{Stands}
-use Rattle.store.specs.declared.item.Item.{Item}
-use Rattle.store.specs.declared.item.Item.TheVariants as item
+use Rattle.store.specs.Results.Item.{Item}
+use Rattle.store.specs.Results.Item as item
 use Rattle.store.proofs.Taken.{stands_closed}
 
 -- ---- the fields stay within the data run
@@ -35,20 +34,20 @@ pub good_range_fields : (padding : Bool) (d : List ℕ) → Good d (range_fields
 unfolding range_fields
 good_range_fields padding d = (onward_need d _ 12 _ (to_field padding d) (omega arith) (good_place d (from_field padding d) (good_from padding d))).good ((onward_number padding d (from_field padding d)).good (good_from padding d))
 
-pub good_entry_fields : (d : List ℕ) → Good d (on_serial (entry_serial d))
+pub good_entry_fields : (d : List ℕ) → Good d (on_field (entry_serial d))
 good_entry_fields d = (onward_serial d (At 0 0)).good (good_front d 0)
 
 -- ---- what holds of the place behind an item holds of where the reading goes on
 
 -- `At e v` becomes `At e 0`, which the predicates here do not tell apart
-on_range : (P : Reading → Type 0) → ((e v : ℕ) → P (At e v) → P (At e 0)) → (x : Range) (c : Reading) → P c → P (on_item (item_of x c))
-unfolding on_item item_of
+on_range : (P : Reading → Type 0) → ((e v : ℕ) → P (At e v) → P (At e 0)) → (x : Range) (c : Reading) → P c → P (on_field (item_of x c))
+unfolding on_field item_of
 on_range P f x (At e v) h = f e v h
 on_range P f x (Refused r) h = h
 
 entry_closed : (P : Reading → Type 0) → ((e v : ℕ) → P (At e v) → P (At e 0)) → (k : ReadingSerial) (c : Reading) → P c
-    → (Stands c → Stands (on_serial k)) → P (on_item (entry_of k c))
-unfolding on_item entry_of on_serial
+    → (Stands c → Stands (on_field k)) → P (on_field (entry_of k c))
+unfolding on_field entry_of
 entry_closed P f k (Refused r) h g = h
 entry_closed P f (serial'.At q number.Null) (At e v) h g = f e v h
 entry_closed P f (serial'.At q (number.Numbered i x)) (At e v) h g = f e v h
@@ -56,19 +55,19 @@ entry_closed P f (serial'.Refused r) (At e v) h g = absurd (g tt)
 
 -- a serial number at fault leaves the closed run at fault
 on_entry : (P : Reading → Type 0) → ((e v : ℕ) → P (At e v) → P (At e 0)) → (k : ReadingSerial) (s : List ℕ) (o : Reading)
-    → P (closed s o (on_serial k)) → P (on_item (entry_of k (closed s o (on_serial k))))
-on_entry P f k s o h = entry_closed P f k (closed s o (on_serial k)) h (λ t. (stands_closed s o (on_serial k) t).1)
+    → P (closed s o (on_field k)) → P (on_field (entry_of k (closed s o (on_field k))))
+on_entry P f k s o h = entry_closed P f k (closed s o (on_field k)) h (λ t. (stands_closed s o (on_field k) t).1)
 
 module _ (padding : Bool) (P : Reading → Type 0) (f : (e v : ℕ) → P (At e v) → P (At e 0)) (s : List ℕ) (c : Reading) where
   pub on_item_lem : P (closed s (range_start padding s c) (range_fields padding (run_here s (range_start padding s c))).last)
-      → P (closed s (entry_start padding s c) (on_serial (entry_serial (run_here s (entry_start padding s c))))) → P (on_item (item_at padding s c))
+      → P (closed s (entry_start padding s c) (on_field (entry_serial (run_here s (entry_start padding s c))))) → P (on_field (item_at padding s c))
   unfolding item_at range_item entry_item
   on_item_lem a b =
-      pick_all (λ (i : Item). P (on_item i)) (next_is s 0x0F c) _ _
+      pick_all (λ (i : Item). P (on_field i)) (next_is s 0x0F c) _ _
       (λ e. on_range P f (range_fields padding (run_here s (range_start padding s c))).range (closed s (range_start padding s c) (range_fields padding (run_here s (range_start padding s c))).last) a)
       (λ e. on_entry P f (entry_serial (run_here s (entry_start padding s c))) s (entry_start padding s c) b)
 
-pub onward_item : (padding : Bool) (s : List ℕ) (c : Reading) → Onward s c (on_item (item_at padding s c))
+pub onward_item : (padding : Bool) (s : List ℕ) (c : Reading) → Onward s c (on_field (item_at padding s c))
 onward_item padding s c =
     on_item_lem padding (Onward s c) (λ e v h. record { behind = h.behind; good = h.good }) s c
     (onto (onward_start padding s 0x14 0x0F false true c) (onward_closed s (range_start padding s c) _ (good_range_fields padding (run_here s (range_start padding s c)))))

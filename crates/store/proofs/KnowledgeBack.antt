@@ -12,18 +12,18 @@ use Rattle.numbers.specs.Compact.{compact_bytes}
 use Rattle.numbers.specs.Guid.{guid_bytes, GuidFits}
 use Rattle.numbers.proofs.Guids.{length_guid, swapped_back, swapped_fits}
 use Rattle.objects.specs.Header.{start_bytes, end_bytes}
-use Rattle.objects.specs.Steps.{value_of, need, on_guid, start_of_length, next_is, run_here, closed_at}
-use Rattle.objects.specs.declared.reading.Reading.TheVariants.{At}
-use Rattle.objects.specs.declared.reading.ReadingGuid.TheVariants as guid'
+use Rattle.objects.specs.Steps.{value_of, need, start_of_length, next_is, run_here, closed_at, on_field}
+use Rattle.objects.specs.Results.Reading.{At}
+use Rattle.objects.specs.Results.ReadingGuid as guid'
 use Rattle.objects.proofs.Written.{behind, guid_written, reads_number}
 use Rattle.objects.proofs.ObjectsWritten.{reads_start, reads_start_of_length, reads_end, next_start, next_end}
 use Rattle.talk.specs.Ranges.{Normal, RangeFits, AllFit}
 use Rattle.talk.specs.declared.range.Range.{Range}
 use Rattle.talk.proofs.Insertion.{insert_last}
-use Rattle.store.specs.Knowledge.{guid_in, guid_field, from_field, to_field, range_fields, item_of, range_start, range_item, item_next, item_at, on_item, united, Knowing, knowing, items_from, cell_guid, is_cell, specialized_guid, cell_from, specialized_from, knowledge_from, knowledge_at}
+use Rattle.store.specs.Knowledge.{guid_in, guid_field, from_field, to_field, range_fields, item_of, range_start, range_item, item_next, item_at, united, Knowing, knowing, items_from, cell_guid, is_cell, specialized_guid, cell_from, specialized_from, knowledge_from, knowledge_at}
 use Rattle.ranges.specs.Ranged.{range_of}
 use Rattle.store.specs.KnowledgeWritten.{range_guid, range_data, range_bytes, ranges_bytes, cell_front, cell_back, knowledge_bytes}
-use Rattle.store.specs.declared.item.Item.TheVariants as item
+use Rattle.store.specs.Results.Item as item
 use Rattle.store.proofs.KnowledgeForward.{knowledge_more, knowledge_end_lem}
 use Rattle.store.proofs.KnowledgeLengths.{data_most, length_front, length_back}
 
@@ -54,7 +54,7 @@ module _ (padding : Bool) (x : Range) (f : RangeFits x) (v : x.from ≤ x.to) wh
   guid_is = guid_written (range_data x) 0 0 (range_guid x) (from_part ++ to_part) (guid_fits x) refl
 
   from_is : from_field padding (range_data x) ≡ At (0 + length guid_part + length from_part) x.from
-  unfolding range_data on_guid
+  unfolding range_data on_field
   from_is =
       rw guid_is
       ((reads_number padding 0 x.from f.2).here (range_data x) (0 + length guid_part) to_part (behind (range_data x) 0 guid_part (from_part ++ to_part) refl))
@@ -136,7 +136,7 @@ items_end padding (suc left) s l t at u rest h = rw (no_item s at u rest h) (ref
 item_step_lem : (padding : Bool) (left : ℕ) (s : List ℕ) (l : List Range) (t : List ℕ) (at u : ℕ) (x : Range) (e : ℕ) (l' : List Range) (P : Knowing → Type 0)
     → item_next s (At at u) ≡ true → item_at padding s (At at u) ≡ item.Adds e x → united (item.Adds e x) l ≡ l'
     → ((t' : List ℕ) → P (items_from padding left s l' t' (At e 0))) → P (items_from padding (suc left) s l t (At at u))
-unfolding items_from on_item
+unfolding items_from on_field
 item_step_lem padding left s l t at u x e l' P n i j h = rw (n, i, j) (h _)
 
 united_last : (l : List Range) (x : Range) (rest : List Range) (e : ℕ) → Normal (l ++ (x ∷ rest)) → united (item.Adds e x) l ≡ l ++ (x ∷ [])
@@ -220,7 +220,7 @@ module _ (padding : Bool) (allowed depth : ℕ) (s : List ℕ) (p u : ℕ) (t : 
       (held_stands ∙ sym (append_assoc (ranges_bytes l) (end_bytes 0x14) (end_bytes 0x44 ++ rest)))
 
   cell_is : ReadTo l (behind_cell p l) (specialized_from padding depth s (knowing [] t allowed (At p u)))
-  unfolding specialized_from is_cell cell_from on_guid
+  unfolding specialized_from is_cell cell_from on_field
   cell_is =
       rw (guid_read, cell_opens)
       (items_are.0, rw items_are.1 ((reads_end 0 0x44 (omega arith)).here s last rest back_stands))

@@ -13,17 +13,16 @@ use Rattle.laws.proofs.Cases.{by_bool, impossible}
 use Rattle.laws.proofs.Loops.{iterate_ind}
 use Rattle.numbers.specs.declared.refusal.Refusal.{Refusal}
 use Rattle.numbers.specs.declared.guid.Guid.{Guid}
-use Rattle.numbers.specs.declared.serial.Serial.TheVariants as number
-use Rattle.objects.specs.Steps.{on_guid, on_serial, start_here, start_of_length, run_here, in_run, end_here, next_is, inside}
-use Rattle.objects.specs.declared.reading.Reading.{Reading}
-use Rattle.objects.specs.declared.reading.Reading.TheVariants.{At, Refused}
-use Rattle.objects.specs.declared.reading.ReadingGuid.TheVariants as guid'
-use Rattle.objects.specs.declared.reading.ReadingSerial.{ReadingSerial}
-use Rattle.objects.specs.declared.reading.ReadingSerial.TheVariants as serial'
+use Rattle.numbers.specs.Results.Serial as number
+use Rattle.objects.specs.Steps.{start_here, start_of_length, run_here, in_run, end_here, next_is, inside, on_field}
+use Rattle.objects.specs.Results.Reading.{At, Reading, Refused}
+use Rattle.objects.specs.Results.ReadingGuid as guid'
+use Rattle.objects.specs.Results.ReadingSerial.{ReadingSerial}
+use Rattle.objects.specs.Results.ReadingSerial as serial'
 use Rattle.objects.proofs.StepsCarry.{Took, Carries, Gives, carries_to, carries_span, carries_then, gives_first, gives_next, gives_all, gives_free, gives_by, gives_both, carries_same, gives_same, carries_by, gives_by_first, gives_by_next, carries_pick, gives_picked, gives_pick, carries_still, carries_guid, gives_guid, carries_start, gives_next_is, carries_start_of_length, gives_next_is_of_length, carries_end, gives_next_is_end, carries_inside, carries_run, gives_run, opened_from}
 use Rattle.talk.specs.declared.range.Range.{Range}
 use Rattle.ranges.specs.RangeTable.{laid_ranges}
-use Rattle.store.specs.Knowledge.{range_fields, item_of, range_start, range_item, entry_of, entry_start, entry_serial, entry_item, item_next, item_kind, item_at, on_item, united, Knowing, knowing, standing, items_from, is_cell, specialized_guid, cell_from, specialized_from, knowledge_turn, to_go, unreached, knowledge_from, knowledge_at}
+use Rattle.store.specs.Knowledge.{range_fields, item_of, range_start, range_item, entry_of, entry_start, entry_serial, entry_item, item_next, item_kind, item_at, united, Knowing, knowing, standing, items_from, is_cell, specialized_guid, cell_from, specialized_from, knowledge_turn, to_go, unreached, knowledge_from, knowledge_at}
 use Rattle.store.proofs.Uniting.{items_end, items_over, items_more}
 use Rattle.store.proofs.KnowledgeForward.{knowledge_falls, knowledge_more, knowledge_end_lem, turn_more}
 use Rattle.store.proofs.TableFree.{table_free}
@@ -40,13 +39,13 @@ gives_range_run : (padding : Bool) → Gives (range_run padding) (λ s c. run_he
 gives_range_run padding =
     gives_next (carries_start padding 0x14 0x0F false true) (carries_run (λ d. (range_fields padding d).last)) (gives_run (λ d. (range_fields padding d).last))
 
-carries_on_range : (x : Range) → Carries (λ s c. on_item (item_of x c))
-unfolding on_item item_of
+carries_on_range : (x : Range) → Carries (λ s c. on_field (item_of x c))
+unfolding on_field item_of
 carries_on_range x =
-    carries_still (λ c. on_item (item_of x c)) (λ r. refl) (λ p u q v e. let y : p ≡ q = cc in let z : 0 ≡ v = cc in (sym y, λ p'. rw z))
+    carries_still (λ c. on_field (item_of x c)) (λ r. refl) (λ p u q v e. let y : p ≡ q = grind arith in let z : 0 ≡ v = grind arith in (sym y, λ p'. rw z))
 
 abbrev range_step : Bool → List ℕ → Reading → Reading
-range_step padding s c = on_item (range_item padding s c)
+range_step padding s c = on_field (range_item padding s c)
 
 carries_range : (padding : Bool) → Carries (range_step padding)
 unfolding range_item
@@ -71,27 +70,27 @@ gives_range_next padding x =
 -- ---- an entry
 
 abbrev entry_run : Bool → List ℕ → Reading → Reading
-entry_run padding s c = in_run s (λ d. on_serial (entry_serial d)) (entry_start padding s c)
+entry_run padding s c = in_run s (λ d. on_field (entry_serial d)) (entry_start padding s c)
 
 carries_entry_run : (padding : Bool) → Carries (entry_run padding)
-carries_entry_run padding = carries_then (carries_start padding 0x14 0x17 false true) (carries_run (λ d. on_serial (entry_serial d)))
+carries_entry_run padding = carries_then (carries_start padding 0x14 0x17 false true) (carries_run (λ d. on_field (entry_serial d)))
 
 gives_entry_run : (padding : Bool) → Gives (entry_run padding) (λ s c. run_here s (entry_start padding s c))
 gives_entry_run padding =
-    gives_next (carries_start padding 0x14 0x17 false true) (carries_run (λ d. on_serial (entry_serial d))) (gives_run (λ d. on_serial (entry_serial d)))
+    gives_next (carries_start padding 0x14 0x17 false true) (carries_run (λ d. on_field (entry_serial d))) (gives_run (λ d. on_field (entry_serial d)))
 
-entry_moves : (k : ReadingSerial) (p u q v : ℕ) → on_item (entry_of k (At p u)) ≡ At q v → (q ≡ p) × ((p' : ℕ) → on_item (entry_of k (At p' u)) ≡ At p' v)
-unfolding on_item entry_of
-entry_moves (serial'.At i number.Null) p u q v e = let y : p ≡ q = cc in let z : 0 ≡ v = cc in (sym y, λ p'. rw z)
-entry_moves (serial'.At i (number.Numbered g x)) p u q v e = let y : p ≡ q = cc in let z : 0 ≡ v = cc in (sym y, λ p'. rw z)
+entry_moves : (k : ReadingSerial) (p u q v : ℕ) → on_field (entry_of k (At p u)) ≡ At q v → (q ≡ p) × ((p' : ℕ) → on_field (entry_of k (At p' u)) ≡ At p' v)
+unfolding on_field entry_of
+entry_moves (serial'.At i number.Null) p u q v e = let y : p ≡ q = grind arith in let z : 0 ≡ v = grind arith in (sym y, λ p'. rw z)
+entry_moves (serial'.At i (number.Numbered g x)) p u q v e = let y : p ≡ q = grind arith in let z : 0 ≡ v = grind arith in (sym y, λ p'. rw z)
 entry_moves (serial'.Refused r) p u q v e = impossible (cc)
 
-carries_on_entry : (k : ReadingSerial) → Carries (λ s c. on_item (entry_of k c))
-unfolding on_item entry_of
-carries_on_entry k = carries_still (λ c. on_item (entry_of k c)) (λ r. refl) (entry_moves k)
+carries_on_entry : (k : ReadingSerial) → Carries (λ s c. on_field (entry_of k c))
+unfolding on_field entry_of
+carries_on_entry k = carries_still (λ c. on_field (entry_of k c)) (λ r. refl) (entry_moves k)
 
 abbrev entry_step : Bool → List ℕ → Reading → Reading
-entry_step padding s c = on_item (entry_item padding s c)
+entry_step padding s c = on_field (entry_item padding s c)
 
 carries_entry : (padding : Bool) → Carries (entry_step padding)
 unfolding entry_item
@@ -113,12 +112,12 @@ gives_entry_next : (padding : Bool) (x : ℕ) → Gives (entry_step padding) (λ
 unfolding entry_item
 gives_entry_next padding x =
     gives_by_first (carries_entry_run padding) (gives_entry_run padding) (λ d. carries_on_entry (entry_serial d))
-    (gives_first (carries_start padding 0x14 0x17 false true) (carries_run (λ d. on_serial (entry_serial d))) (gives_next_is padding x 0x14 0x17 false true))
+    (gives_first (carries_start padding 0x14 0x17 false true) (carries_run (λ d. on_field (entry_serial d))) (gives_next_is padding x 0x14 0x17 false true))
 
 -- ---- a range or an entry
 
 abbrev item_step : Bool → List ℕ → Reading → Reading
-item_step padding s c = on_item (item_at padding s c)
+item_step padding s c = on_field (item_at padding s c)
 
 abbrev picked_step : Bool → List ℕ → Reading → Reading
 picked_step padding s c = pick (next_is s 0x0F c) (range_step padding s c) (entry_step padding s c)
@@ -232,7 +231,7 @@ items_carry padding (suc left) l t =
 -- ---- a specialized knowledge
 
 abbrev name_step : Bool → List ℕ → Reading → Reading
-name_step padding s c = on_guid (specialized_guid padding s c)
+name_step padding s c = on_field (specialized_guid padding s c)
 
 carries_name : (padding : Bool) → Carries (name_step padding)
 unfolding specialized_guid

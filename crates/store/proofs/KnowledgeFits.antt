@@ -11,26 +11,25 @@ use Rattle.laws.proofs.Cases.{pick_all}
 use Rattle.laws.proofs.Numbers.{take_bytes, drop_bytes}
 use Rattle.numbers.specs.Compact.{compact_for}
 use Rattle.numbers.specs.Serial.{read_serial}
-use Rattle.numbers.specs.declared.compact.Compact.{Compact}
-use Rattle.numbers.specs.declared.compact.Compact.TheVariants as compact
+use Rattle.numbers.specs.Results.Compact.{Compact}
+use Rattle.numbers.specs.Results.Compact as compact
 use Rattle.numbers.specs.declared.guid.Guid.{Guid}
-use Rattle.numbers.specs.declared.serial.Serial.TheVariants as number
-use Rattle.numbers.specs.declared.serial.ReadSerial.{ReadSerial}
-use Rattle.numbers.specs.declared.serial.ReadSerial.TheVariants as serial
+use Rattle.numbers.specs.Results.Serial as number
+use Rattle.numbers.specs.Results.ReadSerial.{ReadSerial}
+use Rattle.numbers.specs.Results.ReadSerial as serial
 use Rattle.numbers.proofs.RoundTrip.{taken_fits}
 use Rattle.numbers.proofs.Guids.{swapped_fits}
 use Rattle.numbers.proofs.Serials.{serial_written_read}
-use Rattle.objects.specs.Steps.{value_of, number_on, serial_on, serial_here, on_guid, run_here, next_is}
+use Rattle.objects.specs.Steps.{value_of, number_on, serial_on, serial_here, run_here, next_is, on_field}
 use Rattle.objects.specs.Steps as steps
-use Rattle.objects.specs.declared.reading.Reading.{Reading}
-use Rattle.objects.specs.declared.reading.Reading.TheVariants.{At, Refused}
+use Rattle.objects.specs.Results.Reading.{At, Reading, Refused}
 use Rattle.talk.specs.Ranges.{RangeFits, AllFit}
 use Rattle.talk.specs.declared.range.Range.{Range}
 use Rattle.talk.proofs.Bounds.{insert_fits}
 use Rattle.store.specs.Knowledge.{guid_in, guid_field, from_field, to_field, range_fields, item_of, range_start, range_item, entry_of, entry_start, entry_serial, entry_item, item_at, united, knowledge_at}
 use Rattle.ranges.specs.Ranged.{range_of}
-use Rattle.store.specs.declared.item.Item.{Item}
-use Rattle.store.specs.declared.item.Item.TheVariants as item
+use Rattle.store.specs.Results.Item.{Item}
+use Rattle.store.specs.Results.Item as item
 use Rattle.store.proofs.KnowledgeHeld.{kept}
 
 -- ---- fields
@@ -68,7 +67,7 @@ of_range x (Refused r) f = tt
 
 fields_fit : (padding : Bool) (d : List ℕ) → AllBytes d → RangeFits (range_fields padding d).range
 unfolding range_fields
-fields_fit padding d b = range_fits (guid_in (guid_field d)) (value_of (from_field padding d)) (value_of (to_field padding d)) (number_fits padding d (on_guid (guid_field d)) b) (number_fits padding d (from_field padding d) b)
+fields_fit padding d b = range_fits (guid_in (guid_field d)) (value_of (from_field padding d)) (value_of (to_field padding d)) (number_fits padding d (on_field (guid_field d)) b) (number_fits padding d (from_field padding d) b)
 
 of_serial : (d : List ℕ) (r : ReadSerial) (c : Reading) → AllBytes d → read_serial (drop 0 d) ≡ r → ItemFits (entry_of (serial_on 0 r) c)
 unfolding entry_of

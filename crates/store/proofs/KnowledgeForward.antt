@@ -11,13 +11,12 @@ use Rattle.laws.specs.Loop.{Turn}
 use Rattle.laws.specs.Loop.Turn.{more, done}
 use Rattle.laws.proofs.Cases.{pick_all, impossible}
 use Rattle.laws.proofs.Loops.{Falls, iterate_at}
-use Rattle.objects.specs.Steps.{place_of, guid_here, on_guid, start_of_length, end_here, next_is, Behind}
-use Rattle.objects.specs.declared.reading.Reading.{Reading}
-use Rattle.objects.specs.declared.reading.Reading.TheVariants.{At, Refused}
+use Rattle.objects.specs.Steps.{place_of, guid_here, start_of_length, end_here, next_is, Behind, on_field}
+use Rattle.objects.specs.Results.Reading.{At, Reading, Refused}
 use Rattle.objects.proofs.Keep.{Onward, onto, behind_place, onward_start, onward_start_of_length, past_start_of_length, onward_guid, onward_end, next_within, onward_inside}
 use Rattle.talk.specs.declared.range.Range.{Range}
 use Rattle.ranges.specs.RangeTable.{laid_ranges}
-use Rattle.store.specs.Knowledge.{item_next, item_kind, item_at, on_item, united, Knowing, standing, items_from, is_cell, specialized_guid, cell_from, specialized_from, knowledge_turn, to_go, unreached, knowledge_from}
+use Rattle.store.specs.Knowledge.{item_next, item_kind, item_at, united, Knowing, standing, items_from, is_cell, specialized_guid, cell_from, specialized_from, knowledge_turn, to_go, unreached, knowledge_from}
 use Rattle.store.proofs.Items.{onward_item}
 
 -- ---- ranges and entries
@@ -27,7 +26,7 @@ unfolding items_from
 onward_items padding zero s l t c =
     pick_all (λ (k : Knowing). Onward s c k.last) (item_next s c) _ _ (λ e. onward_start padding s 0x14 (item_kind s c) false false c) (λ e. onward_end s 0x14 c)
 onward_items padding (suc left) s l t c =
-    let more = onward_items padding left s (united (item_at padding s c) l) (laid_ranges (united (item_at padding s c) l) t) (on_item (item_at padding s c)) in
+    let more = onward_items padding left s (united (item_at padding s c) l) (laid_ranges (united (item_at padding s c) l) t) (on_field (item_at padding s c)) in
     pick_all (λ (k : Knowing). Onward s c k.last) (item_next s c) _ _ (λ e. onto (onward_item padding s c) more) (λ e. onward_end s 0x14 c)
 
 -- ---- a specialized knowledge
@@ -43,7 +42,7 @@ onward_within : (padding : Bool) (depth : ℕ) (s : List ℕ) (k : Knowing) → 
 unfolding specialized_from specialized_guid
 onward_within padding depth s k =
     let o = start_of_length padding s 0x10 0x44 true true 16 k.last in
-    let c = on_guid (guid_here s o) in
+    let c = on_field (guid_here s o) in
     pick_all (λ (m : Knowing). Onward s o m.last) (is_cell (guid_here s o)) _ _ (λ e. onto (onward_guid s o) (onward_cell padding s k c))
     (λ e. onto (onward_guid s o) (onward_inside padding s depth 0x44 c))
 

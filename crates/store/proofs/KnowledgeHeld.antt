@@ -11,18 +11,17 @@ use lib.Seq.{drop-drop, drop_at}
 use Rattle.laws.specs.Pick.{pick}
 use Rattle.laws.proofs.Cases.{by_bool, pick_all, impossible}
 use Rattle.laws.proofs.Loops.{iterate_ind}
-use Rattle.objects.specs.Steps.{on_guid, start_of_length, next_is}
-use Rattle.objects.specs.declared.reading.Reading.{Reading}
-use Rattle.objects.specs.declared.reading.Reading.TheVariants.{At, Refused}
+use Rattle.objects.specs.Steps.{start_of_length, next_is, on_field}
+use Rattle.objects.specs.Results.Reading.{At, Reading, Refused}
 use Rattle.objects.proofs.Keep.{Onward, onto, onward_start_of_length, onward_end}
 use Rattle.talk.specs.Ranges.{within, holds, Normal}
 use Rattle.talk.specs.declared.range.Range.{Range}
 use Rattle.talk.proofs.Membership.{holds_insert}
 use Rattle.ranges.specs.RangeTable.{range_width, ranges_at, numbers_of, laid_ranges}
-use Rattle.store.specs.Knowledge.{item_next, item_at, on_item, united, Knowing, knowing, items_from, is_cell, specialized_guid, cell_from, specialized_from, knowledge_turn, to_go, unreached, knowledge_from, knowledge_at, knowledge_answer}
-use Rattle.store.specs.declared.item.Item.{Item}
-use Rattle.store.specs.declared.item.Item.TheVariants as item
-use Rattle.store.specs.declared.knowledge.ReadKnowledge.TheVariants as read
+use Rattle.store.specs.Knowledge.{item_next, item_at, united, Knowing, knowing, items_from, is_cell, specialized_guid, cell_from, specialized_from, knowledge_turn, to_go, unreached, knowledge_from, knowledge_at, knowledge_answer}
+use Rattle.store.specs.Results.Item.{Item}
+use Rattle.store.specs.Results.Item as item
+use Rattle.store.specs.Results.ReadKnowledge as read
 use Rattle.ranges.proofs.RangeRows.{length_numbers, laid_rows_lem, length_laid}
 use Rattle.store.proofs.Items.{sound_item, united_normal, length_united}
 use Rattle.store.proofs.KnowledgeForward.{knowledge_falls, knowledge_more, knowledge_end_lem, turn_more, onward_specialized}
@@ -39,13 +38,13 @@ module _ (padding : Bool) (P : List Range → List ℕ → ℕ → Type 0) (s : 
   items_keep zero l t c p = pick_all On (item_next s c) _ _ (λ e. p) (λ e. p)
   items_keep (suc left) l t c p =
       pick_all On (item_next s c) _ _
-      (λ e. items_keep left (united (item_at padding s c) l) (laid_ranges (united (item_at padding s c) l) t) (on_item (item_at padding s c)) (step c l t left p)) (λ e. p)
+      (λ e. items_keep left (united (item_at padding s c) l) (laid_ranges (united (item_at padding s c) l) t) (on_field (item_at padding s c)) (step c l t left p)) (λ e. p)
 
   specialized_keep : (depth : ℕ) (k : Knowing) → On k → On (specialized_from padding depth s k)
   unfolding specialized_from cell_from
   specialized_keep depth k p =
       pick_all On (is_cell (specialized_guid padding s k.last)) _ _
-      (λ e. items_keep k.left k.ranges k.table (start_of_length padding s 0x44 0x14 true true 0 (on_guid (specialized_guid padding s k.last))) p) (λ e. p)
+      (λ e. items_keep k.left k.ranges k.table (start_of_length padding s 0x44 0x14 true true 0 (on_field (specialized_guid padding s k.last))) p) (λ e. p)
 
   knowledge_keep : (depth : ℕ) (k : Knowing) → On k → On (knowledge_from padding depth s k)
   knowledge_keep depth =
@@ -128,7 +127,7 @@ onward_knowledge padding allowed depth outer s t c =
 
 answer_rows : (m : ℕ) (c : Reading) (e n : ℕ) → knowledge_answer m c ≡ read.Holds e n → m ≡ n
 unfolding knowledge_answer
-answer_rows m (At p v) e n h = cc
+answer_rows m (At p v) e n h = grind arith
 answer_rows m (Refused r) e n h = impossible (cc)
 
 pub rows_normal : (l : List Range) (c : Reading) (e n : ℕ) (t : List ℕ) → read.Holds e n ≡ knowledge_answer (length l) c → ranges_at t 0 (length l) ≡ l → Normal l

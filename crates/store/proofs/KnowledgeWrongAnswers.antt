@@ -17,15 +17,15 @@ use Rattle.numbers.specs.Calls.{written, Writes}
 use Rattle.numbers.specs.Compact.{compact_bytes, form_of, form_from, size_of, with_form, read_form, read_compact, compact_for, padding_refused}
 use Rattle.numbers.specs.Compact as compact
 use Rattle.numbers.specs.Guid.{guid_at, guid_bytes, swapped}
-use Rattle.numbers.specs.declared.refusal.Wrote.TheVariants.{Done, Refused}
+use Rattle.numbers.specs.Results.Wrote.{Done, Refused}
 use Rattle.objects.specs.Header.{start_bytes, long_start, start_number, end_bytes, start_of, end_of, sized, header_of, header_at, length_at}
-use Rattle.objects.specs.Steps.{place_of, value_of, number, guid_here, on_guid, start_here, length_is, start_of_length, end_here, next_is}
-use Rattle.objects.specs.declared.reading.Reading.TheVariants.{At}
+use Rattle.objects.specs.Steps.{place_of, value_of, number, guid_here, start_here, length_is, start_of_length, end_here, next_is, on_field}
+use Rattle.objects.specs.Results.Reading.{At}
 use Rattle.talk.specs.Ranges.{range, within, holds, is_before, joined, absorb, insert}
 use Rattle.talk.specs.declared.range.Range.{Range}
 use Rattle.ranges.specs.RangeTable.{ranges_at, numbers_of, added_to, laid_in}
-use Rattle.ranges.specs.declared.Added.TheVariants.{Rows}
-use Rattle.store.specs.declared.knowledge.ReadKnowledge.TheVariants.{Holds}
+use Rattle.ranges.specs.Results.Added.{Rows}
+use Rattle.store.specs.Results.ReadKnowledge.{Holds}
 use Rattle.store.specs.Knowledge.{guid_in, range_fields, knowledge_turn, to_go, knowledge_from, knowledge_at, knowledge_answer, ReadsKnowledge}
 use Rattle.ranges.specs.Ranged.{range_of, knows}
 use Rattle.store.specs.KnowledgeWritten.{range_guid, range_data, range_bytes, ranges_bytes, cell_front, cell_back, knowledge_bytes}
@@ -78,7 +78,7 @@ always_longest h = omega arith
 
 one_row_held : ReadsKnowledge (knowledge_at padding_refused 0 12 0x42 (0x84 ∷ 0x00 ∷ 0x41 ∷ []) (7 ∷ []) (At 0 0)) (Holds 3 1) (7 ∷ []) → ⊥
 unfolding knowledge_at knowledge_from knowledge_turn to_go knowledge_answer iterate turns start_of_length length_is place_of start_here next_is end_here header_at header_of sized start_of end_of length_at le
-one_row_held h = impossible (cc)
+one_row_held h = impossible (grind arith)
 
 table_cleared : ReadsKnowledge (knowledge_at padding_refused 0 12 0x42 (0x84 ∷ 0x00 ∷ 0x41 ∷ []) (7 ∷ []) (At 0 0)) (Holds 3 0) (0 ∷ []) → ⊥
 unfolding knowledge_at knowledge_from knowledge_turn to_go knowledge_answer iterate turns start_of_length length_is place_of start_here next_is end_here header_at header_of sized start_of end_of length_at le
@@ -88,7 +88,7 @@ table_cleared h = impossible (cc)
 
 from_and_to_turned :
     (range_fields padding_refused (0 ∷ 0 ∷ 0 ∷ 0 ∷ 0 ∷ 0 ∷ 0 ∷ 0 ∷ 0 ∷ 0 ∷ 0 ∷ 0 ∷ 0 ∷ 0 ∷ 0 ∷ 0 ∷ 0x03 ∷ 0x05 ∷ [])).range ≡ range 0 0 2 1 → ⊥
-unfolding range_fields guid_in guid_here on_guid guid_at number value_of read_compact compact_for read_form compact.compact_value count_trailing_zeros range_of size_of swapped be bytes le
+unfolding range_fields guid_in guid_here on_field guid_at number value_of read_compact compact_for read_form compact.compact_value count_trailing_zeros range_of size_of swapped be bytes le
 from_and_to_turned h = let z : ◌≡◌ {A = ℕ} 1 2 = ap (λ (r : Range). r.from) h in omega arith
 
 -- ---- add_range: 5 to 6 put to 1 to 4, in a table with room for two rows

@@ -7,12 +7,12 @@ use Prim.Native.Nat.{ℕ, ◌+◌, ◌*◌, ◌≤◌}
 use lib.ListN.{length}
 use native.Mathlib.Omega.{arith}
 use Rattle.objects.specs.Steps.{end_here, next_is}
-use Rattle.objects.specs.declared.reading.Reading.{Reading}
+use Rattle.objects.specs.Results.Reading.{Reading}
 use Rattle.talk.specs.Ranges.{Normal}
 use Rattle.ranges.specs.RangeTable.{range_width, ranges_at}
 use Rattle.store.specs.Knowledge.{Knowing, knowing, standing, specialized_from, knowledge_from, knowledge_answer, KnownIs, ReadsKnowledge}
 use Rattle.store.specs.declared.knowledge.Known.{Known}
-use Rattle.store.specs.declared.knowledge.ReadKnowledge.{ReadKnowledge}
+use Rattle.store.specs.Results.ReadKnowledge.{ReadKnowledge}
 use Rattle.ranges.proofs.RangeRows.{length_rows}
 use Rattle.store.proofs.KnowledgeForward.{knowledge_more, knowledge_end_lem}
 

@@ -9,21 +9,21 @@ use Rattle.numbers.proofs.OneAnswers.{refuses_telling, values_of}
 use Rattle.store.specs.Element.{tell_reading_key, tell_read_element}
 use Rattle.store.specs.declared.element.Key.{Key}
 use Rattle.store.specs.declared.element.Element.{Element}
-use Rattle.store.specs.declared.element.ReadingKey.TheVariants as key
-use Rattle.store.specs.declared.element.ReadElement.TheVariants as element
+use Rattle.store.specs.Results.ReadingKey as key
+use Rattle.store.specs.Results.ReadElement as element
 use Rattle.store.specs.Store.{Walk, PackageTo, WalkedTo, tell_packaged, tell_stored}
 use Rattle.store.specs.Accessor.{tell_found, FindsElement, element_bytes}
-use Rattle.store.specs.declared.package.Packaged.{Packaged}
-use Rattle.store.specs.declared.package.Packaged.TheVariants as packaged
-use Rattle.store.specs.declared.package.Stored.{Stored}
-use Rattle.store.specs.declared.package.Stored.TheVariants as stored
+use Rattle.store.specs.Results.Packaged.{Packaged}
+use Rattle.store.specs.Results.Packaged as packaged
+use Rattle.store.specs.Results.Stored.{Stored}
+use Rattle.store.specs.Results.Stored as stored
 use Rattle.store.specs.Knowledge.{Knowing, ReadsKnowledge, tell_item, tell_read_knowledge}
 use Rattle.talk.proofs.Order.{same_range}
-use Rattle.store.specs.declared.item.Item.TheVariants as item
-use Rattle.store.specs.declared.knowledge.ReadKnowledge.{ReadKnowledge}
-use Rattle.store.specs.declared.knowledge.ReadKnowledge.TheVariants as read
-use Rattle.store.specs.declared.accessor.Found.{Found}
-use Rattle.store.specs.declared.accessor.Found.TheVariants as found
+use Rattle.store.specs.Results.Item as item
+use Rattle.store.specs.Results.ReadKnowledge.{ReadKnowledge}
+use Rattle.store.specs.Results.ReadKnowledge as read
+use Rattle.store.specs.Results.Found.{Found}
+use Rattle.store.specs.Results.Found as found
 
 pub found_telling : Telling tell_found
 found_telling (found.At p n) (found.At q m) e = let v = values_of _ _ e in cc

@@ -15,7 +15,7 @@ use Rattle.laws.proofs.Twice.{once_before}
 use Rattle.numbers.specs.Refusals.{longest_input}
 use Rattle.objects.specs.Header.{end_bytes}
 use Rattle.objects.specs.Steps.{nothing_open, end_here}
-use Rattle.objects.specs.declared.reading.Reading.TheVariants.{At}
+use Rattle.objects.specs.Results.Reading.{At}
 use Rattle.objects.proofs.Written.{behind, reads_then, reads_skip, finish_written}
 use Rattle.objects.proofs.ObjectsWritten.{reads_start_of_length, reads_end}
 use Rattle.store.specs.Element.{same_key, element_at}
@@ -25,7 +25,7 @@ use Rattle.store.specs.Chain.{Follows}
 use Rattle.store.specs.Written.{Content, written_element, written_elements, package_front, package_bytes, AllFit, element_of, elements_from}
 use Rattle.store.specs.declared.element.Key.{Key}
 use Rattle.store.specs.declared.element.Element.{Element}
-use Rattle.store.specs.declared.element.ReadElement.TheVariants.{Is}
+use Rattle.store.specs.Results.ReadElement.{Is}
 use Rattle.store.specs.declared.element.Strictness.{Strictness}
 use Rattle.store.proofs.ElementWritten.{element_written}
 use Rattle.store.proofs.Chains.{same_turn, package_walked}

@@ -12,8 +12,8 @@ use Rattle.laws.proofs.Cases.{by_bool, by_lt, impossible}
 use Rattle.numbers.specs.Refusals.{longest_input}
 use Rattle.numbers.specs.declared.refusal.Refusal.{Refusal}
 use Rattle.objects.specs.Steps.{nothing_open, place_of, end_here, finish, next_is, inside, FaultWithin, Good}
-use Rattle.objects.specs.declared.reading.Reading.{Reading}
-use Rattle.objects.specs.declared.reading.Reading.TheVariants as reading
+use Rattle.objects.specs.Results.Reading.{Reading}
+use Rattle.objects.specs.Results.Reading as reading
 use Rattle.objects.proofs.Keep.{good_front, onward_start, onward_end, onward_finish}
 use Rattle.objects.proofs.InputFaults.{InputFault, input_fault}
 use Rattle.store.specs.Element.{data_of, element_on, element_at, ids_in}
@@ -21,8 +21,8 @@ use Rattle.store.specs.Store.{package_start, on_element, walk_from, package_walk
 use Rattle.store.specs.declared.element.Key.{Key}
 use Rattle.store.specs.declared.element.Fields.{Fields}
 use Rattle.store.specs.declared.element.Element.{Element}
-use Rattle.store.specs.declared.element.ReadElement.{ReadElement}
-use Rattle.store.specs.declared.element.ReadElement.TheVariants as element
+use Rattle.store.specs.Results.ReadElement.{ReadElement}
+use Rattle.store.specs.Results.ReadElement as element
 use Rattle.store.specs.declared.element.Strictness.{Strictness}
 use Rattle.store.proofs.Fields.{onward_element, element_within}
 use Rattle.store.proofs.Walks.{good_package, walk_ends, walk_over, walk_element}

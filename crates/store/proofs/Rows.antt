@@ -2,7 +2,7 @@
 -- Each law is over the width of a row.
 -- Assumes nothing.
 use mathlib.Core.Path.{◌≡◌, refl, sym, ap, ap₂, ◌∙◌}
-use mathlib.Core.Bool.{true, false}
+use mathlib.Core.Bool.{Bool, true, false, ◌&&◌}
 use mathlib.Core.List.{List, [], ◌∷◌, ◌++◌, map, append_assoc, append-nil}
 use Prim.Native.Nat.{ℕ, zero, suc, ◌+◌, ◌-◌, ◌*◌, ◌%◌, ◌≤◌, ◌<◌}
 use native.Mathlib.Nat.{suc-mul, zero-mul, mul-le-mul_right, mod-lt}
@@ -13,6 +13,7 @@ use lib.Seq.{take_at, drop_at, drop-drop}
 use lib.Dec.{eqb}
 use borrow.Author.Tests.{eq-eqb, ne_eqb, eqb-true}
 use Rattle.laws.specs.Once.{seen}
+use Rattle.laws.specs.Pick.{pick}
 use Rattle.laws.proofs.Cases.{by_eq, impossible}
 use Rattle.store.specs.Element.{same_key}
 use Rattle.store.specs.Tables.{key_at, keys_at, mark_of, flat}
@@ -106,6 +107,15 @@ keys_more t width offset i = keys_join t width offset i 1
 -- a key within its row, and its row within the table
 pub key_room : (i n width offset size : ℕ) → i < n → offset + 3 ≤ width → n * width ≤ size → i * width + offset + 3 ≤ size
 key_room i n width offset size h o s = omega (arith, mul-le-mul_right width h, suc-mul i width)
+
+-- the derived test of two keys is `same_key`
+and_pick : (x y : Bool) → (x && y) ≡ pick x y false
+and_pick true y = refl
+and_pick false y = refl
+
+pub same_fields : (a b : Key) → (eqb a.low b.low && (eqb a.high b.high && eqb a.number b.number)) ≡ same_key a b
+unfolding same_key
+same_fields a b = simp and_pick
 
 -- equal keys are equal in each number
 pub same_numbers : (a b : Key) → same_key a b ≡ true → (a.low ≡ b.low) × (a.high ≡ b.high) × (a.number ≡ b.number)

@@ -10,7 +10,7 @@ use borrow.Author.Tests.{lt-ltb}
 use Rattle.laws.specs.Bytes.{bytes}
 use Rattle.objects.specs.Header.{start_number, start_bytes}
 use Rattle.objects.specs.Steps.{start_here}
-use Rattle.objects.specs.declared.reading.Reading.TheVariants.{At}
+use Rattle.objects.specs.Results.Reading.{At}
 use Rattle.objects.specs.Next.{short_number, short_is}
 use Rattle.objects.proofs.Short.{short_room, short_start_on}
 use Rattle.store.specs.Knowledge.{range_start}

@@ -15,10 +15,9 @@ use Rattle.laws.proofs.Cases.{by_lt, pick_all}
 use Rattle.laws.proofs.Parts.{same_part}
 use Rattle.numbers.specs.Guid.{guid_at}
 use Rattle.numbers.specs.Refusals.{fault_at}
-use Rattle.objects.specs.Steps.{guid_here, on_guid, run_here, closed_at, closed, length_is, start_here, start_of_length, place_of, Good}
-use Rattle.objects.specs.declared.reading.Reading.{Reading}
-use Rattle.objects.specs.declared.reading.Reading.TheVariants.{At, Refused}
-use Rattle.objects.specs.declared.reading.ReadingGuid.TheVariants as guid'
+use Rattle.objects.specs.Steps.{guid_here, run_here, closed_at, closed, length_is, start_here, start_of_length, place_of, Good, on_field}
+use Rattle.objects.specs.Results.Reading.{At, Reading, Refused}
+use Rattle.objects.specs.Results.ReadingGuid as guid'
 use Rattle.objects.proofs.Keep.{good_front, onward_guid}
 use Rattle.store.specs.Knowledge.{guid_field, is_cell, specialized_guid}
 
@@ -68,8 +67,8 @@ module _ (s : List ℕ) (from : ℕ) where
       let a = run_length h in
       here_whole (take 16 (drop from s)) 0 0 (omega arith) ∙ ap (λ g. guid'.At 16 g) (guid_of_run (drop from s))
 
-  closed_here : closed s (At from 16) (on_guid (guid_field (take 16 (drop from s)))) ≡ on_guid (guid_here s (At from 16))
-  unfolding on_guid run_here closed_at
+  closed_here : closed s (At from 16) (on_field (guid_field (take 16 (drop from s)))) ≡ on_field (guid_here s (At from 16))
+  unfolding on_field run_here closed_at
   closed_here =
       by_lt (length s - from) 16
       (λ h. rw (here_short s from 16 h, short_run h, add-zero from))
@@ -82,8 +81,8 @@ module _ (s : List ℕ) (from : ℕ) where
       (λ h. rw (here_short s from 16 h, short_run h))
       (λ h. rw (here_whole s from 16 h, whole_run h))
 
-closed_run : (s : List ℕ) (o : Reading) → Sixteen o → closed s o (on_guid (guid_field (run_here s o))) ≡ on_guid (guid_here s o)
-unfolding guid_here on_guid run_here closed_at
+closed_run : (s : List ℕ) (o : Reading) → Sixteen o → closed s o (on_field (guid_field (run_here s o))) ≡ on_field (guid_here s o)
+unfolding guid_here on_field run_here closed_at
 closed_run s (At from v) e = rw e (closed_here s from)
 closed_run s (Refused r) e = refl
 
@@ -98,10 +97,10 @@ abbrev specialized_start : Bool → List ℕ → Reading → Reading
 specialized_start padding s c = start_of_length padding s 0x10 0x44 true true 16 c
 
 module _ (padding : Bool) (s : List ℕ) (c o : Reading) (d : List ℕ) (starts : o ≡ specialized_start padding s c) (run : d ≡ run_here s o) where
-  pub run_good : Good (run_here s o) (on_guid (guid_field d))
+  pub run_good : Good (run_here s o) (on_field (guid_field d))
   run_good = rw run ((onward_guid (run_here s o) (At 0 0)).good (good_front (run_here s o) 0))
 
-  pub run_closed : closed s o (on_guid (guid_field d)) ≡ on_guid (specialized_guid padding s c)
+  pub run_closed : closed s o (on_field (guid_field d)) ≡ on_field (specialized_guid padding s c)
   unfolding specialized_guid
   run_closed = rw (run, starts) (closed_run s (specialized_start padding s c) (sixteen padding s c))
 

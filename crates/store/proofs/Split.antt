@@ -1,5 +1,6 @@
 -- A package's walk is that of its elements, and then its end; and so is what is answered.
 -- Assumes nothing.
+use native.Mathlib.Omega.{arith}
 use mathlib.Core.Path.{◌≡◌, refl, sym, ap, ◌∙◌}
 use mathlib.Core.Bool.{true, false}
 use mathlib.Core.List.{List, [], ◌∷◌, ◌++◌}
@@ -8,17 +9,16 @@ use lib.ListN.{length}
 use Rattle.laws.proofs.Cases.{by_bool, impossible}
 use Rattle.numbers.specs.declared.refusal.Refusal.{Refusal}
 use Rattle.objects.specs.Steps.{start_here, end_here, next_is}
-use Rattle.objects.specs.declared.reading.Reading.{Reading}
-use Rattle.objects.specs.declared.reading.Reading.TheVariants.{At, Refused}
+use Rattle.objects.specs.Results.Reading.{At, Reading, Refused}
 use Rattle.store.specs.Element.{element_at, ids_in}
 use Rattle.store.specs.Tables.{most_elements}
 use Rattle.store.specs.Store.{package_start, Walk, walked, closing, on_element, walk_from, elements_walk, package_walk, packaged_of, PackageTo, Stands}
 use Rattle.store.specs.declared.element.Element.{Element}
-use Rattle.store.specs.declared.element.ReadElement.{ReadElement}
-use Rattle.store.specs.declared.element.ReadElement.TheVariants as element
+use Rattle.store.specs.Results.ReadElement.{ReadElement}
+use Rattle.store.specs.Results.ReadElement as element
 use Rattle.store.specs.declared.element.Strictness.{Strictness}
-use Rattle.store.specs.declared.package.Packaged.{Packaged}
-use Rattle.store.specs.declared.package.Packaged.TheVariants as packaged
+use Rattle.store.specs.Results.Packaged.{Packaged}
+use Rattle.store.specs.Results.Packaged as packaged
 use Rattle.store.proofs.Chains.{no_room_lem}
 
 -- ---- the walk
@@ -64,8 +64,8 @@ ended_refused m r s (Refused q) h = h
 ended_holds : (m n e : ℕ) (s : List ℕ) (c : Reading) → packaged.Holds e n ≡ packaged_of m c → packaged_of n (end_here s 0x15 (At e 0)) ≡ packaged_of m (end_here s 0x15 c)
 unfolding packaged_of end_here
 ended_holds m n e s (At p v) h =
-    let a : n ≡ m = cc in
-    let b : e ≡ p = cc in
+    let a : n ≡ m = grind arith in
+    let b : e ≡ p = grind arith in
     rw (a, b)
 ended_holds m n e s (Refused r) h = impossible (cc)
 

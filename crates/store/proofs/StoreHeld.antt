@@ -8,8 +8,8 @@ use lib.ListN.{length, drop, length-append}
 use Rattle.laws.specs.Bytes.{AllBytes}
 use Rattle.laws.proofs.Cases.{by_lt, impossible}
 use Rattle.numbers.specs.Refusals.{longest_input}
-use Rattle.objects.specs.declared.reading.Reading.{Reading}
-use Rattle.objects.specs.declared.reading.Reading.TheVariants as reading
+use Rattle.objects.specs.Results.Reading.{Reading}
+use Rattle.objects.specs.Results.Reading as reading
 use Rattle.talk.specs.Each.{Each}
 use Rattle.talk.specs.Ranges.{insert, Normal, AllFit}
 use Rattle.talk.specs.declared.range.Range.{Range}
@@ -21,8 +21,8 @@ use Rattle.store.specs.Tables.{row_width, id_width, most_elements, row_numbers, 
 use Rattle.store.specs.Written.{key_guid}
 use Rattle.store.specs.Held.{StoreHeld, key_range, serial_range, ranges_with}
 use Rattle.store.specs.declared.element.Element.{Element}
-use Rattle.store.specs.declared.package.Stored.{Stored}
-use Rattle.store.specs.declared.package.Stored.TheVariants as stored
+use Rattle.store.specs.Results.Stored.{Stored}
+use Rattle.store.specs.Results.Stored as stored
 use Rattle.store.proofs.Found.{store_most, rows_length, ids_length, laid_long, store_holds}
 use Rattle.store.proofs.Chains.{over_long_lem, store_read}
 use Rattle.store.proofs.Elements.{elements_held}

@@ -7,11 +7,11 @@ use mathlib.Core.List.{List, []}
 use Prim.Native.Nat.{ℕ, zero, suc}
 use Rattle.laws.proofs.Cases.{by_bool}
 use Rattle.laws.proofs.Loops.{iterate_ind}
-use Rattle.objects.specs.Steps.{on_guid, start_of_length, end_here, next_is}
-use Rattle.objects.specs.declared.reading.Reading.{Reading}
+use Rattle.objects.specs.Steps.{start_of_length, end_here, next_is, on_field}
+use Rattle.objects.specs.Results.Reading.{Reading}
 use Rattle.talk.specs.declared.range.Range.{Range}
 use Rattle.ranges.specs.RangeTable.{laid_ranges}
-use Rattle.store.specs.Knowledge.{item_next, item_at, on_item, united, Knowing, knowing, items_from, is_cell, specialized_guid, cell_from, specialized_from, knowledge_turn, to_go, unreached, knowledge_from, knowledge_at}
+use Rattle.store.specs.Knowledge.{item_next, item_at, united, Knowing, knowing, items_from, is_cell, specialized_guid, cell_from, specialized_from, knowledge_turn, to_go, unreached, knowledge_from, knowledge_at}
 use Rattle.store.proofs.Uniting.{items_end, items_over, items_more}
 use Rattle.store.proofs.KnowledgeForward.{knowledge_falls, knowledge_more, knowledge_end_lem, turn_more}
 
@@ -29,7 +29,7 @@ items_alike padding (suc left) s l t v c =
     by_bool (item_next s c)
     (λ e.
     let u = united (item_at padding s c) l in
-    rw (items_more padding left s l t c e, items_more padding left s l v c e) (items_alike padding left s u (laid_ranges u t) (laid_ranges u v) (on_item (item_at padding s c))))
+    rw (items_more padding left s l t c e, items_more padding left s l v c e) (items_alike padding left s u (laid_ranges u t) (laid_ranges u v) (on_field (item_at padding s c))))
     (λ e. rw (items_end padding (suc left) s l t c e, items_end padding (suc left) s l v c e) (record { ranges = refl; left = refl; last = refl }))
 
 -- one specialized knowledge, from the same place with the same ranges and count
@@ -39,7 +39,7 @@ unfolding specialized_from cell_from
 specialized_alike padding depth s l t v left c =
     by_bool (is_cell (specialized_guid padding s c))
     (λ e.
-    let i = items_alike padding left s l t v (start_of_length padding s 0x44 0x14 true true 0 (on_guid (specialized_guid padding s c))) in
+    let i = items_alike padding left s l t v (start_of_length padding s 0x44 0x14 true true 0 (on_field (specialized_guid padding s c))) in
     rw e (record { ranges = i.ranges; left = i.left; last = ap (end_here s 0x44) i.last }))
     (λ e. rw e (record { ranges = refl; left = refl; last = refl }))
 

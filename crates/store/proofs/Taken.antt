@@ -11,19 +11,18 @@ use Rattle.laws.specs.Once.{seen}
 use Rattle.laws.proofs.Cases.{impossible}
 use Rattle.numbers.specs.declared.refusal.Refusal.{Refusal}
 use Rattle.objects.specs.Nesting.{run_at}
-use Rattle.objects.specs.Steps.{place_of, serial_here, id_here, run_here, closed_at, closed, inside, number, Behind}
-use Rattle.objects.specs.declared.reading.Reading.{Reading}
-use Rattle.objects.specs.declared.reading.Reading.TheVariants as reading
+use Rattle.objects.specs.Steps.{place_of, serial_here, id_here, run_here, closed_at, closed, inside, number, Behind, on_field}
+use Rattle.objects.specs.Results.Reading.{Reading}
+use Rattle.objects.specs.Results.Reading as reading
 use Rattle.objects.proofs.Ahead.{run_next}
 use Rattle.objects.proofs.Keep.{behind_place}
 use Rattle.objects.proofs.StepsCarry.{inside_on_lem}
-use Rattle.store.specs.Element.{same_key, named_key, numbered_key, any_key, fresh_key, key_here, on_key, judged, id_field, serial_field, fields_of, opened, data_of, element_at}
+use Rattle.store.specs.Element.{same_key, named_key, numbered_key, any_key, fresh_key, key_here, judged, id_field, serial_field, fields_of, opened, data_of, element_at}
 use Rattle.store.specs.Store.{Stands}
 use Rattle.store.specs.declared.element.Key.{Key}
 use Rattle.store.specs.declared.element.Element.{Element}
-use Rattle.store.specs.declared.element.ReadingKey.{ReadingKey}
-use Rattle.store.specs.declared.element.ReadingKey.TheVariants.{At, Refused}
-use Rattle.store.specs.declared.element.ReadElement.TheVariants as element
+use Rattle.store.specs.Results.ReadingKey.{At, ReadingKey, Refused}
+use Rattle.store.specs.Results.ReadElement as element
 use Rattle.store.specs.declared.element.Strictness.{Strictness}
 use Rattle.store.proofs.Fields.{onward_data, element_parts}
 
@@ -52,8 +51,8 @@ pub stands_number : (padding : Bool) (d : List ℕ) (c : Reading) → Stands (nu
 unfolding number
 stands_number padding d = stands_before (number padding d) (λ r. refl)
 
-stands_on : (k : ReadingKey) → Stands (on_key k) → StandsKey k
-unfolding on_key
+stands_on : (k : ReadingKey) → Stands (on_field k) → StandsKey k
+unfolding on_field
 stands_on (At q k) h = tt
 stands_on (Refused r) h = h
 
@@ -78,12 +77,12 @@ stands_serial_field false d (reading.Refused r) h = h
 -- ---- the fields
 
 pub keys_stand : (strict : Strictness) (ids : List Key) (d : List ℕ) → Stands (fields_of strict ids d).last
-    → StandsKey (id_field ids d) × StandsKey (serial_field strict.serials d (on_key (id_field ids d)))
+    → StandsKey (id_field ids d) × StandsKey (serial_field strict.serials d (on_field (id_field ids d)))
 unfolding fields_of
 keys_stand strict ids d h =
-    let c = on_key (id_field ids d) in
+    let c = on_field (id_field ids d) in
     let f = serial_field strict.serials d c in
-    let k = stands_on f (stands_number strict.padding d (on_key f) h) in
+    let k = stands_on f (stands_number strict.padding d (on_field f) h) in
     (stands_on (id_field ids d) (stands_serial_field strict.serials d c k), k)
 
 pub fields_unseen : (strict : Strictness) (ids : List Key) (d : List ℕ) → Stands (fields_of strict ids d).last → seen same_key (fields_of strict ids d).id ids ≡ false

@@ -7,15 +7,15 @@ use Prim.Native.Nat.{ℕ, zero, suc, ◌+◌, ◌-◌, ◌*◌, ◌≤◌}
 use native.Mathlib.Omega.{arith}
 use lib.ListN.{length, drop}
 use borrow.Author.Tests.{le-leb}
-use Rattle.objects.specs.Steps.{start_here, end_here}
-use Rattle.objects.specs.declared.reading.Reading.{Reading}
+use Rattle.objects.specs.Steps.{start_here, end_here, on_field}
+use Rattle.objects.specs.Results.Reading.{Reading}
 use Rattle.talk.specs.Ranges.{insert, Normal}
 use Rattle.talk.specs.declared.range.Range.{Range}
 use Rattle.talk.proofs.Insertion.{length_insert}
 use Rattle.ranges.specs.RangeTable.{range_width, ranges_at, laid_ranges, added_to, laid_in}
-use Rattle.store.specs.Knowledge.{item_next, item_kind, item_at, on_item, united, Knowing, knowing, items_from, KnownIs}
+use Rattle.store.specs.Knowledge.{item_next, item_kind, item_at, united, Knowing, knowing, items_from, KnownIs}
 use Rattle.store.specs.declared.knowledge.Known.{Known}
-use Rattle.ranges.specs.declared.Added.TheVariants.{Rows}
+use Rattle.ranges.specs.Results.Added.{Rows}
 use Rattle.ranges.proofs.RangeRows.{length_rows, laid_rows_lem, laid_same, length_laid}
 use Rattle.store.proofs.Items.{sound_item, united_normal, length_united}
 
@@ -47,7 +47,7 @@ unfolding items_from
 items_over padding s l t c e = rw e
 
 pub items_more : (padding : Bool) (left : ℕ) (s : List ℕ) (l : List Range) (t : List ℕ) (c : Reading) → item_next s c ≡ true
-    → items_from padding (suc left) s l t c ≡ items_from padding left s (united (item_at padding s c) l) (laid_ranges (united (item_at padding s c) l) t) (on_item (item_at padding s c))
+    → items_from padding (suc left) s l t c ≡ items_from padding left s (united (item_at padding s c) l) (laid_ranges (united (item_at padding s c) l) t) (on_field (item_at padding s c))
 unfolding items_from
 items_more padding left s l t c e = rw e
 
@@ -91,7 +91,7 @@ module _ (padding : Bool) {s : List ℕ} {told : Knowing} {t : List ℕ} {c : Re
       length_laid (united (item_at padding s c) (ranges_at t 0 n)) t (omega arith)
 
   pub uniting_more : item_next s c ≡ true → (left ≡ 0 → ⊥)
-      → Uniting padding s told (laid_ranges (united (item_at padding s c) (ranges_at t 0 n)) t) (on_item (item_at padding s c)) (length (united (item_at padding s c) (ranges_at t 0 n))) (left - 1)
+      → Uniting padding s told (laid_ranges (united (item_at padding s c) (ranges_at t 0 n)) t) (on_field (item_at padding s c)) (length (united (item_at padding s c) (ranges_at t 0 n))) (left - 1)
   uniting_more e d =
       let l = united (item_at padding s c) (ranges_at t 0 n) in
       let z : left ≡ suc (left - 1) = omega arith in

@@ -14,20 +14,19 @@ use Rattle.numbers.specs.Refusals.{longest_input}
 use Rattle.numbers.specs.Compact.{padding_refused}
 use Rattle.numbers.specs.declared.refusal.Refusal.{Refusal}
 use Rattle.numbers.proofs.Padding.{Takes, takes_refused}
-use Rattle.objects.specs.Steps.{nothing_open, place_of, value_of, need, guid_here, on_guid, on_serial, start_here, length_is, start_of_length, skip, end_here, next_is, inside, run_here, closed, finish}
+use Rattle.objects.specs.Steps.{nothing_open, place_of, value_of, need, guid_here, start_here, length_is, start_of_length, skip, end_here, next_is, inside, run_here, closed, finish, on_field}
 use Rattle.objects.specs.Steps as steps
-use Rattle.objects.specs.declared.reading.Reading.{Reading}
-use Rattle.objects.specs.declared.reading.Reading.TheVariants.{At, Refused}
+use Rattle.objects.specs.Results.Reading.{At, Reading, Refused}
 use Rattle.objects.proofs.StepsTaken.{number_taken, start_taken, start_of_length_taken, inside_deeper}
 use Rattle.talk.specs.declared.range.Range.{Range}
 use Rattle.ranges.specs.RangeTable.{laid_ranges}
 use Rattle.store.specs.Element.{ids_in}
 use Rattle.store.specs.Chain.{Follows}
 use Rattle.store.specs.Store.{package_start, package_walk, finished, store_walk, Stands, store_strictness}
-use Rattle.store.specs.Knowledge.{guid_field, from_field, to_field, range_fields, item_of, range_start, range_item, entry_of, entry_start, entry_serial, entry_item, item_next, item_kind, item_at, on_item, united, Knowing, knowing, items_from, is_cell, specialized_guid, cell_from, specialized_from, knowledge_turn, to_go, unreached, knowledge_from, knowledge_at}
+use Rattle.store.specs.Knowledge.{guid_field, from_field, to_field, range_fields, item_of, range_start, range_item, entry_of, entry_start, entry_serial, entry_item, item_next, item_kind, item_at, united, Knowing, knowing, items_from, is_cell, specialized_guid, cell_from, specialized_from, knowledge_turn, to_go, unreached, knowledge_from, knowledge_at}
 use Rattle.store.specs.declared.element.Element.{Element}
 use Rattle.store.specs.declared.element.Strictness.{Strictness}
-use Rattle.store.specs.declared.item.Item.{Item}
+use Rattle.store.specs.Results.Item.{Item}
 use Rattle.store.proofs.Taken.{stands_before, stands_closed, stands_inside, stands_number, element_unseen}
 use Rattle.store.proofs.ElementCarry.{stands_same, Wider, element_beside}
 use Rattle.store.proofs.Found.{package_most}
@@ -59,27 +58,27 @@ module _ (padding other : Bool) (takes : Takes padding other) where
       let from = from_field padding d in
       let t = stands_before (need (leb (value_of from) (value_of (to_field padding d))) 12 (place_of from)) (λ r. refl) (to_field padding d) h in
       let f = stands_number padding d from t in
-      let a = number_same d (on_guid (guid_field d)) f in
+      let a = number_same d (on_field (guid_field d)) f in
       let b = number_same d from t in
       rw (a, b)
 
-  range_same : (s : List ℕ) (c : Reading) → Stands (on_item (range_item padding s c)) → range_item other s c ≡ range_item padding s c
-  unfolding range_item on_item item_of
+  range_same : (s : List ℕ) (c : Reading) → Stands (on_field (range_item padding s c)) → range_item other s c ≡ range_item padding s c
+  unfolding range_item on_field item_of
   range_same s c h =
       let o = range_start padding s c in
       let f = range_fields padding (run_here s o) in
-      let w = stands_closed s o f.last (stands_before (λ e. on_item (item_of f.range e)) (λ r. refl) (closed s o f.last) h) in
+      let w = stands_closed s o f.last (stands_before (λ e. on_field (item_of f.range e)) (λ r. refl) (closed s o f.last) h) in
       rw (start_same s 0x14 0x0F false true c w.0, range_fields_same (run_here s o) w.1)
 
-  entry_same : (s : List ℕ) (c : Reading) → Stands (on_item (entry_item padding s c)) → entry_item other s c ≡ entry_item padding s c
-  unfolding entry_item on_item entry_of
+  entry_same : (s : List ℕ) (c : Reading) → Stands (on_field (entry_item padding s c)) → entry_item other s c ≡ entry_item padding s c
+  unfolding entry_item on_field entry_of
   entry_same s c h =
       let o = entry_start padding s c in
       let k = entry_serial (run_here s o) in
-      let w = stands_closed s o (on_serial k) (stands_before (λ e. on_item (entry_of k e)) (λ r. refl) (closed s o (on_serial k)) h) in
+      let w = stands_closed s o (on_field k) (stands_before (λ e. on_field (entry_of k e)) (λ r. refl) (closed s o (on_field k)) h) in
       rw (start_same s 0x14 0x17 false true c w.0)
 
-  item_same : (s : List ℕ) (c : Reading) → Stands (on_item (item_at padding s c)) → item_at other s c ≡ item_at padding s c
+  item_same : (s : List ℕ) (c : Reading) → Stands (on_field (item_at padding s c)) → item_at other s c ≡ item_at padding s c
   unfolding item_at
   item_same s c h =
       by_bool (next_is s 0x0F c) (λ e. rw e (range_same s c (rw e at h))) (λ e. rw e (entry_same s c (rw e at h)))
@@ -105,10 +104,10 @@ module _ (padding other : Bool) (takes : Takes padding other) where
       let w = items_more padding left s l t c e in
       let k = rw w at h in
       let i = item_at padding s c in
-      let b = stands_before (λ d. (items_from padding left s (united i l) (laid_ranges (united i l) t) d).last) (items_fault left s (united i l) (laid_ranges (united i l) t)) (on_item i) k in
+      let b = stands_before (λ d. (items_from padding left s (united i l) (laid_ranges (united i l) t) d).last) (items_fault left s (united i l) (laid_ranges (united i l) t)) (on_field i) k in
       items_more other left s l t c e
-      ∙ ap (λ (j : Item). items_from other left s (united j l) (laid_ranges (united j l) t) (on_item j)) (item_same s c b)
-      ∙ items_same left s (united i l) (laid_ranges (united i l) t) (on_item i) k
+      ∙ ap (λ (j : Item). items_from other left s (united j l) (laid_ranges (united j l) t) (on_field j)) (item_same s c b)
+      ∙ items_same left s (united i l) (laid_ranges (united i l) t) (on_field i) k
       ∙ sym w)
       (λ e. items_end other (suc left) s l t c e ∙ sym (items_end padding (suc left) s l t c e))
 
@@ -128,18 +127,18 @@ module _ (padding other : Bool) (takes : Takes padding other) where
   cell_fault s k r = ap (end_here s 0x44) (items_fault k.left s k.ranges k.table r)
 
   specialized_same : (depth : ℕ) (s : List ℕ) (k : Knowing) → Stands (specialized_from padding depth s k).last → specialized_from other depth s k ≡ specialized_from padding depth s k
-  unfolding specialized_from specialized_guid guid_here on_guid inside
+  unfolding specialized_from specialized_guid guid_here on_field inside
   specialized_same depth s k h =
       let o = start_of_length padding s 0x10 0x44 true true 16 k.last in
-      let c = on_guid (guid_here s o) in
+      let c = on_field (guid_here s o) in
       by_bool (is_cell (guid_here s o))
       (λ e.
       let g = rw e at h in
-      let b = stands_before (λ d. on_guid (guid_here s d)) (λ r. refl) o (stands_before (λ d. (cell_from padding s k d).last) (cell_fault s k) c g) in
+      let b = stands_before (λ d. on_field (guid_here s d)) (λ r. refl) o (stands_before (λ d. (cell_from padding s k d).last) (cell_fault s k) c g) in
       rw (start_of_length_same s 0x10 0x44 true true 16 k.last b, e) (cell_same s k c g))
       (λ e.
       let g = rw e at h in
-      let b = stands_before (λ d. on_guid (guid_here s d)) (λ r. refl) o (stands_inside padding s depth 0x44 c g) in
+      let b = stands_before (λ d. on_field (guid_here s d)) (λ r. refl) o (stands_inside padding s depth 0x44 c g) in
       let n = stands_same (inside padding s depth 0x44 c) (inside other s depth 0x44 c) g (λ q v j. inside_deeper padding other takes s depth depth 0x44 c q v (omega arith) j) in
       rw (start_of_length_same s 0x10 0x44 true true 16 k.last b, e, n))
 

@@ -11,8 +11,7 @@ use lib.Seq.{get_or-set_same, get_or-set_other}
 use borrow.Author.Tests.{lt-ltb, le-ltb}
 use Rattle.numbers.specs.declared.refusal.Refusal.{Refusal}
 use Rattle.objects.specs.Steps.{◌▹◌, start_of_length, start_here, end_here, next_is, finish, Good}
-use Rattle.objects.specs.declared.reading.Reading.{Reading}
-use Rattle.objects.specs.declared.reading.Reading.TheVariants.{At, Refused}
+use Rattle.objects.specs.Results.Reading.{At, Reading, Refused}
 use Rattle.objects.proofs.Keep.{onward_start_of_length, onward_skip}
 use Rattle.laws.specs.Once.{seen}
 use Rattle.laws.proofs.Cases.{by_bool, by_lt, by_eq, impossible}
@@ -22,12 +21,12 @@ use Rattle.store.specs.Tables.{mark_of, key_marks, Marked, Lent, row_width, id_w
 use Rattle.store.specs.Store.{package_start, Walk, walked, on_element, walk_from, elements_walk, packaged_of, stored_of, PackageTo}
 use Rattle.store.specs.declared.element.Key.{Key}
 use Rattle.store.specs.declared.element.Element.{Element}
-use Rattle.store.specs.declared.element.ReadElement.{ReadElement}
-use Rattle.store.specs.declared.element.ReadElement.TheVariants as element
+use Rattle.store.specs.Results.ReadElement.{ReadElement}
+use Rattle.store.specs.Results.ReadElement as element
 use Rattle.store.specs.declared.element.Strictness.{Strictness}
-use Rattle.store.specs.declared.package.Packaged.{Packaged}
-use Rattle.store.specs.declared.package.Packaged.TheVariants as packaged
-use Rattle.store.specs.declared.package.Stored.TheVariants as stored
+use Rattle.store.specs.Results.Packaged.{Packaged}
+use Rattle.store.specs.Results.Packaged as packaged
+use Rattle.store.specs.Results.Stored as stored
 use Rattle.store.proofs.Elements.{key_stands}
 use Rattle.store.proofs.Rows.{put_more, keys_flat, same_mark, mark_lt}
 use Rattle.store.proofs.Fields.{element_within}
@@ -198,8 +197,8 @@ packaged_refused n r = refl
 pub finished_holds : (m n e : ℕ) (s : List ℕ) (c : Reading) → packaged.Holds e n ≡ packaged_of m c → stored_of n (finish s (At e 0)) ≡ stored_of m (finish s c)
 unfolding packaged_of stored_of finish
 finished_holds m n e s (At p v) h =
-    let a : n ≡ m = cc in
-    let b : e ≡ p = cc in
+    let a : n ≡ m = grind arith in
+    let b : e ≡ p = grind arith in
     rw (a, b) (by_lt p (length s) (λ l. rw (lt-ltb p (length s) l)) (λ l. rw (le-ltb p (length s) l)))
 finished_holds m n e s (Refused r) h = impossible (cc)
 

@@ -29,11 +29,11 @@ use Rattle.store.specs.Written.{Content, ContentFits, AllFit, field_bytes, writt
 use Rattle.store.specs.Accessor.{element_in, found_in, FindsElement, element_bytes}
 use Rattle.store.specs.declared.element.Key.{Key}
 use Rattle.store.specs.declared.element.Element.{Element}
-use Rattle.store.specs.declared.accessor.Found.TheVariants as found
-use Rattle.store.specs.declared.package.Beginning.TheVariants as beginning
-use Rattle.store.specs.declared.package.Packaged.TheVariants as packaged
-use Rattle.store.specs.declared.package.Stored.TheVariants as stored
-use Rattle.objects.specs.declared.reading.Reading.TheVariants as reading
+use Rattle.store.specs.Results.Found as found
+use Rattle.store.specs.Results.Beginning as beginning
+use Rattle.store.specs.Results.Packaged as packaged
+use Rattle.store.specs.Results.Stored as stored
+use Rattle.objects.specs.Results.Reading as reading
 use Rattle.objects.specs.Nesting.{object_at, run_at}
 use Rattle.store.proofs.PackageWritten.{package_written}
 
@@ -74,7 +74,7 @@ in_response = package_walk store_strictness 0x62 (0x07 ∷ 0xAC ∷ 0x02 ∷ 0x0
 -- it holds no element, and not one
 one_packaged : PackageTo in_response (packaged.Holds 5 1) (7 ∷ []) (7 ∷ []) (8 ∷ []) (8 ∷ []) → ⊥
 unfolding packaged_of package_start start_of_length length_is place_of start_here skip walk_from next_is end_here header_at header_of sized start_of end_of length_at le
-one_packaged h = impossible (cc)
+one_packaged h = impossible (grind arith)
 
 -- the place behind its end, and not that of its end
 place_of_end : PackageTo in_response (packaged.Holds 4 0) (7 ∷ []) (7 ∷ []) (8 ∷ []) (8 ∷ []) → ⊥
@@ -94,7 +94,7 @@ missing_element h = impossible (cc)
 -- no element, and not one
 one_alone : PackageTo nothing_stands (packaged.Holds 0 1) (7 ∷ []) (7 ∷ []) (8 ∷ []) (8 ∷ []) → ⊥
 unfolding packaged_of elements_walk next_is header_at header_of
-one_alone h = impossible (cc)
+one_alone h = impossible (grind arith)
 
 -- ---- element_bytes
 

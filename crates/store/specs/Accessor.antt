@@ -4,12 +4,11 @@
 -- Assumes nothing.
 use Rattle.std.specs.Prelude.{◌≡◌, ℕ, zero, suc, List, [], ◌∷◌, take, drop}
 use Rattle.numbers.specs.Refusals.{Told, gives, refuses, fault_at}
-use Rattle.objects.specs.declared.reading.Reading.{Reading}
-use Rattle.objects.specs.declared.reading.Reading.TheVariants as reading
+use Rattle.objects.specs.Results.Reading.{Reading}
+use Rattle.objects.specs.Results.Reading as reading
 use Rattle.store.specs.Store.{store_walk}
 use Rattle.store.specs.declared.element.Element.{Element}
-use Rattle.store.specs.declared.accessor.Found.{Found}
-use Rattle.store.specs.declared.accessor.Found.TheVariants.{At, Refused}
+use Rattle.store.specs.Results.Found.{At, Found, Refused}
 
 -- the element at a position
 unfoldable pub element_in : List Element → ℕ → Found

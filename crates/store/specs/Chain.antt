@@ -1,12 +1,12 @@
 -- The elements of a package, one behind the other: each is read where the one before it ends, against the ids before it.
 -- Assumes nothing.
 use Rattle.std.specs.Prelude.{◌≡◌, false, ℕ, ◌+◌, ◌<◌, List, [], ◌∷◌, ◌++◌, map}
-use Rattle.objects.specs.declared.reading.Reading.TheVariants as reading
+use Rattle.objects.specs.Results.Reading as reading
 use Rattle.laws.specs.Once.{seen}
 use Rattle.store.specs.Element.{same_key, ids_in, element_at}
 use Rattle.store.specs.declared.element.Key.{Key}
 use Rattle.store.specs.declared.element.Element.{Element}
-use Rattle.store.specs.declared.element.ReadElement.TheVariants as element
+use Rattle.store.specs.Results.ReadElement as element
 use Rattle.store.specs.declared.element.Strictness.{Strictness}
 
 -- from a place behind the elements `done` to a place behind the last

@@ -9,25 +9,24 @@ use Rattle.laws.specs.Pick.{pick}
 use Rattle.laws.specs.Once.{seen}
 use Rattle.numbers.specs.Refusals.{Told, gives, refuses, fault_at}
 use Rattle.numbers.specs.declared.guid.Guid.{Guid}
-use Rattle.numbers.specs.declared.extended_guid.ExtendedGuid.TheVariants as id
-use Rattle.numbers.specs.declared.serial.Serial.TheVariants as number
+use Rattle.numbers.specs.Results.ExtendedGuid as id
+use Rattle.numbers.specs.Results.Serial as number
 use Rattle.objects.specs.Types.{package_type, element_type, compound_bit, with_room}
-use Rattle.objects.specs.Steps.{place_of, value_of, id_here, serial_here, start_here, run_here, closed, inside}
+use Rattle.objects.specs.Steps.{place_of, value_of, id_here, serial_here, start_here, run_here, closed, inside, on_field}
 use Rattle.objects.specs.Steps as steps
-use Rattle.objects.specs.declared.reading.Reading.{Reading}
-use Rattle.objects.specs.declared.reading.Reading.TheVariants as reading
-use Rattle.objects.specs.declared.reading.ReadingId.{ReadingId}
-use Rattle.objects.specs.declared.reading.ReadingId.TheVariants as id'
-use Rattle.objects.specs.declared.reading.ReadingSerial.{ReadingSerial}
-use Rattle.objects.specs.declared.reading.ReadingSerial.TheVariants as serial'
+use Rattle.objects.specs.Results.Reading.{Reading}
+use Rattle.objects.specs.Results.Reading as reading
+use Rattle.objects.specs.Results.ReadingId.{ReadingId}
+use Rattle.objects.specs.Results.ReadingId as id'
+use Rattle.objects.specs.Results.ReadingSerial.{ReadingSerial}
+use Rattle.objects.specs.Results.ReadingSerial as serial'
 use Rattle.store.specs.declared.element.Key.{Key}
 use Rattle.store.specs.declared.element.Element.{Element}
 use Rattle.store.specs.declared.element.Fields.{Fields}
 use Rattle.store.specs.declared.element.Strictness.{Strictness}
-use Rattle.store.specs.declared.element.ReadingKey.{ReadingKey}
-use Rattle.store.specs.declared.element.ReadingKey.TheVariants.{At, Refused}
-use Rattle.store.specs.declared.element.ReadElement.{ReadElement}
-use Rattle.store.specs.declared.element.ReadElement.TheVariants as element
+use Rattle.store.specs.Results.ReadingKey.{At, ReadingKey, Refused}
+use Rattle.store.specs.Results.ReadElement.{ReadElement}
+use Rattle.store.specs.Results.ReadElement as element
 
 -- ---- ids and serial numbers that are not null
 
@@ -70,10 +69,6 @@ unfoldable pub key_here : ReadingKey → Key
 key_here (At q k) = k
 key_here (Refused r) = record { low = 0; high = 0; number = 0 }
 
-unfoldable pub on_key : ReadingKey → Reading
-on_key (At q k) = reading.At q 0
-on_key (Refused r) = reading.Refused r
-
 -- judged against the keys before it
 abbrev pub judged : List Key → ℕ → ReadingKey → ReadingKey
 judged before p c = fresh_key p (seen same_key (key_here c) before) c
@@ -93,8 +88,8 @@ unfoldable pub fields_of : Strictness → List Key → List ℕ → Fields
 fields_of strict ids d =
     record {
       id = key_here (id_field ids d);
-      serial = key_here (serial_field strict.serials d (on_key (id_field ids d)));
-      last = steps.number strict.padding d (on_key (serial_field strict.serials d (on_key (id_field ids d))));
+      serial = key_here (serial_field strict.serials d (on_field (id_field ids d)));
+      last = steps.number strict.padding d (on_field (serial_field strict.serials d (on_field (id_field ids d))));
     }
 
 -- ---- the element at c, in a package

@@ -3,8 +3,7 @@
 -- Assumes nothing.
 use Rattle.std.specs.Prelude.{◌≡◌, ℕ, ◌+◌, ◌^◌, ◌≤◌, ◌<◌, List, [], ◌∷◌, ◌++◌, length, take, drop, eqb}
 use Rattle.laws.specs.Pick.{pick}
-use Rattle.numbers.specs.declared.extended_guid.ExtendedGuid.{ExtendedGuid}
-use Rattle.numbers.specs.declared.extended_guid.ExtendedGuid.TheVariants.{Null, Named}
+use Rattle.numbers.specs.Results.ExtendedGuid.{ExtendedGuid, Named, Null}
 use Rattle.talk.specs.Each.{Each}
 use Rattle.talk.specs.Ranges.{insert}
 use Rattle.talk.specs.declared.range.Range.{Range}

@@ -9,26 +9,25 @@ use Rattle.laws.specs.Loop.{Turn, iterate}
 use Rattle.laws.specs.Loop.Turn.{more, done}
 use Rattle.numbers.specs.Refusals.{Told, gives, refuses, fault_at}
 use Rattle.numbers.specs.declared.guid.Guid.{Guid}
-use Rattle.numbers.specs.declared.serial.Serial.TheVariants as number
+use Rattle.numbers.specs.Results.Serial as number
 use Rattle.objects.specs.Types.{cell_type, range_type, plain_bit, with_room, entry_type, no_room, knowledge_type, specialized_type, compound_bit}
-use Rattle.objects.specs.Steps.{place_of, value_of, need, guid_here, on_guid, serial_here, on_serial, start_here, start_of_length, run_here, closed, end_here, next_is, inside}
+use Rattle.objects.specs.Steps.{place_of, value_of, need, guid_here, serial_here, start_here, start_of_length, run_here, closed, end_here, next_is, inside, on_field}
 use Rattle.objects.specs.Steps as steps
-use Rattle.objects.specs.declared.reading.Reading.{Reading}
-use Rattle.objects.specs.declared.reading.Reading.TheVariants.{At, Refused}
-use Rattle.objects.specs.declared.reading.ReadingGuid.{ReadingGuid}
-use Rattle.objects.specs.declared.reading.ReadingGuid.TheVariants as guid'
-use Rattle.objects.specs.declared.reading.ReadingSerial.{ReadingSerial}
-use Rattle.objects.specs.declared.reading.ReadingSerial.TheVariants as serial'
+use Rattle.objects.specs.Results.Reading.{At, Reading, Refused}
+use Rattle.objects.specs.Results.ReadingGuid.{ReadingGuid}
+use Rattle.objects.specs.Results.ReadingGuid as guid'
+use Rattle.objects.specs.Results.ReadingSerial.{ReadingSerial}
+use Rattle.objects.specs.Results.ReadingSerial as serial'
 use Rattle.talk.specs.Ranges.{insert, Normal}
 use Rattle.talk.specs.declared.range.Range.{Range}
 use Rattle.ranges.specs.Ranged.{range_of}
 use Rattle.ranges.specs.RangeTable.{range_width, ranges_at, laid_ranges}
-use Rattle.store.specs.declared.item.Item.{Item}
-use Rattle.store.specs.declared.item.Item.TheVariants as item
+use Rattle.store.specs.Results.Item.{Item}
+use Rattle.store.specs.Results.Item as item
 use Rattle.store.specs.declared.item.RangeFields.{RangeFields}
 use Rattle.store.specs.declared.knowledge.Known.{Known}
-use Rattle.store.specs.declared.knowledge.ReadKnowledge.{ReadKnowledge}
-use Rattle.store.specs.declared.knowledge.ReadKnowledge.TheVariants as read
+use Rattle.store.specs.Results.ReadKnowledge.{ReadKnowledge}
+use Rattle.store.specs.Results.ReadKnowledge as read
 
 -- ---- ranges and entries
 
@@ -42,7 +41,7 @@ abbrev pub guid_field : List ℕ → ReadingGuid
 guid_field d = guid_here d (At 0 0)
 
 abbrev pub from_field : Bool → List ℕ → Reading
-from_field padding d = steps.number padding d (on_guid (guid_field d))
+from_field padding d = steps.number padding d (on_field (guid_field d))
 
 abbrev pub to_field : Bool → List ℕ → Reading
 to_field padding d = steps.number padding d (from_field padding d)
@@ -84,7 +83,7 @@ entry_serial d = serial_here d (At 0 0)
 unfoldable pub entry_item : Bool → List ℕ → Reading → Item
 entry_item padding s c =
     entry_of (entry_serial (run_here s (entry_start padding s c)))
-    (closed s (entry_start padding s c) (on_serial (entry_serial (run_here s (entry_start padding s c)))))
+    (closed s (entry_start padding s c) (on_field (entry_serial (run_here s (entry_start padding s c)))))
 
 -- whether a range or an entry stands here, and which
 unfoldable pub item_next : List ℕ → Reading → Bool
@@ -95,12 +94,6 @@ item_kind s c = pick (next_is s range_type c) range_type entry_type
 
 unfoldable pub item_at : Bool → List ℕ → Reading → Item
 item_at padding s c = pick (next_is s range_type c) (range_item padding s c) (entry_item padding s c)
-
--- on from behind it
-unfoldable pub on_item : Item → Reading
-on_item (item.Adds e x) = At e 0
-on_item (item.Nothing e) = At e 0
-on_item (item.Refused r) = Refused r
 
 -- the ranges with it
 unfoldable pub united : Item → List Range → List Range
@@ -138,7 +131,7 @@ items_from padding zero s l t c =
     (knowing l t 0 (end_here s cell_type c))
 items_from padding (suc left) s l t c =
     pick (item_next s c)
-    (items_from padding left s (united (item_at padding s c) l) (laid_ranges (united (item_at padding s c) l) t) (on_item (item_at padding s c)))
+    (items_from padding left s (united (item_at padding s c) l) (laid_ranges (united (item_at padding s c) l) t) (on_field (item_at padding s c)))
     (knowing l t (suc left) (end_here s cell_type c))
 
 -- ---- one specialized knowledge
@@ -166,8 +159,8 @@ cell_from padding s k c = cell_end s (items_from padding k.left s k.ranges k.tab
 -- other kinds are "checked for nesting and passed over", with so many levels left inside
 unfoldable pub specialized_from : Bool → ℕ → List ℕ → Knowing → Knowing
 specialized_from padding depth s k =
-    pick (is_cell (specialized_guid padding s k.last)) (cell_from padding s k (on_guid (specialized_guid padding s k.last)))
-    (standing (inside padding s depth specialized_type (on_guid (specialized_guid padding s k.last))) k)
+    pick (is_cell (specialized_guid padding s k.last)) (cell_from padding s k (on_field (specialized_guid padding s k.last)))
+    (standing (inside padding s depth specialized_type (on_field (specialized_guid padding s k.last))) k)
 
 -- ---- the whole
 

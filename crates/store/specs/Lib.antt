@@ -1,3 +1,4 @@
+pub mod Results
 pub mod Element
 pub mod Tables
 pub mod Store
@@ -7,3 +8,4 @@ pub mod Written
 pub mod Knowledge
 pub mod KnowledgeWritten
 pub mod Held
+pub mod Elements

@@ -8,20 +8,19 @@ use Rattle.numbers.specs.Refusals.{Told, gives, refuses, longest_input, over_lon
 use Rattle.numbers.specs.Compact.{padding_taken}
 use Rattle.objects.specs.Types.{package_type, compound_bit, with_room, element_type, no_room}
 use Rattle.objects.specs.Steps.{◌▹◌, nothing_open, start_of_length, start_here, skip, end_here, next_is, finish}
-use Rattle.objects.specs.declared.reading.Reading.{Reading}
-use Rattle.objects.specs.declared.reading.Reading.TheVariants.{At, Refused}
+use Rattle.objects.specs.Results.Reading.{At, Reading, Refused}
 use Rattle.store.specs.Element.{ids_in, element_at}
 use Rattle.store.specs.Tables.{row_width, id_width, most_elements, rows_of, ids_of}
 use Rattle.store.specs.declared.element.Element.{Element}
-use Rattle.store.specs.declared.element.ReadElement.{ReadElement}
-use Rattle.store.specs.declared.element.ReadElement.TheVariants as element
+use Rattle.store.specs.Results.ReadElement.{ReadElement}
+use Rattle.store.specs.Results.ReadElement as element
 use Rattle.store.specs.declared.element.Strictness.{Strictness}
-use Rattle.store.specs.declared.package.Beginning.{Beginning}
-use Rattle.store.specs.declared.package.Beginning.TheVariants as beginning
-use Rattle.store.specs.declared.package.Packaged.{Packaged}
-use Rattle.store.specs.declared.package.Packaged.TheVariants as packaged
-use Rattle.store.specs.declared.package.Stored.{Stored}
-use Rattle.store.specs.declared.package.Stored.TheVariants as stored
+use Rattle.store.specs.Results.Beginning.{ReadBeginning}
+use Rattle.store.specs.Results.Beginning as beginning
+use Rattle.store.specs.Results.Packaged.{Packaged}
+use Rattle.store.specs.Results.Packaged as packaged
+use Rattle.store.specs.Results.Stored.{Stored}
+use Rattle.store.specs.Results.Stored as stored
 
 -- "inside a store padded numbers are accepted" (document 02, Q-10): in its headers, in its elements' types, and in what is inside them.
 -- A package is told by what it stands in whether padding is taken.
@@ -92,11 +91,11 @@ store_walk s =
 abbrev pub store_start : List ℕ → Reading
 store_start s = package_start store_padding nothing_open s (At 0 0)
 
-unfoldable pub nothing_of : Reading → Beginning
+unfoldable pub nothing_of : Reading → ReadBeginning
 nothing_of (At e v) = beginning.Nothing
 nothing_of (Refused r) = beginning.Refused r
 
-unfoldable pub beginning_of : List ℕ → Beginning
+unfoldable pub beginning_of : List ℕ → ReadBeginning
 beginning_of s =
     pick (ltb longest_input (length s)) (beginning.Refused over_long)
     (pick (next_is s element_type (store_start s)) beginning.Elements (nothing_of (finish s (end_here s package_type (store_start s)))))

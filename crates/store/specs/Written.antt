@@ -6,14 +6,13 @@ use Rattle.numbers.specs.Compact.{padding_refused, compact_bytes}
 use Rattle.numbers.specs.ExtendedGuid.{extended_guid_bytes}
 use Rattle.numbers.specs.Serial.{serial_bytes}
 use Rattle.numbers.specs.declared.guid.Guid.{Guid}
-use Rattle.numbers.specs.declared.extended_guid.ExtendedGuid.TheVariants.{Named}
-use Rattle.numbers.specs.declared.serial.Serial.TheVariants.{Numbered}
+use Rattle.numbers.specs.Results.ExtendedGuid.{Named}
+use Rattle.numbers.specs.Results.Serial.{Numbered}
 use Rattle.objects.specs.Types.{element_type, compound_bit, package_type}
 use Rattle.objects.specs.Header.{start_bytes, end_bytes}
 use Rattle.objects.specs.Nesting.{run_at}
-use Rattle.objects.specs.declared.nesting.Passed.TheVariants.{To}
-use Rattle.objects.specs.declared.reading.Reading.{Reading}
-use Rattle.objects.specs.declared.reading.Reading.TheVariants.{At, Refused}
+use Rattle.objects.specs.Results.Passed.{To}
+use Rattle.objects.specs.Results.Reading.{At, Reading, Refused}
 use Rattle.store.specs.Element.{opened}
 use Rattle.store.specs.declared.element.Key.{Key}
 use Rattle.store.specs.declared.element.Element.{Element}

@@ -2,17 +2,13 @@
 ghost use Rattle.std.specs.Prelude.{◌≡◌};
 ghost use Rattle.store.specs.Accessor.{FindsElement, element_bytes};
 
-use crate::package::{Stored, read_store};
+use crate::package::read_store;
 use crate::table::{ID_NUMBERS, ROW_NUMBERS, element_in_row};
-use numbers::refusal::{Refusal, at_place};
+use numbers::refusal::{Fault, Refusal, at_place};
 use objects::layout::part;
 
 // The place and the length of an element.
-#[derive(Drop)]
-pub enum Found {
-    At(usize, usize),
-    Refused(Refusal),
-}
+pub type Found = Result<(usize, usize), Refusal>;
 
 // Where the element at a position stands: the store's faults first, then 9 for a position at or past the count. Ruled out
 // (proofs/WrongAnswers): an element of the store without any; 9 for a store that is at fault.
@@ -21,16 +17,12 @@ pub fn find_element(s: &[u8], position: usize) -> Found
 {
     let mut rows = [0u64; ROW_NUMBERS];
     let mut ids = [0u64; ID_NUMBERS];
-    match read_store(s, &mut rows, &mut ids) {
-        Stored::Refused(r) => Found::Refused(r),
-        Stored::Holds(n) => {
-            if n <= position {
-                return Found::Refused(at_place(9, 0));
-            }
-            let x = element_in_row(&rows, &ids, position);
-            Found::At(x.place, x.length)
-        }
+    let n = read_store(s, &mut rows, &mut ids)?;
+    if n <= position {
+        return Err(at_place(Fault::TooMany, 0));
     }
+    let x = element_in_row(&rows, &ids, position);
+    Ok((x.place, x.length))
 }
 
 // The element's own bytes, from its start to its end; on a refusal, which `find_element` tells, the empty part at the
@@ -38,8 +30,6 @@ pub fn find_element(s: &[u8], position: usize) -> Found
 pub fn element_bytes(s: &[u8], position: usize) -> &[u8]
     ensures { result.now ≡ element_bytes s.now position }
 {
-    match find_element(s, position) {
-        Found::At(at, n) => part(s, at, n as u64),
-        Found::Refused(_) => part(s, 0, 0),
-    }
+    let (at, n) = find_element(s, position).unwrap_or((0, 0));
+    part(s, at, n as u64)
 }

@@ -6,9 +6,9 @@ ghost use Rattle.store.specs.Knowledge.{united, knowing, items_from, is_cell, ce
 
 use crate::item::{CELL, Item, item_kind, item_next, read_item};
 use numbers::refusal::Refusal;
-use objects::layout::{COMPOUND, NO_ROOM, PLAIN, ROOM};
-use objects::reading::{Reading, ReadingGuid};
-use ranges::{Added, RANGE_WIDTH, add_range};
+use objects::layout::{COMPOUND, NO_ROOM, PLAIN, ROOM, ReadObjects, closed};
+use objects::reading::{FRONT, GoesOn, ReadFields, Reading, ReadingGuid};
+use ranges::{RANGE_WIDTH, add_range};
 
 // The types of the objects.
 pub const KNOWLEDGE: u64 = 0x10;
@@ -27,7 +27,7 @@ pub const MOST_SAID: usize = 512;
 pub const SAID_NUMBERS: usize = MOST_SAID * RANGE_WIDTH;
 
 // How many rows the table has, how many ranges and entries may still come, and where the reading stands.
-#[derive(Drop)]
+#[derive(Clone, Copy)]
 pub struct Known {
     pub rows: usize,
     pub left: usize,
@@ -35,135 +35,109 @@ pub struct Known {
 }
 
 // The place behind a knowledge, and how many rows it has.
-#[derive(Clone, Copy)]
-pub enum ReadKnowledge {
-    Holds(usize, usize),
-    Refused(Refusal),
-}
+pub type ReadKnowledge = Result<(usize, usize), Refusal>;
 
 // The rows with what an item adds.
 fn unite(table: &mut [u64], rows: usize, item: Item) -> usize
     requires { (rows * range_width + range_width ≤ length table.old) × Normal (ranges_at table.old 0 rows) }
     ensures { (result ≡ length (united item (ranges_at table.old 0 rows))) × (table.new ≡ laid_ranges (united item (ranges_at table.old 0 rows)) table.old) }
 {
-    match item {
-        Item::Nothing(_) => rows,
-        Item::Refused(_) => rows,
-        Item::Adds(_, x) => match add_range(table, rows, x) {
-            Added::Rows(n) => n,
-            // It does not come: there is room for one row more.
-            Added::Full => rows,
-        },
+    let Ok((_, adds)) = item else {
+        return rows;
+    };
+    match adds {
+        None => rows,
+        // It does come: there is room for one row more.
+        Some(x) => add_range(table, rows, x).unwrap_or(rows),
     }
 }
 
-// The ranges and entries of a cell knowledge, and its end.
-fn read_items(
-    s: &[u8],
-    c: Reading,
-    table: &mut [u64],
-    rows: usize,
-    allowed: usize,
-    padding: bool,
-) -> Known
-    requires { ((rows + allowed) * range_width ≤ length table.old) × Normal (ranges_at table.old 0 rows) }
-    ensures { KnownIs (items_from padding allowed s.now (ranges_at table.old 0 rows) table.old c) result table.new }
+// The ranges and entries of a cell knowledge, and its end. What stands next ends the loop, and not a count.
+fn read_items(s: &[u8], known: Known, table: &mut [u64], padding: bool) -> Known
+    requires { ((known.rows + known.left) * range_width ≤ length table.old) × Normal (ranges_at table.old 0 known.rows) }
+    ensures { KnownIs (items_from padding known.left s.now (ranges_at table.old 0 known.rows) table.old known.last) result table.new }
 {
-    let mut at = c;
-    let mut n = rows;
-    let mut left = allowed;
-    while item_next(s, at) {
-        if left == 0 {
-            let last = at.start(s, CELL, item_kind(s, at), PLAIN, NO_ROOM, padding);
-            return Known {
-                rows: n,
-                left,
-                last,
-            };
+    let mut k = known;
+    while item_next(s, k.last) {
+        if k.left == 0 {
+            let last = k
+                .last
+                .start(s, CELL, item_kind(s, k.last), PLAIN, NO_ROOM, padding);
+            return Known { last, ..k };
         }
-        let item = read_item(s, at, padding);
-        n = unite(table, n, item);
-        at = item.on();
-        left -= 1;
+        let item = read_item(s, k.last, padding);
+        k = Known {
+            rows: unite(table, k.rows, item),
+            left: k.left - 1,
+            last: item.on(),
+        };
     }
     Known {
-        rows: n,
-        left,
-        last: at.end(s, CELL),
+        last: k.last.end(s, CELL),
+        ..k
     }
 }
 
 // Whether this is the GUID of cell knowledge.
+#[tactic(auto, unfolding(crate::specs::Knowledge::is_cell))]
 fn is_cell(c: ReadingGuid) -> bool
     ensures { result ≡ is_cell c }
 {
     match c {
-        ReadingGuid::Refused(_) => false,
-        ReadingGuid::At(_, g) => {
-            if g.low != CELL_LOW {
-                return false;
-            }
-            g.high == CELL_HIGH
-        }
+        Err(_) => false,
+        Ok((_, g)) => { g.low == CELL_LOW && g.high == CELL_HIGH }
     }
 }
 
 // A cell knowledge, from behind its GUID.
-fn read_cell(
-    s: &[u8],
-    c: Reading,
-    table: &mut [u64],
-    rows: usize,
-    left: usize,
-    padding: bool,
-) -> Known
-    requires { ((rows + left) * range_width ≤ length table.old) × Normal (ranges_at table.old 0 rows) }
-    ensures { KnownIs (cell_from padding s.now (knowing (ranges_at table.old 0 rows) table.old left c) c) result table.new }
+fn read_cell(s: &[u8], known: Known, table: &mut [u64], padding: bool) -> Known
+    requires { ((known.rows + known.left) * range_width ≤ length table.old) × Normal (ranges_at table.old 0 known.rows) }
+    ensures { KnownIs (cell_from padding s.now (knowing (ranges_at table.old 0 known.rows) table.old known.left known.last) known.last) result table.new }
 {
-    let o = c.start_of_length(s, SPECIALIZED, CELL, COMPOUND, ROOM, 0, padding);
-    let k = read_items(s, o, table, rows, left, padding);
-    let last = k.last;
+    let o = known
+        .last
+        .start_of_length(s, SPECIALIZED, CELL, COMPOUND, ROOM, 0, padding);
+    let k = read_items(s, Known { last: o, ..known }, table, padding);
     Known {
-        rows: k.rows,
-        left: k.left,
-        last: last.end(s, SPECIALIZED),
+        last: k.last.end(s, SPECIALIZED),
+        ..k
     }
 }
 
 // One specialized knowledge: cell knowledge is united, another kind is passed over.
-fn read_specialized(
-    s: &[u8],
-    c: Reading,
-    depth: usize,
-    table: &mut [u64],
-    rows: usize,
-    left: usize,
-    padding: bool,
-) -> Known
-    requires { ((rows + left) * range_width ≤ length table.old) × Normal (ranges_at table.old 0 rows) }
-    ensures { KnownIs (specialized_from padding depth s.now (knowing (ranges_at table.old 0 rows) table.old left c)) result table.new }
+fn read_specialized(s: &[u8], known: Known, depth: usize, table: &mut [u64], padding: bool) -> Known
+    requires { ((known.rows + known.left) * range_width ≤ length table.old) × Normal (ranges_at table.old 0 known.rows) }
+    ensures { KnownIs (specialized_from padding depth s.now (knowing (ranges_at table.old 0 known.rows) table.old known.left known.last)) result table.new }
 {
-    let o = c.start_of_length(s, KNOWLEDGE, SPECIALIZED, COMPOUND, ROOM, 16, padding);
-    let g = Reading::At(0, 0).guid(o.run(s));
-    let behind = o.closed(s, g.on());
+    let o = known
+        .last
+        .start_of_length(s, KNOWLEDGE, SPECIALIZED, COMPOUND, ROOM, 16, padding);
+    let g = FRONT.guid(o.run(s));
+    let behind = closed(o, s, g.on());
     if is_cell(g) {
-        return read_cell(s, behind, table, rows, left, padding);
+        return read_cell(
+            s,
+            Known {
+                last: behind,
+                ..known
+            },
+            table,
+            padding,
+        );
     }
     Known {
-        rows,
-        left,
         last: behind.inside(s, depth, SPECIALIZED, padding),
+        ..known
     }
 }
 
 // The answer, if no fault stands.
+#[tactic(auto, unfolding(crate::specs::Knowledge::knowledge_answer))]
 pub fn answer(rows: usize, c: Reading) -> ReadKnowledge
     ensures { result ≡ knowledge_answer rows c }
 {
-    match c {
-        Reading::At(e, _) => ReadKnowledge::Holds(e, rows),
-        Reading::Refused(r) => ReadKnowledge::Refused(r),
-    }
+    let (e, _) = c?;
+    Ok((e, rows))
 }
 
 // The knowledge that begins here, inside an open object of type `outer`, with so many levels inside a specialized knowledge
@@ -182,14 +156,14 @@ pub fn read_knowledge(
     requires { allowed * range_width ≤ length table.old }
     ensures { ReadsKnowledge (knowledge_at padding allowed depth outer s.now table.old c) result table.new }
 {
-    let mut at = c.start_of_length(s, outer, KNOWLEDGE, COMPOUND, ROOM, 0, padding);
-    let mut n = 0;
-    let mut left = allowed;
-    while at.next_is(s, SPECIALIZED) {
-        let k = read_specialized(s, at, depth, table, n, left, padding);
-        n = k.rows;
-        left = k.left;
-        at = k.last;
+    let mut k = Known {
+        rows: 0,
+        left: allowed,
+        last: c.start_of_length(s, outer, KNOWLEDGE, COMPOUND, ROOM, 0, padding),
+    };
+    // What stands next ends the loop, and not a count.
+    while k.last.next_is(s, SPECIALIZED) {
+        k = read_specialized(s, k, depth, table, padding);
     }
-    answer(n, at.end(s, KNOWLEDGE))
+    answer(k.rows, k.last.end(s, KNOWLEDGE))
 }

@@ -27,15 +27,14 @@ pub fn range_length(x: Range) -> usize
 }
 
 // How many bytes the ranges of the rows from `first` up to `rows` take.
+#[tactic(auto, using(crate::proofs::KnowledgeLengths::length_turn, crate::proofs::KnowledgeLengths::length_end))]
 pub fn ranges_length(table: &[u64], first: usize, rows: usize) -> usize
     requires { (first ≤ rows) × (rows ≤ most_said) × (rows * range_width ≤ length table.now) }
     ensures { (result ≡ length (ranges_bytes (ranges_at table.now first (rows - first)))) × (result ≤ rows * 36) }
 {
     let mut n = 0;
-    let mut i = first;
-    while i < rows {
+    for i in first..rows {
         n += range_length(range_at(table, i));
-        i += 1;
     }
     n
 }
@@ -92,15 +91,14 @@ fn lay_range(out: &mut [u8], at: usize, x: Range) -> usize
 }
 
 // The ranges of the first rows, one behind the other.
+#[tactic(auto, using(crate::proofs::KnowledgeLengths::length_turn))]
 fn lay_ranges(out: &mut [u8], at: usize, table: &[u64], rows: usize) -> usize
     requires { (rows * range_width ≤ length table.now) × (at + length (ranges_bytes (ranges_at table.now 0 rows)) ≤ length out.old) }
     ensures { Lays at (ranges_bytes (ranges_at table.now 0 rows)) out.old result out.new }
 {
     let mut p = at;
-    let mut i = 0;
-    while i < rows {
+    for i in 0..rows {
         p = lay_range(out, p, range_at(table, i));
-        i += 1;
     }
     p
 }
@@ -160,8 +158,8 @@ pub fn write_knowledge(out: &mut [u8], table: &[u64], rows: usize) -> Wrote
 {
     let needed = knowledge_length(table, rows);
     if out.len() < needed {
-        return Wrote::Refused(too_short(needed));
+        return Err(too_short(needed));
     }
     put_knowledge(out, table, rows);
-    Wrote::Done(needed)
+    Ok(needed)
 }

@@ -5,12 +5,12 @@ ghost use Rattle.objects.specs.Steps.{Good};
 ghost use Rattle.store.specs.Tables.{most_elements};
 ghost use Rattle.store.specs.Store.{package_start, packaged_of, stored_of, nothing_of, beginning_of, elements_walk, package_walk, store_strictness, store_walk, PackageTo, WalkedTo};
 
-use crate::element::{ELEMENT, PACKAGE, ReadElement, Strictness, read_element};
+use crate::element::{Before, ELEMENT, PACKAGE, Strictness, read_element};
 use crate::table::{ID_NUMBERS, KEY_MARKS, MOST_ELEMENTS, ROW_NUMBERS, put_id, put_mark, put_row};
 use numbers::compact::PADDING_TAKEN;
 use numbers::refusal::{LONGEST_INPUT, Refusal, over_long};
-use objects::layout::{COMPOUND, NO_ROOM, NOTHING, ROOM};
-use objects::reading::Reading;
+use objects::layout::{COMPOUND, NO_ROOM, NOTHING, ROOM, ReadObjects};
+use objects::reading::{FRONT, ReadFields, Reading};
 
 // So many levels are left inside an element of a store, and of an answer.
 pub const LEVELS_INSIDE: usize = 14;
@@ -30,25 +30,16 @@ fn store_strictness() -> Strictness
 }
 
 // The place behind a package, and how many elements it holds.
-#[derive(Drop)]
-pub enum Packaged {
-    Holds(usize, usize),
-    Refused(Refusal),
-}
+pub type Packaged = Result<(usize, usize), Refusal>;
 
 // How many elements a store holds.
-#[derive(Drop)]
-pub enum Stored {
-    Holds(usize),
-    Refused(Refusal),
-}
+pub type Stored = Result<usize, Refusal>;
 
-// What stands behind the start of a store's package: an element; or none, and then the fault that reading the rest meets, if any.
+// What stands behind the start of a store's package: an element; or none.
 #[derive(Drop)]
 pub enum Beginning {
     Elements,
     Nothing,
-    Refused(Refusal),
 }
 
 // The start of the package inside an open object of type `outer`, and its reserved byte.
@@ -60,33 +51,30 @@ pub fn package_start(s: &[u8], c: Reading, outer: u64, padding: bool) -> Reading
 }
 
 // n elements and the place behind them, if no fault stands.
+#[tactic(auto, unfolding(crate::specs::Store::packaged_of))]
 fn packaged_if_fine(n: usize, c: Reading) -> Packaged
     ensures { result ≡ packaged_of n c }
 {
-    match c {
-        Reading::At(e, _) => Packaged::Holds(e, n),
-        Reading::Refused(r) => Packaged::Refused(r),
-    }
+    let (e, _) = c?;
+    Ok((e, n))
 }
 
 // n elements, if no fault stands.
+#[tactic(auto, unfolding(crate::specs::Store::stored_of))]
 fn count_if_fine(n: usize, c: Reading) -> Stored
     ensures { result ≡ stored_of n c }
 {
-    match c {
-        Reading::At(_, _) => Stored::Holds(n),
-        Reading::Refused(r) => Stored::Refused(r),
-    }
+    c?;
+    Ok(n)
 }
 
 // Nothing, if no fault stands.
-fn nothing_if_fine(c: Reading) -> Beginning
+#[tactic(auto, unfolding(crate::specs::Store::nothing_of))]
+fn nothing_if_fine(c: Reading) -> Result<Beginning, Refusal>
     ensures { result ≡ nothing_of c }
 {
-    match c {
-        Reading::At(_, _) => Beginning::Nothing,
-        Reading::Refused(r) => Beginning::Refused(r),
-    }
+    c?;
+    Ok(Beginning::Nothing)
 }
 
 // The elements from c on, into the tables.
@@ -103,6 +91,7 @@ fn walk(
 {
     let mut at = c;
     let mut n = 0;
+    // What stands next ends the loop, and not the count: a `for` would ask again behind the last element for what stands there.
     while at.next_is(s, ELEMENT) {
         if n == MOST_ELEMENTS {
             return packaged_if_fine(
@@ -110,17 +99,17 @@ fn walk(
                 at.start(s, PACKAGE, ELEMENT, COMPOUND, NO_ROOM, strict.padding),
             );
         }
-        match read_element(s, at, ids, marks, n, strict) {
-            ReadElement::Refused(r) => return Packaged::Refused(r),
-            ReadElement::Is(x) => {
-                let id = x.id;
-                put_row(rows, n, x);
-                put_id(ids, n, id);
-                put_mark(marks, id);
-                n += 1;
-                at = Reading::At(x.place + x.length, 0);
-            }
-        }
+        let before = Before {
+            ids,
+            marks,
+            count: n,
+        };
+        let x = read_element(s, at, before, strict)?;
+        put_row(rows, n, x);
+        put_id(ids, n, x.id);
+        put_mark(marks, x.id);
+        n += 1;
+        at = Ok((x.place + x.length, 0));
     }
     packaged_if_fine(n, at)
 }
@@ -157,10 +146,9 @@ pub fn read_package(
     ensures { PackageTo (package_walk strict outer s.now c) result rows.old rows.new ids.old ids.new }
 {
     let first = package_start(s, c, outer, strict.padding);
-    match read_elements(s, first, rows, ids, strict) {
-        Packaged::Refused(r) => Packaged::Refused(r),
-        Packaged::Holds(e, n) => packaged_if_fine(n, Reading::At(e, 0).end(s, PACKAGE)),
-    }
+    let (e, n) = read_elements(s, first, rows, ids, strict)?;
+    let behind: Reading = Ok((e, 0));
+    packaged_if_fine(n, behind.end(s, PACKAGE))
 }
 
 // A store, its rows and its ids: each table then holds those of the elements that were read, and behind them what it held,
@@ -170,25 +158,24 @@ pub fn read_store(s: &[u8], rows: &mut [u64; ROW_NUMBERS], ids: &mut [u64; ID_NU
     ensures { WalkedTo (store_walk s.now) result rows.old rows.new ids.old ids.new }
 {
     if LONGEST_INPUT < s.len() {
-        return Stored::Refused(over_long());
+        return Err(over_long());
     }
-    match read_package(s, Reading::At(0, 0), NOTHING, rows, ids, store_strictness()) {
-        Packaged::Refused(r) => Stored::Refused(r),
-        Packaged::Holds(e, n) => count_if_fine(n, Reading::At(e, 0).finish(s)),
-    }
+    let (e, n) = read_package(s, FRONT, NOTHING, rows, ids, store_strictness())?;
+    let behind: Reading = Ok((e, 0));
+    count_if_fine(n, behind.finish(s))
 }
 
 // A store up to its first element, and one without elements whole: so much is read without tables, which cost their clearing. Ruled out
 // (proofs/WrongAnswers): of no bytes, nothing; of the store without elements, an element.
-pub fn begin_store(s: &[u8]) -> Beginning
+pub fn begin_store(s: &[u8]) -> Result<Beginning, Refusal>
     ensures { result ≡ beginning_of s.now }
 {
     if LONGEST_INPUT < s.len() {
-        return Beginning::Refused(over_long());
+        return Err(over_long());
     }
-    let first = package_start(s, Reading::At(0, 0), NOTHING, STORE_PADDING);
+    let first = package_start(s, FRONT, NOTHING, STORE_PADDING);
     if first.next_is(s, ELEMENT) {
-        return Beginning::Elements;
+        return Ok(Beginning::Elements);
     }
     nothing_if_fine(first.end(s, PACKAGE).finish(s))
 }

@@ -13,14 +13,12 @@ fn none_twice(rows: &[u64], n: usize) -> bool
     ensures { result ≡ once same_key (serial_keys rows.now n) }
 {
     let mut marks = [0u8; KEY_MARKS as usize];
-    let mut i = 0;
-    while i < n {
+    for i in 0..n {
         let k = key_at(rows, i * ROW_WIDTH + SERIAL_COLUMN);
         if seen_key(rows, &marks, SERIAL_COLUMN, ROW_WIDTH, i, k) {
             return false;
         }
         put_mark(&mut marks, k);
-        i += 1;
     }
     true
 }

@@ -1,6 +1,7 @@
 // The working tables of a store: rows of six numbers (place, length, type, the serial's GUID as two little-endian numbers,
 // the serial's number) and ids of three (the GUID as two numbers, the number). No other file knows their columns; `order` writes
-// the rows of the lent table, which have a rank besides, and `pages` weighs rows by the column of lengths.
+// the rows of the lent table, which have a rank besides, and `pages` weighs rows by the column of lengths. They are tables of numbers, and
+// not of structs: of those who read into them it is promised what each number is, behind the rows and on a refusal too (`WalkedTo`).
 ghost use Rattle.std.specs.Prelude.{◌≡◌, ◌++◌, ◌+◌, ◌*◌, ◌≤◌, ◌<◌, length, take, drop, set};
 ghost use Rattle.laws.specs.Once.{seen};
 ghost use Rattle.store.specs.Element.{same_key};
@@ -28,6 +29,7 @@ pub const ID_NUMBERS: usize = 768;
 pub const KEY_MARKS: u64 = 4096;
 
 // The key of three numbers at a place of a table.
+#[tactic(auto, unfolding(crate::specs::Tables::key_at))]
 pub(crate) fn key_at(t: &[u64], at: usize) -> Key
     requires { at + 3 ≤ length t.now }
     ensures { result ≡ key_at t.now at }
@@ -39,16 +41,12 @@ pub(crate) fn key_at(t: &[u64], at: usize) -> Key
     }
 }
 
+#[tactic(auto, unfolding(crate::specs::Element::same_key))]
 pub fn same_key(a: Key, b: Key) -> bool
     ensures { result ≡ same_key a b }
 {
-    if a.low != b.low {
-        return false;
-    }
-    if a.high != b.high {
-        return false;
-    }
-    a.number == b.number
+    // Number by number: the derived `==` made reading 256 elements slower by a twentieth (`make speed`).
+    a.low == b.low && a.high == b.high && a.number == b.number
 }
 
 // Where a key's mark stands, among so many: few enough that the sum fits.
@@ -86,38 +84,36 @@ pub(crate) fn seen_key(
     search_key(t, offset, width, n, k)
 }
 
+#[tactic(auto, using(crate::proofs::Rows::key_room))]
 fn search_key(t: &[u64], offset: usize, width: usize, n: usize, k: Key) -> bool
     requires { (offset + 3 ≤ width) × (n * width ≤ length t.now) }
     ensures { result ≡ seen same_key k (keys_at t.now offset width n) }
 {
-    let mut i = 0;
-    while i < n {
-        let at = i * width + offset;
-        let x = key_at(t, at);
-        if same_key(k, x) {
+    for i in 0..n {
+        if same_key(k, key_at(t, i * width + offset)) {
             return true;
         }
-        i += 1;
     }
     false
 }
 
 // The row of an element behind n rows.
+#[tactic(auto, using(crate::proofs::Stores::put_six))]
 pub(crate) fn put_row(t: &mut [u64], n: usize, x: Element)
     requires { n * row_width + row_width ≤ length t.old }
     ensures { t.new ≡ take (n * row_width) t.old ++ (row_of x ++ drop (n * row_width + row_width) t.old) }
 {
     let at = n * ROW_WIDTH;
-    let serial = x.serial;
     t[at] = x.place as u64;
     t[at + 1] = x.length as u64;
     t[at + 2] = x.kind;
-    t[at + 3] = serial.low;
-    t[at + 4] = serial.high;
-    t[at + 5] = serial.number;
+    t[at + 3] = x.serial.low;
+    t[at + 4] = x.serial.high;
+    t[at + 5] = x.serial.number;
 }
 
 // An id behind n ids.
+#[tactic(auto, using(crate::proofs::Stores::put_three))]
 pub(crate) fn put_id(t: &mut [u64], n: usize, k: Key)
     requires { n * id_width + id_width ≤ length t.old }
     ensures { t.new ≡ take (n * id_width) t.old ++ (id_of k ++ drop (n * id_width + id_width) t.old) }
@@ -137,6 +133,7 @@ pub fn id_in_row(ids: &[u64], i: usize) -> Key
 }
 
 // The element of row i. Ruled out (proofs/WrongAnswers): its columns turned, the length for the place; the id of another row.
+#[tactic(auto, unfolding(crate::specs::Tables::element_in_row))]
 pub fn element_in_row(rows: &[u64], ids: &[u64], i: usize) -> Element
     requires { RowsStand rows.now ids.now (i + 1) }
     ensures { result ≡ element_in_row rows.now ids.now i }
@@ -148,5 +145,24 @@ pub fn element_in_row(rows: &[u64], ids: &[u64], i: usize) -> Element
         kind: rows[at + 2],
         id: id_in_row(ids, i),
         serial: key_at(rows, at + SERIAL_COLUMN),
+    }
+}
+
+// The elements of a store, as they stand in its working tables.
+#[derive(Clone, Copy)]
+pub struct Elements<'a> {
+    pub rows: &'a [u64],
+    pub ids: &'a [u64],
+    pub count: usize,
+    pub ghost stand: { RowsStand rows.now ids.now count },
+}
+
+impl Elements<'_> {
+    // The element of row i.
+    pub fn element(self, i: usize) -> Element
+        requires { i < self.count }
+        ensures { result ≡ element_in_row self.entry.rows.now self.entry.ids.now i }
+    {
+        element_in_row(self.rows, self.ids, i)
     }
 }

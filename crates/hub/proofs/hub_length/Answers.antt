@@ -4,9 +4,6 @@ use mathlib.Core.Path.{sym, ◌∙◌}
 use Rattle.hub.proofs.Reports.{begin_refused, refusal_told}
 use Rattle.hub.proofs.hub_length.Goals as goal
 
-pub returns-in-Refused : goal.returns-in-Refused
-returns-in-Refused c = let f = c.refuse.ensures in
-    rw f.0 (refusal_told _ _ _ _ _ _ (begin_refused _ _ _ _ (sym c.begin_store.ensures ∙ c.in-Refused.is)) f.1)
-
-pub returns-in-Nothing : goal.returns-in-Nothing
-returns-in-Nothing c = c.length_of_nothing.ensures _ (sym c.begin_store.ensures ∙ c.in-Nothing.is)
+pub returns-in-Err : goal.returns-in-Err
+returns-in-Err c = let f = c.refuse.ensures in
+    rw f.0 (refusal_told _ _ _ _ _ _ (begin_refused _ _ _ _ (sym c.begin_store.ensures ∙ c.in-Err.is)) f.1)

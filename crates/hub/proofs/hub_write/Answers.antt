@@ -4,10 +4,7 @@ use mathlib.Core.Path.{sym, ◌∙◌}
 use Rattle.hub.proofs.Reports.{begin_refused, refusal_written}
 use Rattle.hub.proofs.hub_write.Goals as goal
 
-pub write_of_nothing-requires : goal.write_of_nothing-requires
-write_of_nothing-requires c = sym c.begin_store.ensures ∙ c.in-Nothing.is
-
-pub returns-in-Refused : goal.returns-in-Refused
-returns-in-Refused c = let f = c.refuse.ensures in
+pub returns-in-Err : goal.returns-in-Err
+returns-in-Err c = let f = c.refuse.ensures in
     let out = c.args.out.now in
-    rw f.0 (refusal_written _ _ out _ _ _ (begin_refused _ _ _ _ (sym c.begin_store.ensures ∙ c.in-Refused.is)) f.1)
+    rw f.0 (refusal_written _ _ out _ _ _ (begin_refused _ _ _ _ (sym c.begin_store.ensures ∙ c.in-Err.is)) f.1)

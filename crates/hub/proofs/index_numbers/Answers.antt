@@ -3,10 +3,10 @@
 use Rattle.client.specs.Read.{id_numbers}
 use Rattle.hub.proofs.index_numbers.Goals as goal
 
-pub returns-in-Null : goal.returns-in-Null
+pub returns-in-None : goal.returns-in-None
 unfolding id_numbers
-returns-in-Null c = rw c.in-Null.is
+returns-in-None c = rw c.in-None.is
 
-pub returns-in-Named : goal.returns-in-Named
+pub returns-in-Some : goal.returns-in-Some
 unfolding id_numbers
-returns-in-Named c = rw c.in-Named.is
+returns-in-Some c = rw c.in-Some.is

@@ -4,11 +4,11 @@ use Rattle.pages.proofs.Stored.{page_follows, refusal_follows}
 use Rattle.hub.proofs.Reports.{refusal_told, page_told}
 use Rattle.hub.proofs.length_of_elements.Goals as goal
 
-pub returns-in-Refused : goal.returns-in-Refused
-returns-in-Refused c = let f = c.refuse.ensures in
-    rw f.0 (refusal_told _ _ _ _ _ _ (refusal_follows _ _ _ _ _ _ _ _ c.decide_answer.ensures.6 _ c.in-Refused.is) f.1)
+pub returns-in-Err : goal.returns-in-Err
+returns-in-Err c = let f = c.refuse.ensures in
+    rw f.0 (refusal_told _ _ _ _ _ _ (refusal_follows _ _ _ _ _ _ _ _ c.decide_answer.ensures.6 _ c.in-Err.is) f.1)
 
-pub returns-in-Page : goal.returns-in-Page
-returns-in-Page c = let f = c.done.ensures in
-    let x = page_follows _ _ _ _ _ _ _ _ c.decide_answer.ensures.6 _ _ _ c.in-Page.is in
+pub returns-in-Ok : goal.returns-in-Ok
+returns-in-Ok c = let f = c.done.ensures in
+    let x = page_follows _ _ _ _ _ _ _ _ c.decide_answer.ensures.6 _ _ _ c.in-Ok.is in
     rw f.0 (page_told _ x _ _ f.1)

@@ -6,15 +6,15 @@ use Rattle.hub.proofs.Reports.{refusal_written, page_written}
 use Rattle.hub.proofs.write_of_elements.Goals as goal
 
 pub write_answer-requires : goal.write_answer-requires
-write_answer-requires c = (page_follows _ _ _ _ _ _ _ _ c.decide_answer.ensures.6 _ _ _ c.in-Page.is).to_send
+write_answer-requires c = (page_follows _ _ _ _ _ _ _ _ c.decide_answer.ensures.6 _ _ _ c.in-Ok.is).to_send
 
-pub returns-in-Refused : goal.returns-in-Refused
-returns-in-Refused c = let f = c.refuse.ensures in
+pub returns-in-Err : goal.returns-in-Err
+returns-in-Err c = let f = c.refuse.ensures in
     let out = c.args.out.now in
-    rw f.0 (refusal_written _ _ out _ _ _ (refusal_follows _ _ _ _ _ _ _ _ c.decide_answer.ensures.6 _ c.in-Refused.is) f.1)
+    rw f.0 (refusal_written _ _ out _ _ _ (refusal_follows _ _ _ _ _ _ _ _ c.decide_answer.ensures.6 _ c.in-Err.is) f.1)
 
-pub returns-in-Page : goal.returns-in-Page
-returns-in-Page c = let f = c.done.ensures in
+pub returns-in-Ok : goal.returns-in-Ok
+returns-in-Ok c = let f = c.done.ensures in
     let out = c.args.out.now in
-    let x = page_follows _ _ _ _ _ _ _ _ c.decide_answer.ensures.6 _ _ _ c.in-Page.is in
+    let x = page_follows _ _ _ _ _ _ _ _ c.decide_answer.ensures.6 _ _ _ c.in-Ok.is in
     rw f.0 (page_written _ x out _ _ _ refl c.write_answer.ensures.1 f.1)

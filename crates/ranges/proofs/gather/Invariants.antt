@@ -2,12 +2,9 @@
 -- Assumes nothing.
 use Rattle.talk.specs.Ranges.{absorb}
 use Rattle.ranges.specs.RangeTable.{ranges_at}
-use Prim.Native.Nat.{◌-◌, ◌≤◌}
+use Prim.Native.Nat.{◌-◌}
 use mathlib.Core.Path.{◌≡◌}
 use Rattle.ranges.proofs.gather.Given as goal
 
 abbrev pub invariant-loop-j : goal.invariant-loop-j
-invariant-loop-j l = (l.i ≤ l.j) × (l.j ≤ l.count) × (absorb l.initial.y (ranges_at l.t l.i (l.count - l.i)) ≡ absorb l.y (ranges_at l.t l.j (l.count - l.j)))
-
-abbrev pub decreases-loop-j : goal.decreases-loop-j
-decreases-loop-j l = l.count - l.j
+invariant-loop-j l = absorb l.initial.y (ranges_at l.t l.i (l.count - l.i)) ≡ absorb l.y (ranges_at l.t l.j (l.count - l.j))

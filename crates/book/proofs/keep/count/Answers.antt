@@ -18,23 +18,23 @@ plan_elements-planned-requires c = let h = c.requires.0 in
 
 pub returns-then-planned-gt-MOST_ELEMENTS : goal.returns-then-planned-gt-MOST_ELEMENTS
 returns-then-planned-gt-MOST_ELEMENTS c = let a = c.args in
-    let new = kept_elements a.book.now a.answer.now in
+    let new = kept_elements a.book.bytes.now a.answer.bytes.now in
     let r = c.plan_elements-planned.ensures in
-    let e : c.plan_elements-planned.result ≡ length new = r.0 ∙ planned_count a.book.now a.rows.now a.ids.now a.answer.now a.camerows.now a.cameids.now a.n a.m c.requires.0 c.requires.1 in
+    let e : c.plan_elements-planned.result ≡ length new = r.0 ∙ planned_count a.book.bytes.now a.book.elements.rows.now a.book.elements.ids.now a.answer.bytes.now a.answer.elements.rows.now a.answer.elements.ids.now a.book.elements.count a.answer.elements.count c.requires.0 c.requires.1 in
     rw (counted_over new (length a.newbook.now) _ e c.if-planned-gt-MOST_ELEMENTS.true, c.at_place.ensures) (refused_gives _ a.newbook.now)
 
 pub size-requires : goal.size-requires
 size-requires c = let a = c.args in
-    let new = kept_elements a.book.now a.answer.now in
+    let new = kept_elements a.book.bytes.now a.answer.bytes.now in
     let r = c.plan_elements-planned.ensures in
-    let e : c.plan_elements-planned.result ≡ length new = r.0 ∙ planned_count a.book.now a.rows.now a.ids.now a.answer.now a.camerows.now a.cameids.now a.n a.m c.requires.0 c.requires.1 in
-    plan_made a.book.now a.rows.now a.ids.now a.answer.now a.camerows.now a.cameids.now a.n a.m c.requires.0 c.requires.1 _ _ c.plan_elements-planned.result r.0 r.1 c.if-planned-gt-MOST_ELEMENTS.false
+    let e : c.plan_elements-planned.result ≡ length new = r.0 ∙ planned_count a.book.bytes.now a.book.elements.rows.now a.book.elements.ids.now a.answer.bytes.now a.answer.elements.rows.now a.answer.elements.ids.now a.book.elements.count a.answer.elements.count c.requires.0 c.requires.1 in
+    plan_made a.book.bytes.now a.book.elements.rows.now a.book.elements.ids.now a.answer.bytes.now a.answer.elements.rows.now a.answer.elements.ids.now a.book.elements.count a.answer.elements.count c.requires.0 c.requires.1 _ _ c.plan_elements-planned.result r.0 r.1 c.if-planned-gt-MOST_ELEMENTS.false
 
 pub returns : goal.returns
 returns c = let a = c.args in
-    let new = kept_elements a.book.now a.answer.now in
+    let new = kept_elements a.book.bytes.now a.answer.bytes.now in
     let r = c.plan_elements-planned.ensures in
-    let e : c.plan_elements-planned.result ≡ length new = r.0 ∙ planned_count a.book.now a.rows.now a.ids.now a.answer.now a.camerows.now a.cameids.now a.n a.m c.requires.0 c.requires.1 in
-    let t = plan_taken a.book.now a.rows.now a.ids.now a.answer.now a.camerows.now a.cameids.now a.n a.m c.requires.0 c.requires.1 _ _ c.plan_elements-planned.result r.0 r.1 in
+    let e : c.plan_elements-planned.result ≡ length new = r.0 ∙ planned_count a.book.bytes.now a.book.elements.rows.now a.book.elements.ids.now a.answer.bytes.now a.answer.elements.rows.now a.answer.elements.ids.now a.book.elements.count a.answer.elements.count c.requires.0 c.requires.1 in
+    let t = plan_taken a.book.bytes.now a.book.elements.rows.now a.book.elements.ids.now a.answer.bytes.now a.answer.elements.rows.now a.answer.elements.ids.now a.book.elements.count a.answer.elements.count c.requires.0 c.requires.1 _ _ c.plan_elements-planned.result r.0 r.1 in
     rw (counted_fits new (length a.newbook.now) _ e c.if-planned-gt-MOST_ELEMENTS.false)
-    (rw (t, planned_book a.book.now a.rows.now a.ids.now a.answer.now a.camerows.now a.cameids.now a.n a.m c.requires.0 c.requires.1) at c.size.ensures)
+    (rw (t, planned_book a.book.bytes.now a.book.elements.rows.now a.book.elements.ids.now a.answer.bytes.now a.answer.elements.rows.now a.answer.elements.ids.now a.book.elements.count a.answer.elements.count c.requires.0 c.requires.1) at c.size.ensures)

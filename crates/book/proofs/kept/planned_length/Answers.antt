@@ -7,39 +7,20 @@ use Rattle.book.specs.Plan.{source_element}
 use Rattle.book.proofs.Turns.{length_turn, length_end}
 use Rattle.book.proofs.kept.planned_length.Goals as goal
 
-pub loop-k-init : goal.loop-k-init
-loop-k-init c = (omega arith, omega arith, omega arith)
-
-pub bounds-plan-k : goal.bounds-plan-k
-bounds-plan-k c = let l = c.requires.long in omega arith
-
-pub overflow_cast-plan : goal.overflow_cast-plan
-overflow_cast-plan c = omega (arith, c.type_inv.plan c.loop-k.k)
-
 pub source_length-whole-requires : goal.source_length-whole-requires
-source_length-whole-requires c = c.requires.fits c.loop-k.k c.loop-k-test.true
+source_length-whole-requires c = rw c.from.ensures (c.requires.fits c.loop-source.source-index c.loop-source-test.true)
 
-pub overflow_add-whole : goal.overflow_add-whole
-overflow_add-whole c = let f = c.requires.few in
-    let m = c.source_length-whole.ensures.1 in
-    let i = c.loop-k.invariant in
-    let t = c.loop-k-test.true in
-    omega arith
-
-pub overflow_add-k : goal.overflow_add-k
-overflow_add-k c = let f = c.requires.few in omega arith
-
-pub loop-k-preserved : goal.loop-k-preserved
-loop-k-preserved c = let l = c.loop-k in
+pub loop-source-preserved : goal.loop-source-preserved
+loop-source-preserved c = let l = c.loop-source in
     let a = c.args in
-    let t = length_turn a.plan.now l.k a.count c.loop-k-test.true c.requires.long a.rows.now a.ids.now a.camerows.now a.cameids.now in
-    let e : c.source_length-whole.result ≡ (source_element a.rows.now a.ids.now a.camerows.now a.cameids.now (get_or a.plan.now l.k 0)).length = c.source_length-whole.ensures.0 in
+    let t = length_turn a.plan.now l.source-index c.loop-source-test.true a.book.elements.rows.now a.book.elements.ids.now a.answer.elements.rows.now a.answer.elements.ids.now in
+    let e : c.source_length-whole.result ≡ (source_element a.book.elements.rows.now a.book.elements.ids.now a.answer.elements.rows.now a.answer.elements.ids.now (get_or a.plan.now l.source-index 0)).length = rw c.from.ensures at c.source_length-whole.ensures.0 in
     let m = c.source_length-whole.ensures.1 in
     let i = l.invariant in
-    (omega arith, omega arith, omega arith)
+    (omega arith, omega arith)
 
 pub returns : goal.returns
 returns c = let a = c.args in
-    let e = length_end a.plan.now c.loop-k.k a.count c.loop-k-test.false c.requires.long a.rows.now a.ids.now a.camerows.now a.cameids.now in
-    let i = c.loop-k.invariant in
+    let e = length_end a.plan.now c.loop-source.source-index c.loop-source-test.false a.book.elements.rows.now a.book.elements.ids.now a.answer.elements.rows.now a.answer.elements.ids.now in
+    let i = c.loop-source.invariant in
     (omega arith, omega arith)

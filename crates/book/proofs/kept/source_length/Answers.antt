@@ -15,7 +15,7 @@ returns-then-source-lt-MOST_ELEMENTS c = let a = c.args in
     let h = c.requires.there c.if-source-lt-MOST_ELEMENTS.true in
     let w = h.within in
     let l = h.short in
-    (rw (element_there a.rows.now a.ids.now a.camerows.now a.cameids.now a.source c.if-source-lt-MOST_ELEMENTS.true) e, omega arith)
+    (rw (element_there a.book.elements.rows.now a.book.elements.ids.now a.answer.elements.rows.now a.answer.elements.ids.now a.source c.if-source-lt-MOST_ELEMENTS.true) e, omega arith)
 
 pub element_in_row-requires-2 : goal.element_in_row-requires-2
 element_in_row-requires-2 c = (c.requires.came c.if-source-lt-MOST_ELEMENTS.false).stands
@@ -26,4 +26,4 @@ returns c = let a = c.args in
     let h = c.requires.came c.if-source-lt-MOST_ELEMENTS.false in
     let w = h.within in
     let l = h.short in
-    (rw (element_came a.rows.now a.ids.now a.camerows.now a.cameids.now a.source c.if-source-lt-MOST_ELEMENTS.false) e, omega arith)
+    (rw (element_came a.book.elements.rows.now a.book.elements.ids.now a.answer.elements.rows.now a.answer.elements.ids.now a.source c.if-source-lt-MOST_ELEMENTS.false) e, omega arith)

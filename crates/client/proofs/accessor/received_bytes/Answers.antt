@@ -1,19 +1,13 @@
 -- `accessor::received_bytes` meets its contract.
 -- Assumes nothing.
-use mathlib.Core.Path.{◌≡◌, sym, ◌∙◌}
+use mathlib.Core.Path.{◌≡◌}
+use Rattle.store.proofs.Found.{part_found}
 use Rattle.store.proofs.OneAnswers.{found_telling}
 use Rattle.client.specs.Accessor.{received_at, received_bytes}
-use Rattle.store.specs.declared.accessor.Found.TheVariants.{At, Refused}
 use Rattle.client.proofs.accessor.received_bytes.Goals as goal
 
-pub returns-in-At : goal.returns-in-At
+pub returns : goal.returns
 unfolding received_bytes
-returns-in-At c = let a = c.args in
-    let e : received_at a.s.now a.position ≡ At _ _ = sym (found_telling c.find_received.result (received_at a.s.now a.position) c.find_received.ensures) ∙ c.in-At.is in
-    rw e c.part.ensures
-
-pub returns-in-Refused : goal.returns-in-Refused
-unfolding received_bytes
-returns-in-Refused c = let a = c.args in
-    let e : received_at a.s.now a.position ≡ Refused _ = sym (found_telling c.find_received.result (received_at a.s.now a.position) c.find_received.ensures) ∙ c.in-Refused.is in
-    rw e c.part-in-Refused.ensures
+returns c = let s = c.args.s.now in
+    let e : c.find_received.result ≡ received_at s c.args.position = found_telling c.find_received.result (received_at s c.args.position) c.find_received.ensures in
+    rw (c.part.ensures, c.unwrap_or-at.ensures, ← e) (part_found s c.find_received.result)

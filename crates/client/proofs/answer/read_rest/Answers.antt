@@ -1,6 +1,8 @@
 -- `answer::read_rest` meets its contract: each part is read where the one before it ends, and the knowledge's length is what lies
 -- between its start and its end.
 -- Assumes nothing.
+use Rattle.std.specs.Prelude.{Err}
+use Rattle.std.proofs.Common.{rules}
 use mathlib.Core.Path.{◌≡◌, sym, ◌∙◌}
 use Rattle.client.specs.Read.{changes, mark_at, knowledge_end, received_from, rest_of, answer_on}
 use Rattle.client.proofs.AnswerWithin.{good_changes_fields}
@@ -26,26 +28,27 @@ end_is c = c.ends.ensures ∙ rw (knowledge_is c)
 
 pub overflow_sub-result : goal.overflow_sub-result
 overflow_sub-result c = let a = c.args in
-    rw (c.place-in-At-2.ensures, c.place-in-At.ensures, mark_is (goal.at.overflow_sub-result c).After-ends, knowledge_is (goal.at.overflow_sub-result c).After-ends)
-    (knowledge_forward a.s.now a.c _ _ (sym (end_is (goal.at.overflow_sub-result c).After-ends) ∙ c.in-At.is))
+    rw (c.place-3.ensures, c.place-2.ensures, mark_is (goal.at.overflow_sub-result c).After-ends, knowledge_is (goal.at.overflow_sub-result c).After-ends)
+    (knowledge_forward a.s.now a.c _ _ (sym (end_is (goal.at.overflow_sub-result c).After-ends) ∙ c.in_ok-ends.was))
 
-pub returns-in-Refused : goal.returns-in-Refused
+pub returns-in_err-ends : goal.returns-in_err-ends
 unfolding answer_on
-returns-in-Refused c = rw (sym (end_is (goal.at.returns-in-Refused c).After-ends) ∙ c.in-Refused.is)
+returns-in_err-ends c = let residual : c.from_residual.result ≡ Err c.in_err-ends.field-0.0 = search rules in
+    rw residual (rw (sym (end_is (goal.at.returns-in_err-ends c).After-ends) ∙ c.in_err-ends.was))
 
-pub returns-in-At : goal.returns-in-At
+pub returns : goal.returns
 unfolding answer_on received_from
-returns-in-At c = rw (
-  sym (end_is (goal.at.returns-in-At c).After-ends) ∙ c.in-At.is,
-  c.place-in-At-2.ensures,
-  c.place-in-At.ensures,
+returns c = rw (
+  sym (end_is (goal.at.returns c).After-ends) ∙ c.in_ok-ends.was,
+  c.place-3.ensures,
+  c.place-2.ensures,
   c.place.ensures,
   c.id_in.ensures,
   c.extended_guid.ensures,
-  c.value-in-At.ensures,
+  c.value-2.ensures,
   c.value.ensures,
-  knowledge_is (goal.at.returns-in-At c).After-ends,
-  mark_is (goal.at.returns-in-At c).After-ends,
+  knowledge_is (goal.at.returns c).After-ends,
+  mark_is (goal.at.returns c).After-ends,
   c.run-d.ensures,
   c.start-o.ensures,
   c.sub_response-sub.ensures,

@@ -1,5 +1,7 @@
 -- `put_answer::read_put_rest` meets its contract: the knowledge's length is what lies between its start and its end.
 -- Assumes nothing.
+use Rattle.std.specs.Prelude.{Err}
+use Rattle.std.proofs.Common.{rules}
 use mathlib.Core.Path.{◌≡◌, sym, ◌∙◌}
 use Rattle.client.specs.Read.{behind_knowledge}
 use Rattle.client.specs.ReadPut.{put_known, received_put_from, put_rest_of, put_answer_on}
@@ -17,21 +19,22 @@ end_is c = c.ends.ensures ∙ rw (knowledge_is c)
 
 pub overflow_sub-result : goal.overflow_sub-result
 overflow_sub-result c = let a = c.args in
-    rw (c.place-in-At-2.ensures, c.place-in-At.ensures, knowledge_is (goal.at.overflow_sub-result c).After-ends, c.sub_response-sub.ensures)
-    (put_forward a.s.now a.c _ _ (sym (end_is (goal.at.overflow_sub-result c).After-ends) ∙ c.in-At.is))
+    rw (c.place-3.ensures, c.place-2.ensures, knowledge_is (goal.at.overflow_sub-result c).After-ends, c.sub_response-sub.ensures)
+    (put_forward a.s.now a.c _ _ (sym (end_is (goal.at.overflow_sub-result c).After-ends) ∙ c.in_ok-ends.was))
 
-pub returns-in-Refused : goal.returns-in-Refused
+pub returns-in_err-ends : goal.returns-in_err-ends
 unfolding put_answer_on
-returns-in-Refused c = rw (sym (end_is (goal.at.returns-in-Refused c).After-ends) ∙ c.in-Refused.is)
+returns-in_err-ends c = let residual : c.from_residual.result ≡ Err c.in_err-ends.field-0.0 = search rules in
+    rw residual (rw (sym (end_is (goal.at.returns-in_err-ends c).After-ends) ∙ c.in_err-ends.was))
 
-pub returns-in-At : goal.returns-in-At
+pub returns : goal.returns
 unfolding put_answer_on received_put_from
-returns-in-At c = rw (
-  sym (end_is (goal.at.returns-in-At c).After-ends) ∙ c.in-At.is,
-  c.place-in-At-2.ensures,
-  c.place-in-At.ensures,
+returns c = rw (
+  sym (end_is (goal.at.returns c).After-ends) ∙ c.in_ok-ends.was,
+  c.place-3.ensures,
+  c.place-2.ensures,
   c.place.ensures,
   c.value.ensures,
-  knowledge_is (goal.at.returns-in-At c).After-ends,
+  knowledge_is (goal.at.returns c).After-ends,
   c.sub_response-sub.ensures,
 )

@@ -1,12 +1,8 @@
 -- `plan::plan_elements` meets its contract.
 -- Assumes nothing.
-use native.Mathlib.Omega.{arith}
 use Rattle.store.specs.Tables.{id_width, id_keys}
 use Rattle.enter.proofs.Planning.{length_keys, both_planned}
 use Rattle.enter.proofs.plan.plan_elements.Goals as goal
-
-pub plan_new-requires : goal.plan_new-requires
-plan_new-requires c = (c.requires.0, c.requires.1, c.requires.2, c.requires.3, omega arith)
 
 pub returns : goal.returns
 returns c = let a = c.args in

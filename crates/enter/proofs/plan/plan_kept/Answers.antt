@@ -1,10 +1,10 @@
 -- `plan::plan_kept` meets its contract. The invariant: with the numbers still to come laid at i, the plan is what it is to be.
 -- Assumes nothing.
-use mathlib.Core.Path.{◌≡◌, refl, sym, ap, ◌∙◌}
+use mathlib.Core.Path.{◌≡◌, sym, ap, ◌∙◌}
 use mathlib.Core.List.{List, [], ◌∷◌, ◌++◌}
 use Prim.Native.Nat.{ℕ, ◌+◌, ◌-◌, ◌<◌}
 use native.Mathlib.Omega.{arith}
-use lib.ListN.{length, set, length-set}
+use lib.ListN.{length, set}
 use Rattle.laws.specs.Placed.{laid}
 use Rattle.laws.proofs.Placing.{laid_nothing, lays_first}
 use Rattle.store.specs.Tables.{id_in_row, id_keys}
@@ -13,12 +13,7 @@ use Rattle.enter.proofs.Planning.{ids_from, length_keys, length_kept, set_lays, 
 use Rattle.enter.proofs.plan.plan_kept.Goals as goal
 
 pub loop-i-init : goal.loop-i-init
-loop-i-init c = let a = c.args in (omega arith, refl, kept_start (id_keys a.handed.now a.m) a.ids.now a.n a.plan.now)
-
-pub kept_source-requires : goal.kept_source-requires
-kept_source-requires c = let p = c.requires in
-    let h = c.loop-i.invariant.0 in
-    (omega arith, omega arith, omega arith)
+loop-i-init c = let a = c.args in kept_start (id_keys a.handed.now a.m) a.ids.now a.n a.plan.now
 
 pub loop-i-preserved : goal.loop-i-preserved
 loop-i-preserved c = let a = c.args in
@@ -30,18 +25,11 @@ loop-i-preserved c = let a = c.args in
     let y = kept_sources come (i + 1) (ids_from a.ids.now (i + 1) a.n) in
     let t : w ≡ (c.kept_source.result ∷ []) ++ y = kept_turn come a.ids.now i a.n h ∙ ap (λ (x : ℕ). (x ∷ []) ++ y) (sym v) in
     let m : length w ≡ a.n - i = length_kept come i (ids_from a.ids.now i a.n) ∙ length_keys _ _ _ _ in
-    let z = c.loop-i.invariant.1 in
-    let q = c.requires.4 in (
-      omega arith,
-      length-set c.loop-i.plan i c.kept_source.result ∙ c.loop-i.invariant.1,
-      lays_first i w (c.kept_source.result ∷ []) y c.loop-i.plan (i + 1) (set c.loop-i.plan i c.kept_source.result) _ t (omega arith) c.loop-i.invariant.2
-          (set_lays c.loop-i.plan i c.kept_source.result (omega arith)),
-    )
-
-pub shape_of-plan : goal.shape_of-plan
-shape_of-plan c = c.loop-i.invariant.1
+    let q = c.requires.4 in
+    lays_first i w (c.kept_source.result ∷ []) y c.loop-i.plan (i + 1) (set c.loop-i.plan i c.kept_source.result) _ t (omega arith) c.loop-i.invariant
+    (set_lays c.loop-i.plan i c.kept_source.result (omega arith))
 
 pub returns : goal.returns
 returns c = let a = c.args in
     let e = kept_end (id_keys a.handed.now a.m) a.ids.now c.loop-i.i a.n c.loop-i-test.false in
-    sym (laid_nothing c.loop-i.i c.loop-i.plan) ∙ ap (λ (w : List ℕ). laid c.loop-i.i w c.loop-i.plan) (sym e) ∙ c.loop-i.invariant.2
+    sym (laid_nothing c.loop-i.i c.loop-i.plan) ∙ ap (λ (w : List ℕ). laid c.loop-i.i w c.loop-i.plan) (sym e) ∙ c.loop-i.invariant

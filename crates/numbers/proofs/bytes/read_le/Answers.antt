@@ -8,38 +8,32 @@ use lib.Seq.{get_or-take}
 use Rattle.laws.specs.Bytes.{le}
 use Rattle.laws.proofs.Numbers.{le_lt, le_step, take_bytes, drop_bytes}
 use Rattle.numbers.proofs.bytes.read_le.Goals as goal
-use Rattle.numbers.proofs.bytes.read_le.Goals.{After-shared_slice_known-1}
+use Rattle.numbers.proofs.bytes.read_le.Goals.{In-loop-i}
 
 pub loop-i-init : goal.loop-i-init
 unfolding le
-loop-i-init c = (omega arith, rw (drop_of_length-le (take c.args.n c.args.s.now) {i = c.args.n} (simp length-take (omega arith))))
+loop-i-init c = rw (drop_of_length-le (take c.args.n c.args.s.now) {i = c.args.n} (simp length-take (omega arith)))
 
 -- in a turn x has at most seven bytes
-small : (c : After-shared_slice_known-1) → c.loop-i.x < 256 ^ 7
+small : (c : In-loop-i) → c.loop-i.x < 256 ^ 7
 small c =
     let a = c.args in
     let l = c.loop-i in
-    rw l.invariant.1
+    rw l.invariant
     (le_lt 7 (drop l.i (take a.n a.s.now)) (simp (length-drop, length-take) (omega arith))
     (drop_bytes l.i (take a.n a.s.now) (take_bytes a.n a.s.now (λ i. (c.type_inv.s i).fits))))
-
-pub overflow_cast-b : goal.overflow_cast-b
-overflow_cast-b c = omega (arith, c.type_inv.s (c.loop-i.i - 1))
 
 pub overflow_mul-x : goal.overflow_mul-x
 overflow_mul-x c = omega (arith, small c)
 
 pub overflow_add-x : goal.overflow_add-x
-overflow_add-x c = omega (arith, small c, c.type_inv.s (c.loop-i.i - 1))
+overflow_add-x c = omega (arith, small (goal.at.overflow_add-x c).In-loop-i, c.type_inv.s (c.loop-i.i - 1))
 
 pub loop-i-preserved : goal.loop-i-preserved
-loop-i-preserved c = let a = c.args in
+loop-i-preserved c =
+    let a = c.args in
     let l = c.loop-i in
     let t = take a.n a.s.now in
     let e : le (drop (l.i - 1) t) ≡ le (drop l.i t) * 256 + get_or t (l.i - 1) 0 = le_step t l.i (omega arith) (simp length-take (omega arith)) in
     let g : get_or t (l.i - 1) 0 ≡ get_or a.s.now (l.i - 1) 0 = get_or-take a.n a.s.now (l.i - 1) 0 (omega arith) in
-    (omega arith, cc)
-
-pub returns : goal.returns
-returns c = let z : c.loop-i.i ≡ 0 = omega arith in
-    rw z at c.loop-i.invariant.1
+    cc

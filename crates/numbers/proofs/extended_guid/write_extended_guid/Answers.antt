@@ -3,10 +3,10 @@
 use Rattle.numbers.specs.ExtendedGuid.{extended_guid_bytes}
 use Rattle.numbers.proofs.extended_guid.write_extended_guid.Goals as goal
 
-pub returns-in-Null : goal.returns-in-Null
+pub returns-in-None : goal.returns-in-None
 unfolding extended_guid_bytes
-returns-in-Null c = rw c.in-Null.is c.write_zero.ensures
+returns-in-None c = rw c.in-None.is c.write_zero.ensures
 
-pub returns-in-Named : goal.returns-in-Named
+pub returns-in-Some : goal.returns-in-Some
 unfolding extended_guid_bytes
-returns-in-Named c = rw c.in-Named.is c.write_named.ensures
+returns-in-Some c = rw c.in-Some.is c.write_named.ensures

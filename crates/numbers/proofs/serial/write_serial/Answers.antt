@@ -3,10 +3,10 @@
 use Rattle.numbers.specs.Serial.{serial_bytes}
 use Rattle.numbers.proofs.serial.write_serial.Goals as goal
 
-pub returns-in-Null : goal.returns-in-Null
+pub returns-in-None : goal.returns-in-None
 unfolding serial_bytes
-returns-in-Null c = rw c.in-Null.is c.write_zero.ensures
+returns-in-None c = rw c.in-None.is c.write_zero.ensures
 
-pub returns-in-Numbered : goal.returns-in-Numbered
+pub returns-in-Some : goal.returns-in-Some
 unfolding serial_bytes
-returns-in-Numbered c = rw c.in-Numbered.is c.write_tagged.ensures
+returns-in-Some c = rw c.in-Some.is c.write_tagged.ensures

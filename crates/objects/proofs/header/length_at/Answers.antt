@@ -18,15 +18,15 @@ returns-then-s-at c = rw (eq-eqb _ _ c.if-n-ne-ESCAPE.false, compact_past _ _ _ 
 
 pub overflow_add-result : goal.overflow_add-result
 overflow_add-result c = let a = c.args in
-    let e = sym c.item.ensures ∙ c.in-Value.is in
+    let e = sym c.item.ensures ∙ c.in-Ok.is in
     omega (arith, compact_fits _ a.s.now a.at _ _ _ (rw tail_part at e))
 
-pub returns-in-Value : goal.returns-in-Value
+pub returns-in-Ok : goal.returns-in-Ok
 unfolding length_at
-returns-in-Value c = let e = rw tail_part at (sym c.item.ensures ∙ c.in-Value.is) in
+returns-in-Ok c = let e = rw tail_part at (sym c.item.ensures ∙ c.in-Ok.is) in
     rw (eq-eqb _ _ c.if-n-ne-ESCAPE.false, e)
 
-pub returns-in-Refused : goal.returns-in-Refused
+pub returns-in-Err : goal.returns-in-Err
 unfolding length_at
-returns-in-Refused c = let e = rw tail_part at (sym c.item.ensures ∙ c.in-Refused.is) in
-    rw (eq-eqb _ _ c.if-n-ne-ESCAPE.false, e, c.at_place-in-Refused.ensures)
+returns-in-Err c = let e = rw tail_part at (sym c.item.ensures ∙ c.in-Err.is) in
+    rw (eq-eqb _ _ c.if-n-ne-ESCAPE.false, e, c.at_place-in-Err.ensures)

@@ -1,40 +1,41 @@
 -- `nesting::read_object` and `nesting::read_run`, which call each other, meet their contracts.
 -- Assumes nothing.
+use Rattle.std.specs.Prelude.{Ok}
 use Rattle.std.proofs.Common.{◌≡◌, ℕ, true, sym, ap, ◌∙◌, refl, arith}
 use Rattle.objects.specs.Next.{next_at, told_number}
-use Rattle.objects.specs.declared.nesting.Passed.TheVariants.{Refused}
-use Rattle.objects.specs.declared.nesting.Next.TheVariants.{Opens}
+use Rattle.objects.specs.Results.Passed.{Refused}
+use Rattle.objects.specs.Results.Next.{Opens}
 use Rattle.objects.proofs.Ahead.{object_next}
 use Rattle.objects.proofs.Next.{next_ahead, object_next_on, met_is, opened_opens, opens_as}
 use Rattle.objects.proofs.Told.{told_place, told_fault, told_goes, told_stops, refused_within}
 use Rattle.objects.proofs.nesting.+read_object_read_run.Goals as goal
-use Rattle.objects.proofs.nesting.+read_object_read_run.Goals.{read_object-Joined-inside-eq0, read_object-then-inside-eq0+in-Opens, read_object-else-inside-eq0}
+use Rattle.objects.proofs.nesting.+read_object_read_run.Goals.{read_object-Joined-inside-eq0, read_object-then-inside-eq0+in-Ok-Opens, read_object-else-inside-eq0}
 
 pub read_object-told_refusal-requires : goal.read_object-told_refusal-requires
 read_object-told_refusal-requires t c =
-    let w = refused_within _ _ _ _ _ c.requires (object_next_on _ _ _ _ _ (sym c.next_by_header.ensures ∙ c.in-Refused.is)) in
+    let w = refused_within _ _ _ _ _ c.requires (object_next_on _ _ _ _ _ (sym c.next_by_header.ensures ∙ c.in-Err.is)) in
     let l = c.well_formed.0.1 in
     omega arith
 
-pub read_object-returns-in-Refused : goal.read_object-returns-in-Refused
-read_object-returns-in-Refused t c =
-    told_fault _ _ _ _ c.told_refusal.ensures (object_next_on _ _ _ _ _ (sym c.next_by_header.ensures ∙ c.in-Refused.is))
+pub read_object-returns-in-Err : goal.read_object-returns-in-Err
+read_object-returns-in-Err t c =
+    told_fault _ _ _ _ c.told_refusal.ensures (object_next_on _ _ _ _ _ (sym c.next_by_header.ensures ∙ c.in-Err.is))
 
-pub read_object-returns-in-Past : goal.read_object-returns-in-Past
-read_object-returns-in-Past t c = told_place _ _ _ (object_next_on _ _ _ _ _ (sym c.next_by_header.ensures ∙ c.in-Past.is))
+pub read_object-returns-in-Ok-Past : goal.read_object-returns-in-Ok-Past
+read_object-returns-in-Ok-Past t c = told_place _ _ _ (object_next_on _ _ _ _ _ (sym c.next_by_header.ensures ∙ c.in-Ok-Past.is ∙ ap Ok c.in-Ok-Past.field-0-is))
 
-pub read_object-returns-in-Ends : goal.read_object-returns-in-Ends
-read_object-returns-in-Ends t c =
-    told_fault _ _ _ _ c.told_refusal-in-Ends.ensures
-    (object_next_on _ _ _ _ _ (sym c.next_by_header.ensures ∙ c.in-Ends.is) ∙ ap Refused (sym c.at_place.ensures))
+pub read_object-returns-in-Ok-Ends : goal.read_object-returns-in-Ok-Ends
+read_object-returns-in-Ok-Ends t c =
+    told_fault _ _ _ _ c.told_refusal-in-Ok-Ends.ensures
+    (object_next_on _ _ _ _ _ (sym c.next_by_header.ensures ∙ c.in-Ok-Ends.is ∙ ap Ok c.in-Ok-Ends.field-0-is) ∙ ap Refused (sym c.at_place.ensures))
 
 -- what opens the run inside, by a short start or by any other
 opens : (t : ℕ) (c : read_object-Joined-inside-eq0 t)
     → next_at c.args.padding c.args.s.now c.args.at c.args.depth ≡ Opens c.if-inside-eq0.kind c.if-inside-eq0.inside
 opens t c =
     elim c.if-inside-eq0.branch [
-      | read_object-then-inside-eq0+in-Opens w ↦
-          opens_as _ _ _ _ _ _ _ _ (sym w.next_by_header.ensures ∙ w.in-Opens.is) w.kind-is w.inside-is
+      | read_object-then-inside-eq0+in-Ok-Opens w ↦
+          opens_as _ _ _ _ _ _ _ _ (sym w.next_by_header.ensures ∙ w.in-Ok-Opens.is ∙ ap Ok w.in-Ok-Opens.field-0-is) w.kind-is w.inside-is
       | read_object-else-inside-eq0 w ↦
           opened_opens _ _ _ _ _ _ _ _ (sym c.short_number-w.ensures) (sym c.opened_at-inside.ensures) w.if-inside-eq0.false w.kind-is w.inside-is
     ]

@@ -2,7 +2,7 @@
 -- Assumes nothing.
 use mathlib.Core.Path.{sym, ap, ◌∙◌}
 use native.Mathlib.Omega.{arith}
-use Rattle.objects.specs.declared.nesting.Passed.TheVariants.{Refused}
+use Rattle.objects.specs.Results.Passed.{Refused}
 use Rattle.objects.proofs.Ahead.{run_ahead}
 use Rattle.objects.proofs.Told.{told_goes, told_both, run_behind}
 use Rattle.objects.proofs.nesting.pass_run.Goals as goal
@@ -25,4 +25,4 @@ overflow_cast-e c = let l = c.well_formed.0.1 in
 pub returns : goal.returns
 returns c = let l = c.well_formed.0.1 in
     let w = (told_both _ _ _ _ _ (omega arith) (run_ahead _ _ _ _ _) c.read_run-e.ensures c.read_run-place.ensures c.if-e-lt-REFUSED.false).2 in
-    ap Refused c.at_place-2.ensures ∙ sym w
+    ap Refused (rw c.fault_of.ensures at c.at_place-2.ensures) ∙ sym w

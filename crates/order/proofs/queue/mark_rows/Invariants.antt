@@ -1,13 +1,9 @@
--- `queue::mark_rows` meets its contract. The invariant: the rows at the positions from k on are marked.
+-- `queue::mark_rows` meets its contract. The invariant: the rows at the positions that were passed are marked.
 -- Assumes nothing.
 use mathlib.Core.Path.{◌≡◌}
-use Prim.Native.Nat.{◌≤◌}
-use lib.ListN.{length, take, drop}
+use lib.ListN.{take}
 use Rattle.order.specs.Queue.{marking}
 use Rattle.order.proofs.queue.mark_rows.Given as goal
 
-abbrev pub invariant-loop-k : goal.invariant-loop-k
-invariant-loop-k l = (l.k ≤ l.n) × (length l.flags ≡ length l.initial.flags) × (l.flags ≡ marking (drop l.k (take l.n l.queue)) l.initial.flags)
-
-abbrev pub decreases-loop-k : goal.decreases-loop-k
-decreases-loop-k l = l.k
+abbrev pub invariant-loop-i : goal.invariant-loop-i
+invariant-loop-i l = l.flags ≡ marking (take l.i-index (take l.n l.queue)) l.initial.flags

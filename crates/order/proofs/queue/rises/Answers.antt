@@ -1,45 +1,40 @@
--- `queue::rises` meets its contract. The invariant: what is left rises from the last position on just if all do.
+-- `queue::rises` meets its contract.
 -- Assumes nothing.
-use mathlib.Core.Path.{◌≡◌, refl, sym, ◌∙◌}
-use mathlib.Core.Bool.{true, false}
-use mathlib.Core.List.{List}
-use Prim.Native.Nat.{ℕ, ◌+◌, ◌≤◌, ◌<◌}
+use mathlib.Core.Path.{◌≡◌, refl, sym}
+use mathlib.Core.Bool.{Bool, true, false}
+use mathlib.Core.List.{List, [], ◌∷◌}
+use Prim.Native.Nat.{ℕ, zero, suc, ◌+◌, ◌≤◌, ◌<◌}
 use native.Mathlib.Omega.{arith}
-use native.Mathlib.Numerals.{add-one}
-use lib.ListN.{length, take, drop, get_or, drop_of_length-le, length-take}
-use lib.Seq.{drop-cons, get_or-take, length-take-le}
+use lib.ListN.{length, get_or}
 use lib.Dec.{ltb}
 use borrow.Author.Tests.{lt-ltb, le-ltb}
+use native.Mathlib.Numerals.{add-one}
+use Rattle.std.specs.Prelude.{MatchBool}
+use Rattle.std.specs.List.Sorted.{IsNonDecreasing}
+use Rattle.std.proofs.lemmas.List.Sorted.{non_decreasing_from_is_sorted}
 use Rattle.laws.specs.Pick.{pick}
 use Rattle.order.specs.Queue.{rising_from}
 use Rattle.order.proofs.queue.rises.Goals as goal
 
--- ---- one turn, and the end
-turn : (queue : List ℕ) (n k last : ℕ) → k < n → n ≤ length queue
-    → rising_from last (drop k (take n queue)) ≡ pick (ltb (get_or queue k 0) last) false (rising_from (get_or queue k 0) (drop (k + 1) (take n queue)))
+rises_lem : (last : ℕ) (xs : List ℕ) → IsNonDecreasing xs → (0 < length xs → last ≤ get_or xs 0 0) → rising_from last xs ≡ true
 unfolding rising_from
-turn queue n k last h long =
-    let l : k < length (take n queue) = omega (arith, length-take-le n queue long) in
-    rw (drop-cons (take n queue) k 0 l, get_or-take n queue k 0 h, add-one k)
+rises_lem last [] h l = refl
+rises_lem last (x ∷ xs) h l = rw (le-ltb x last (l (omega arith))) (rises_lem x xs (λ i j d p q. h (suc i) (suc j) d (omega arith) (omega arith)) (λ p. h 0 1 0 (omega arith) (omega arith)))
 
-none_left : (queue : List ℕ) (n k last : ℕ) → n ≤ k → rising_from last (drop k (take n queue)) ≡ true
+either_false : (b : Bool) → pick b false false ≡ false
+either_false true = refl
+either_false false = refl
+
+falls_lem : (last : ℕ) (xs : List ℕ) (k : ℕ) → suc k < length xs → get_or xs (suc k) 0 < get_or xs k 0 → rising_from last xs ≡ false
 unfolding rising_from
-none_left queue n k last h = let l : length (take n queue) ≤ k = omega (arith, length-take n queue) in rw (drop_of_length-le (take n queue) l)
+falls_lem last [] k l h = absurd (omega arith)
+falls_lem last (x ∷ []) k l h = absurd (omega arith)
+falls_lem last (x ∷ y ∷ xs) zero l h = rw (lt-ltb y x h) (either_false (ltb x last))
+falls_lem last (x ∷ y ∷ xs) (suc k) l h = rw (falls_lem x (y ∷ xs) k (omega arith) h) (either_false (ltb x last))
 
-pub loop-k-init : goal.loop-k-init
-loop-k-init c = (omega arith, refl)
-
-pub row_at-i-requires : goal.row_at-i-requires
-row_at-i-requires c = let q = c.requires in omega arith
-
-pub returns-then-i-last : goal.returns-then-i-last
-returns-then-i-last c = let less = rw c.row_at-i.ensures at c.if-i-last.true in
-    sym (c.loop-k.invariant.1 ∙ turn c.args.queue.now c.args.n c.loop-k.k c.loop-k.last c.loop-k-test.true c.requires ∙ rw (lt-ltb _ _ less))
-
-pub loop-k-preserved : goal.loop-k-preserved
-loop-k-preserved c = let h = c.loop-k-test.true in
-    let not_less = rw c.row_at-i.ensures at c.if-i-last.false in
-    (omega arith, rw c.row_at-i.ensures (c.loop-k.invariant.1 ∙ turn c.args.queue.now c.args.n c.loop-k.k c.loop-k.last h c.requires ∙ rw (le-ltb _ _ not_less)))
+rises_just_if : (xs : List ℕ) (b : Bool) → MatchBool b (IsNonDecreasing xs) ((k : ℕ) × (k + 1 < length xs) × ((d : ℕ) → get_or xs (k + 1) d < get_or xs k d)) → b ≡ rising_from 0 xs
+rises_just_if xs true h = sym (rises_lem 0 xs h (λ p. omega arith))
+rises_just_if xs false h = sym (falls_lem 0 xs h.0 (omega (arith, h.1)) (rw add-one at (h.2 0)))
 
 pub returns : goal.returns
-returns c = sym (c.loop-k.invariant.1 ∙ none_left c.args.queue.now c.args.n c.loop-k.k c.loop-k.last c.loop-k-test.false)
+returns c = rises_just_if _ _ (non_decreasing_from_is_sorted _ _ c.is_sorted.ensures.cases)

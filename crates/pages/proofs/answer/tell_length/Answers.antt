@@ -1,60 +1,21 @@
 -- `answer::tell_length` meets its contract.
 -- Assumes nothing.
-use mathlib.Core.Path.{refl, sym}
-use Prim.Native.Nat.{ℕ}
-use mathlib.Core.List.{List}
-use native.Mathlib.Omega.{arith}
-use Rattle.store.proofs.Elements.{rows_up_to}
+use Rattle.std.specs.Prelude.{Err}
+use Rattle.std.proofs.Common.{rules}
+use mathlib.Core.Path.{◌≡◌, refl}
 use Rattle.pages.specs.Answer.{outcome, answer_told, rows_after, ranges_after}
-use Rattle.pages.specs.Held.{WorkingTables, Ready}
-use Rattle.pages.proofs.Stored.{new_tables, page_follows, refusal_follows, ready_tells}
+use Rattle.pages.specs.Held.{Ready}
+use Rattle.pages.proofs.Stored.{page_follows, refusal_follows, ready_tells}
 use Rattle.pages.proofs.answer.tell_length.Goals as goal
-use Rattle.pages.proofs.answer.tell_length.Goals.{After-decide_answer, In-Page}
+use Rattle.pages.proofs.answer.tell_length.Goals.{In_ok-reckoned}
 
-abbrev elements-then : (c : After-decide_answer) → List ℕ
-elements-then c = c.decide_answer.new.elements
+ready : (c : In_ok-reckoned) → Ready (outcome c.args.store.now c.args.request.now c.args.offered) c.args.store.now c.args.offered c.in_ok-reckoned.reckoned.page c.in_ok-reckoned.reckoned.length c.in_ok-reckoned.reckoned.elements c.decide_answer.new.elements c.decide_answer.new.ids c.decide_answer.new.known c.decide_answer.new.queue
+ready c = page_follows _ _ _ _ _ _ _ _ c.decide_answer.ensures.6 _ _ _ c.in_ok-reckoned.was
 
-abbrev ids-then : (c : After-decide_answer) → List ℕ
-ids-then c = c.decide_answer.new.ids
-
-abbrev known_then : (c : After-decide_answer) → List ℕ
-known_then c = c.decide_answer.new.known
-
-abbrev queue_then : (c : After-decide_answer) → List ℕ
-queue_then c = c.decide_answer.new.queue
-
-lengths : (c : After-decide_answer) → WorkingTables (elements-then c) (ids-then c) (known_then c) (queue_then c)
-lengths c = c.decide_answer.ensures.5
-
-ready : (c : In-Page) → Ready (outcome c.args.store.now c.args.request.now c.args.offered) c.args.store.now c.args.offered c.in-Page.page c.in-Page.whole c.in-Page.n c.decide_answer.new.elements c.decide_answer.new.ids c.decide_answer.new.known c.decide_answer.new.queue
-ready c = page_follows _ _ _ _ _ _ _ _ c.decide_answer.ensures.6 _ _ _ c.in-Page.is
-
--- ---- the answers
-pub decide_answer-requires : goal.decide_answer-requires
-decide_answer-requires c = new_tables
-
-pub slice_bounds-fill_tables-end : goal.slice_bounds-fill_tables-end
-slice_bounds-fill_tables-end c = sym (lengths (goal.at.slice_bounds-fill_tables-end c).After-decide_answer).elements_long
-
-pub slice_bounds-fill_tables-end-in-Page : goal.slice_bounds-fill_tables-end-in-Page
-slice_bounds-fill_tables-end-in-Page c = sym (lengths (goal.at.slice_bounds-fill_tables-end-in-Page c).After-decide_answer).ids_long
-
-pub slice_bounds-fill_tables-end-in-Page-2 : goal.slice_bounds-fill_tables-end-in-Page-2
-slice_bounds-fill_tables-end-in-Page-2 c = sym (lengths (goal.at.slice_bounds-fill_tables-end-in-Page-2 c).After-decide_answer).known_long
-
-pub fill_tables-requires : goal.fill_tables-requires
-fill_tables-requires c = let x = ready (goal.at.fill_tables-requires c).In-Page in
-    let few = x.few in
-    let ranges-few = x.to_send.few in
-    let ranges_room = x.to_send.ranges_room in
-    let lent = c.requires in
-    let f = lent.0 in
-    let g = lent.1 in
-    (rows_up_to x.stand _ (omega arith), omega arith, omega arith, omega arith, omega arith)
-
-pub returns-in-Refused : goal.returns-in-Refused
+pub returns-in_err-reckoned : goal.returns-in_err-reckoned
 unfolding answer_told rows_after ranges_after
-returns-in-Refused c = rw (refusal_follows _ _ _ _ _ _ _ _ c.decide_answer.ensures.6 _ c.in-Refused.is) (refl, refl, refl)
+returns-in_err-reckoned c = let residual : c.from_residual.result ≡ Err c.in_err-reckoned.field-0.0 = search rules in
+    rw residual (rw (refusal_follows _ _ _ _ _ _ _ _ c.decide_answer.ensures.6 _ c.in_err-reckoned.was) (refl, refl, refl))
 
-pub returns-in-Page : goal.returns-in-Page
-returns-in-Page c = ready_tells (ready (goal.at.returns-in-Page c).In-Page) _ _ _ _ c.fill_tables.ensures.0 c.fill_tables.ensures.1
+pub returns : goal.returns
+returns c = ready_tells (ready (goal.at.returns c).In_ok-reckoned) _ _ _ _ c.fill_tables.ensures.0 c.fill_tables.ensures.1

@@ -6,6 +6,7 @@ use mathlib.Core.List.{List, map}
 use Prim.Native.Nat.{ℕ}
 use native.Mathlib.Omega.{arith}
 use lib.ListN.{length}
+use Rattle.std.proofs.lemmas.Result.{err_from_is_err_and}
 use Rattle.order.specs.Links.{lump}
 use Rattle.store.specs.Store.{store_walk}
 use Rattle.store.specs.Held.{StoreHeld, storage_index}
@@ -13,7 +14,7 @@ use Rattle.store.proofs.StoreHeld.{short_row, least_row, id_row_lem}
 use Rattle.pages.specs.Tables.{Carries, SendsRows}
 use Rattle.pages.specs.Answer.{Ask, known_in, page_decided}
 use Rattle.pages.specs.Held.{ask_in}
-use Rattle.pages.proofs.Paged.{page_decided_lem, page_crowded, page_short, page_reckoned, page_ready}
+use Rattle.pages.proofs.Paged.{page_decided_lem, page_unsent, page_reckoned, page_ready}
 use Rattle.pages.proofs.deciding.decide_asked.Goals as goal
 use Rattle.pages.proofs.deciding.decide_asked.Goals.{After-decide_page-chosen}
 
@@ -24,7 +25,7 @@ abbrev known_then : (c : After-decide_page-chosen) → List ℕ
 known_then c = c.decide_page-chosen.new.known
 
 -- whatever store stands in the tables
-module _ (c : After-decide_page-chosen) (s : List ℕ) (h : StoreHeld s c.args.elements.now c.args.ids.now c.args.n) where
+module _ (c : After-decide_page-chosen) (s : List ℕ) (h : StoreHeld s c.args.all.rows.now c.args.all.ids.now c.args.all.count) where
   abbrev asked : Ask
   asked = ask_in s c.args.request.now c.args.a
 
@@ -34,10 +35,10 @@ module _ (c : After-decide_page-chosen) (s : List ℕ) (h : StoreHeld s c.args.e
   -- the decision is that of document 01, the table of ranges holds what the page says, and the queue its rows
   decided_is : (c.decide_page-chosen.result.decided ≡ page_decided asked c.args.room)
       × Carries (map lump asked.wanted) (known_in c.args.request.now) c.decide_page-chosen.result.decided (known_then c)
-      × SendsRows c.args.elements.now c.args.ids.now (queue_then c) asked.wanted c.decide_page-chosen.result.decided c.decide_page-chosen.result.rows
+      × SendsRows c.args.all.rows.now c.args.all.ids.now (queue_then c) asked.wanted c.decide_page-chosen.result.decided c.decide_page-chosen.result.rows
   decided_is =
       let a = c.args in
-      page_decided_lem s a.request.now a.a a.elements.now a.ids.now a.known.now a.n h c.requires.1 a.room _ _ _ _ _ c.decide_page-chosen.ensures index_is
+      page_decided_lem s a.request.now a.a a.all.rows.now a.all.ids.now a.known.now a.all.count h c.requires.1 a.room _ _ _ _ _ c.decide_page-chosen.ensures index_is
 
 long_then : (c : After-decide_page-chosen) → length (known_then c) ≡ length c.args.known.now
 long_then c = c.decide_page-chosen.auto.known
@@ -47,7 +48,7 @@ queue_long c = c.decide_page-chosen.auto.queue
 
 -- ---- the answers
 pub storage_index-index-requires : goal.storage_index-index-requires
-storage_index-index-requires c = let held = c.requires.0.1 in (held.stand, id_row_lem held)
+storage_index-index-requires c = id_row_lem c.requires.0.1
 
 pub decide_page-chosen-requires : goal.decide_page-chosen-requires
 decide_page-chosen-requires c = let held = c.requires.0.1 in
@@ -66,28 +67,24 @@ decide_page-chosen-requires c = let held = c.requires.0.1 in
       };
     }
 
-pub returns-in-Crowded : goal.returns-in-Crowded
-returns-in-Crowded c = λ s h.
+pub returns-in_err-decision : goal.returns-in_err-decision
+returns-in_err-decision c = λ s h.
     let a = c.args in
-    let x = decided_is (goal.at.returns-in-Crowded c).After-decide_page-chosen s h in
-    let y = page_crowded s a.request.now a.a a.elements.now a.ids.now a.known.now a.n h c.requires.1 a.room _ c.in-Crowded.is x.0 in
-    rw c.at_place.ensures (y.0, long_then (goal.at.returns-in-Crowded c).After-decide_page-chosen, queue_long (goal.at.returns-in-Crowded c).After-decide_page-chosen, y.1)
+    let p = err_from_is_err_and c.from_residual.result c.from_residual.ensures.1 in
+    let x = decided_is (goal.at.returns-in_err-decision c).After-decide_page-chosen s h in
+    let y = page_unsent s a.request.now a.a a.all.rows.now a.all.ids.now a.known.now a.all.count h c.requires.1 a.room _ _ c.in_err-decision.was x.0 in
+    rw (p.1, p.2) (y.0, long_then (goal.at.returns-in_err-decision c).After-decide_page-chosen, queue_long (goal.at.returns-in_err-decision c).After-decide_page-chosen, y.1)
 
-pub returns-in-Short : goal.returns-in-Short
-returns-in-Short c = λ s h.
-    let a = c.args in
-    let x = decided_is (goal.at.returns-in-Short c).After-decide_page-chosen s h in
-    let y = page_short s a.request.now a.a a.elements.now a.ids.now a.known.now a.n h c.requires.1 a.room _ _ c.in-Short.is x.0 in
-    rw c.too_short.ensures (y.0, long_then (goal.at.returns-in-Short c).After-decide_page-chosen, queue_long (goal.at.returns-in-Short c).After-decide_page-chosen, y.1)
-
-pub returns-in-Sent : goal.returns-in-Sent
-returns-in-Sent c = λ s h.
+pub returns : goal.returns
+returns c = λ s h.
     let a = c.args in
     let g = c.requires.1 in
-    let x = decided_is (goal.at.returns-in-Sent c).After-decide_page-chosen s h in
-    let long = long_then (goal.at.returns-in-Sent c).After-decide_page-chosen in (
-      page_reckoned s a.request.now a.a a.elements.now a.ids.now a.known.now a.n h g a.room _ c.in-Sent.field-0 c.in-Sent.whole c.in-Sent.count c.in-Sent.partial c.in-Sent.is x.0 _ _ _ x.1 x.2 long _ (index_is (goal.at.returns-in-Sent c).After-decide_page-chosen s h),
+    let d = c.in_ok-decision.decision in
+    let x = decided_is (goal.at.returns c).After-decide_page-chosen s h in
+    let long = long_then (goal.at.returns c).After-decide_page-chosen in
+    let index = index_is (goal.at.returns c).After-decide_page-chosen s h in (
+      page_reckoned s a.request.now a.a a.all.rows.now a.all.ids.now a.known.now a.all.count h g a.room _ d.count d.length d.ranges d.more c.in_ok-decision.was x.0 _ _ _ x.1 x.2 long _ index,
       long,
-      queue_long (goal.at.returns-in-Sent c).After-decide_page-chosen,
-      page_ready s a.request.now a.a a.elements.now a.ids.now a.known.now a.n h g a.room _ c.in-Sent.field-0 c.in-Sent.whole c.in-Sent.count c.in-Sent.partial c.in-Sent.is x.0 _ _ _ x.1 x.2 long _ (index_is (goal.at.returns-in-Sent c).After-decide_page-chosen s h),
+      queue_long (goal.at.returns c).After-decide_page-chosen,
+      page_ready s a.request.now a.a a.all.rows.now a.all.ids.now a.known.now a.all.count h g a.room _ d.count d.length d.ranges d.more c.in_ok-decision.was x.0 _ _ _ x.1 x.2 long _ index,
     )

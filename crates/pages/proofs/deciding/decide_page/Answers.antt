@@ -25,7 +25,7 @@ use Rattle.pages.proofs.deciding.decide_page.Goals.{After-bounds_of-bounds}
 -- ---- the places: where the flags are set and the bounds are known
 module _ (b : After-bounds_of-bounds) where
   abbrev all : List Element
-  all = elements_in b.args.elements.now b.args.ids.now b.args.n
+  all = elements_in b.args.all.rows.now b.args.all.ids.now b.args.all.count
 
   abbrev ranges : List Range
   ranges = ranges_at b.args.known.now 0 b.args.a.known
@@ -33,39 +33,35 @@ module _ (b : After-bounds_of-bounds) where
   abbrev flags : List ℕ
   flags = b.mark_wanted.new.flags
 
-  flags_long : b.args.n ≤ length flags
+  flags_long : b.args.all.count ≤ length flags
   flags_long =
       let few = b.requires.few in
       let long = b.mark_wanted.auto.flags in
       omega arith
 
   -- what both ways of deciding are lent
-  to_choose : ToChoose b.args.elements.now b.args.ids.now b.args.n b.args.queue.now b.args.known.now b.args.a.known b.bounds_of-bounds.result.most
+  to_choose : ToChoose b.args.all.rows.now b.args.all.ids.now b.args.all.count b.args.queue.now b.args.known.now b.args.a.known b.bounds_of-bounds.result.most
   to_choose =
       let most = ap (λ (x : Bounds). x.most) b.bounds_of-bounds.ensures.0 in
-      subst (λ (m : ℕ). ToChoose b.args.elements.now b.args.ids.now b.args.n b.args.queue.now b.args.known.now b.args.a.known m) (sym most) b.requires
+      subst (λ (m : ℕ). ToChoose b.args.all.rows.now b.args.all.ids.now b.args.all.count b.args.queue.now b.args.known.now b.args.a.known m) (sym most) b.requires
 
   fixed_small : b.bounds_of-bounds.result.fixed ≤ 2 ^ 32
   fixed_small = let f = b.bounds_of-bounds.ensures.1 in omega arith
 
-  flags_are : FlagsAre (is_wanted_here b.args.request.now b.args.a ranges all) b.args.elements.now b.args.ids.now b.args.n flags
-  flags_are i l = ap (λ (f : List ℕ). get_or f i 0) b.mark_wanted.ensures ∙ (flags_say b.args.request.now b.args.a ranges b.args.elements.now b.args.ids.now b.args.n _ i l)
-
--- src/deciding.rt:115:13
-pub decide_singles-decided-requires : goal.decide_singles-decided-requires
-decide_singles-decided-requires c = (to_choose (goal.at.decide_singles-decided-requires c).After-bounds_of-bounds, flags_long (goal.at.decide_singles-decided-requires c).After-bounds_of-bounds, fixed_small (goal.at.decide_singles-decided-requires c).After-bounds_of-bounds)
+  flags_are : FlagsAre (is_wanted_here b.args.request.now b.args.a ranges all) b.args.all.rows.now b.args.all.ids.now b.args.all.count flags
+  flags_are i l = ap (λ (f : List ℕ). get_or f i 0) b.mark_wanted.ensures ∙ (flags_say b.args.request.now b.args.a ranges b.args.all.rows.now b.args.all.ids.now b.args.all.count _ i l)
 
 -- src/deciding.rt:116:9
 pub returns-then-serials_once : goal.returns-then-serials_once
 returns-then-serials_once c = let a = c.args in
-    let differ : once same_key (serial_keys a.elements.now a.n) ≡ true = sym c.serials_once.ensures ∙ c.if-serials_once.true in
-    let x = singles_decided a.request.now a.a (ranges (goal.at.returns-then-serials_once c).After-bounds_of-bounds) a.elements.now a.ids.now a.n c.requires.stand differ _ _ c.mark_wanted.ensures _ _ c.decide_singles-decided.ensures.0
+    let differ : once same_key (serial_keys a.all.rows.now a.all.count) ≡ true = sym c.serials_once.ensures ∙ c.if-serials_once.true in
+    let x = singles_decided a.request.now a.a (ranges (goal.at.returns-then-serials_once c).After-bounds_of-bounds) a.all.rows.now a.all.ids.now a.all.count c.requires.stand differ _ _ c.mark_wanted.ensures _ _ c.decide_singles-decided.ensures.0
     c.bounds_of-bounds.result c.decide_singles-decided.result _ c.decide_singles-decided.ensures.1 in
     let gs = groups_wanted a.request.now a.a (ranges (goal.at.returns-then-serials_once c).After-bounds_of-bounds) (all (goal.at.returns-then-serials_once c).After-bounds_of-bounds) in
     let queue' = c.decide_singles-decided.new.queue in
     let known' = c.decide_singles-decided.new.known in
-    let bounded = subst (λ (m : Bounds). DecidesGroups a.elements.now a.ids.now gs (ranges (goal.at.returns-then-serials_once c).After-bounds_of-bounds) m c.decide_singles-decided.result (taken_in c.decide_singles-decided.result) queue' known') c.bounds_of-bounds.ensures.0 x in
-    subst (λ (m : ℕ). DecidesGroups a.elements.now a.ids.now gs (ranges (goal.at.returns-then-serials_once c).After-bounds_of-bounds) (bounds_for a.a a.index a.room) c.decide_singles-decided.result m queue' known') (sym c.taken_in.ensures) bounded
+    let bounded = subst (λ (m : Bounds). DecidesGroups a.all.rows.now a.all.ids.now gs (ranges (goal.at.returns-then-serials_once c).After-bounds_of-bounds) m c.decide_singles-decided.result (taken_in c.decide_singles-decided.result) queue' known') c.bounds_of-bounds.ensures.0 x in
+    subst (λ (m : ℕ). DecidesGroups a.all.rows.now a.all.ids.now gs (ranges (goal.at.returns-then-serials_once c).After-bounds_of-bounds) (bounds_for a.a a.index a.room) c.decide_singles-decided.result m queue' known') (sym c.taken_in.ensures) bounded
 
 -- src/deciding.rt:121:5
 pub decide_groups-requires : goal.decide_groups-requires
@@ -75,5 +71,5 @@ decide_groups-requires c = (to_choose (goal.at.decide_groups-requires c).After-b
 pub returns : goal.returns
 returns c = let a = c.args in
     let gs = groups_wanted a.request.now a.a (ranges (goal.at.returns c).After-bounds_of-bounds) (all (goal.at.returns c).After-bounds_of-bounds) in
-    subst (λ (m : Bounds). DecidesGroups a.elements.now a.ids.now gs (ranges (goal.at.returns c).After-bounds_of-bounds) m c.decide_groups.result.decided c.decide_groups.result.rows c.decide_groups.new.queue c.decide_groups.new.known) c.bounds_of-bounds.ensures.0
+    subst (λ (m : Bounds). DecidesGroups a.all.rows.now a.all.ids.now gs (ranges (goal.at.returns c).After-bounds_of-bounds) m c.decide_groups.result.decided c.decide_groups.result.rows c.decide_groups.new.queue c.decide_groups.new.known) c.bounds_of-bounds.ensures.0
     (c.decide_groups.ensures (is_wanted_here a.request.now a.a (ranges (goal.at.returns c).After-bounds_of-bounds) (all (goal.at.returns c).After-bounds_of-bounds)) (flags_are (goal.at.returns c).After-bounds_of-bounds))

@@ -7,6 +7,7 @@ use mathlib.Core.List.{List, map}
 use Prim.Native.Nat.{ℕ, ◌^◌, ◌≤◌}
 use native.Mathlib.Omega.{arith}
 use lib.ListN.{length, take, length-map}
+use Rattle.std.specs.Prelude.{Ok, Err}
 use Rattle.ranges.specs.RangeTable.{ranges_at}
 use Rattle.talk.specs.declared.range.Range.{Range}
 use Rattle.store.specs.Tables.{most_elements, elements_in}
@@ -18,8 +19,7 @@ use Rattle.order.proofs.FirstGroups.{first_groups_are, first_groups_queued, chos
 use Rattle.order.proofs.GroupMembers.{length_least}
 use Rattle.pages.specs.Tables.{taken_in, DecidesPage, SendsRows}
 use Rattle.pages.specs.Weighed.{sum_column, weighed_in}
-use Rattle.pages.specs.declared.page.Decided.{Decided}
-use Rattle.pages.specs.declared.page.Decided.TheVariants.{Sent, Crowded, Short}
+use Rattle.pages.specs.Results.Decided.{Decided}
 use Rattle.pages.proofs.Lumps.{least_lumps}
 use Rattle.pages.proofs.SingleGroups.{taken_most}
 use Rattle.pages.proofs.Summed.{same_decided, same_lengths, summed}
@@ -29,14 +29,13 @@ use Rattle.pages.proofs.grouped.decide_groups.Goals.{After-taken_in-sent, After-
 -- the members of those that are sent are the first rows
 sends_rows : {rows ids : List ℕ} {m : ℕ} {sums earliest laid ends : List ℕ} {gs : List Group} {w : ℕ} → GroupsLaid rows ids m sums earliest laid ends gs w → (d : Decided) (n : ℕ)
     → n ≡ length (members_of (take (taken_in d) gs)) → SendsRows rows ids laid gs d n
-sends_rows l (Sent k whole ranges more) n e = rw e (refl, first_groups_queued l k, first_groups_are l k)
-sends_rows l Crowded n e = tt
-sends_rows l (Short m) n e = tt
+sends_rows l (Ok x) n e = rw e (refl, first_groups_queued l x.count, first_groups_are l x.count)
+sends_rows l (Err x) n e = tt
 
 -- ---- the groups as they were laid, for whatever test the flags are of
 module _ (g : After-group_rows-wanted) where
   abbrev wanted : (Element → Bool) → List Group
-  wanted test = chosen_groups test (ordered (elements_in g.args.elements.now g.args.ids.now g.args.n))
+  wanted test = chosen_groups test (ordered (elements_in g.args.all.rows.now g.args.all.ids.now g.args.all.count))
 
   abbrev sums_then : List ℕ
   sums_then = g.group_rows-wanted.new.sums
@@ -51,12 +50,12 @@ module _ (g : After-group_rows-wanted) where
   ends_then = g.group_rows-wanted.new.ends
 
   abbrev Flagged : (Element → Bool) → Type 0
-  Flagged test = FlagsAre test g.args.elements.now g.args.ids.now g.args.n g.args.flags.now
+  Flagged test = FlagsAre test g.args.all.rows.now g.args.all.ids.now g.args.all.count g.args.flags.now
 
-  laid_groups : (test : Element → Bool) → Flagged test → GroupsLaid g.args.elements.now g.args.ids.now g.args.n sums_then earliest_then laid_then ends_then (wanted test) g.group_rows-wanted.result
+  laid_groups : (test : Element → Bool) → Flagged test → GroupsLaid g.args.all.rows.now g.args.all.ids.now g.args.all.count sums_then earliest_then laid_then ends_then (wanted test) g.group_rows-wanted.result
   laid_groups = g.group_rows-wanted.ensures
 
-  some_laid : GroupsLaid g.args.elements.now g.args.ids.now g.args.n sums_then earliest_then laid_then ends_then (wanted g.requires.3.0) g.group_rows-wanted.result
+  some_laid : GroupsLaid g.args.all.rows.now g.args.all.ids.now g.args.all.count sums_then earliest_then laid_then ends_then (wanted g.requires.3.0) g.group_rows-wanted.result
   some_laid = laid_groups g.requires.3.0 g.requires.3.1
 
   groups_few : g.group_rows-wanted.result ≤ most_elements
@@ -67,11 +66,11 @@ module _ (g : After-group_rows-wanted) where
       omega arith
 
   abbrev standing : List Element
-  standing = weighed_in g.args.elements.now g.args.ids.now sums_then sum_column g.group_rows-wanted.result earliest_then
+  standing = weighed_in g.args.all.rows.now g.args.all.ids.now sums_then sum_column g.group_rows-wanted.result earliest_then
 
   -- the rows that stand for them have their serial numbers and the lengths of all their members
   stand_for : (test : Element → Bool) → Flagged test → map bare standing ≡ map bare (map lump (wanted test))
-  stand_for test f = ap (map bare) (summed g.args.elements.now g.args.ids.now sums_then (take g.group_rows-wanted.result earliest_then)) ∙ (laid_groups test f).lumps
+  stand_for test f = ap (map bare) (summed g.args.all.rows.now g.args.all.ids.now sums_then (take g.group_rows-wanted.result earliest_then)) ∙ (laid_groups test f).lumps
 
 -- ---- what was decided
 module _ (d : After-taken_in-sent) where
@@ -92,15 +91,15 @@ module _ (d : After-taken_in-sent) where
       omega arith
 
 pub group_rows-wanted-requires : goal.group_rows-wanted-requires
-group_rows-wanted-requires c = let few : c.args.n ≤ most_elements = c.requires.0.few in
-    (c.requires.0.stand, few, c.requires.0.short, c.requires.1, few, few, c.requires.0.roomy, omega arith, c.requires.3)
+group_rows-wanted-requires c = let few : c.args.all.count ≤ most_elements = c.requires.0.few in
+    (few, c.requires.0.short, c.requires.1, few, few, c.requires.0.roomy, omega arith, c.requires.3)
 
 pub decide_sums-decided-requires : goal.decide_sums-decided-requires
 decide_sums-decided-requires c = let a = c.args in
     let test = c.requires.3.0 in
     let l = some_laid (goal.at.decide_sums-decided-requires c).After-group_rows-wanted in
     let e = stand_for (goal.at.decide_sums-decided-requires c).After-group_rows-wanted test c.requires.3.1 in
-    let few : a.n ≤ most_elements = c.requires.0.few in (
+    let few : a.all.count ≤ most_elements = c.requires.0.few in (
       record {
         stand = c.requires.0.stand;
         few = few;
@@ -109,8 +108,8 @@ decide_sums-decided-requires c = let a = c.args in
         wanted_few = groups_few (goal.at.decide_sums-decided-requires c).After-group_rows-wanted;
         inside = l.inside;
         apart = l.apart;
-        short = same_lengths (standing (goal.at.decide_sums-decided-requires c).After-group_rows-wanted) (map lump (wanted (goal.at.decide_sums-decided-requires c).After-group_rows-wanted test)) e (λ (n : ℕ). n ≤ 2 ^ 32) (chosen_short test a.elements.now a.ids.now a.n c.requires.0.short l.few);
-        least = same_lengths (standing (goal.at.decide_sums-decided-requires c).After-group_rows-wanted) (map lump (wanted (goal.at.decide_sums-decided-requires c).After-group_rows-wanted test)) e (λ (n : ℕ). 46 ≤ n) (least_lumps 46 (wanted (goal.at.decide_sums-decided-requires c).After-group_rows-wanted test) (chosen_each (λ (x : Element). 46 ≤ x.length) test a.elements.now a.ids.now a.n c.requires.0.least));
+        short = same_lengths (standing (goal.at.decide_sums-decided-requires c).After-group_rows-wanted) (map lump (wanted (goal.at.decide_sums-decided-requires c).After-group_rows-wanted test)) e (λ (n : ℕ). n ≤ 2 ^ 32) (chosen_short test a.all.rows.now a.all.ids.now a.all.count c.requires.0.short l.few);
+        least = same_lengths (standing (goal.at.decide_sums-decided-requires c).After-group_rows-wanted) (map lump (wanted (goal.at.decide_sums-decided-requires c).After-group_rows-wanted test)) e (λ (n : ℕ). 46 ≤ n) (least_lumps 46 (wanted (goal.at.decide_sums-decided-requires c).After-group_rows-wanted test) (chosen_each (λ (x : Element). 46 ≤ x.length) test a.all.rows.now a.all.ids.now a.all.count c.requires.0.least));
         carry = c.requires.0.carry;
       },
       c.requires.2,

@@ -8,7 +8,7 @@ use Rattle.pages.proofs.UnderWay.{Under}
 use Rattle.pages.proofs.page.decide.Given as goal
 
 abbrev pub invariant-loop-p : goal.invariant-loop-p
-invariant-loop-p l = (l.p.place ≤ l.wanted) × Under (weighed_in l.rows l.ids l.lengths l.c l.wanted l.queue) (ranges_at l.initial.t 0 l.count) l.initial.t l.b (queued_from (weighed l.rows l.ids l.lengths l.c) l.wanted l.queue l.p.place) l.t l.p
+invariant-loop-p l = (l.p.place ≤ l.wanted.count) × Under (weighed_in l.weights.all.rows.now l.weights.all.ids.now l.weights.lengths.now l.weights.column l.wanted.count l.wanted.queue.now) (ranges_at l.initial.t 0 l.count) l.initial.t l.b (queued_from (weighed l.weights.all.rows.now l.weights.all.ids.now l.weights.lengths.now l.weights.column) l.wanted.count l.wanted.queue.now l.p.place) l.t l.p
 
 abbrev pub decreases-loop-p : goal.decreases-loop-p
-decreases-loop-p l = l.wanted - l.p.place
+decreases-loop-p l = l.wanted.count - l.p.place

@@ -1,13 +1,8 @@
 -- `tables::copy_ranges` meets its contract. The invariant: the first k rows stand in front of the table's own numbers.
 -- Assumes nothing.
 use mathlib.Core.Path.{◌≡◌}
-use Prim.Native.Nat.{◌-◌, ◌≤◌}
-use lib.ListN.{length}
 use Rattle.pages.proofs.Copying.{copied}
 use Rattle.pages.proofs.tables.copy_ranges.Given as goal
 
 abbrev pub invariant-loop-k : goal.invariant-loop-k
-invariant-loop-k l = (l.k ≤ l.rows) × (length l.to ≡ length l.initial.to) × (l.to ≡ copied l.table l.k l.initial.to)
-
-abbrev pub decreases-loop-k : goal.decreases-loop-k
-decreases-loop-k l = l.rows - l.k
+invariant-loop-k l = l.to ≡ copied l.table l.k l.initial.to

@@ -5,4 +5,4 @@ use Rattle.pages.proofs.wanted.knows_element.Goals as goal
 
 pub returns : goal.returns
 unfolding is_known
-returns c = rw (c.is_known.ensures, c.key_guid.ensures)
+returns c = rw (c.is_known.ensures, c.from.ensures)

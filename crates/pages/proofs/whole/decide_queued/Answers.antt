@@ -9,7 +9,6 @@ use lib.ListN.{length, get_or}
 use Rattle.ranges.specs.RangeTable.{ranges_at}
 use Rattle.ranges.proofs.RangeRows.{length_rows}
 use Rattle.talk.specs.declared.range.Range.{Range}
-use Rattle.store.specs.Knowledge.{most_said}
 use Rattle.store.specs.declared.element.Element.{Element}
 use Rattle.order.specs.Groups.{stored_length}
 use Rattle.order.specs.Queue.{chosen}
@@ -23,27 +22,27 @@ use Rattle.pages.proofs.whole.decide_queued.Goals.{After-flagged_rows-all, Start
 
 -- ---- the places: where the call begins, and where the rows were gathered in the store's order
 -- a row whose flag is not 0 is not long, as it is queued
-flagged_light : (s : Start) (i : ℕ) → i < s.args.n → 0 < get_or s.args.flags.now i 0
-    → (weighed s.args.rows.now s.args.ids.now s.args.lengths.now s.args.c i).length ≤ 2 ^ 32
+flagged_light : (s : Start) (i : ℕ) → i < s.args.weights.all.count → 0 < get_or s.args.flags.now i 0
+    → (weighed s.args.weights.all.rows.now s.args.weights.all.ids.now s.args.weights.lengths.now s.args.weights.column i).length ≤ 2 ^ 32
 flagged_light s i h z =
     let a = s.args in
     let e : 0 + i ≡ i = omega arith in
-    let row = weighed a.rows.now a.ids.now a.lengths.now a.c in
+    let row = weighed a.weights.all.rows.now a.weights.all.ids.now a.weights.lengths.now a.weights.column in
     rw e at
-    (chosen_row (λ (x : Element). x.length ≤ 2 ^ 32) row 0 a.n a.flags.now
+    (chosen_row (λ (x : Element). x.length ≤ 2 ^ 32) row 0 a.weights.all.count a.flags.now
     (rearranged_each (λ (x : Element). x.length ≤ 2 ^ 32) (rearranged_back s.requires.0.same) s.requires.0.short) i h z)
 
 module _ (f : After-flagged_rows-all) where
   abbrev queued_then : List Element
-  queued_then = weighed_in f.args.rows.now f.args.ids.now f.args.lengths.now f.args.c f.args.wanted f.args.queue.now
+  queued_then = weighed_in f.args.weights.all.rows.now f.args.weights.all.ids.now f.args.weights.lengths.now f.args.weights.column f.args.wanted.count f.args.wanted.queue.now
 
   abbrev chosen_then : List Element
-  chosen_then = chosen (weighed_rows f.args.rows.now f.args.ids.now f.args.lengths.now f.args.c f.args.n) f.args.flags.now
+  chosen_then = chosen (weighed_rows f.args.weights.all.rows.now f.args.weights.all.ids.now f.args.weights.lengths.now f.args.weights.column f.args.weights.all.count) f.args.flags.now
 
   abbrev gathered_then : List ℕ
   gathered_then = f.flagged_rows-all.new.queue
 
-  gathered_here : Gathered f.args.rows.now f.args.ids.now f.args.lengths.now f.args.c chosen_then gathered_then f.flagged_rows-all.result
+  gathered_here : Gathered f.args.weights.all.rows.now f.args.weights.all.ids.now f.args.weights.lengths.now f.args.weights.column chosen_then gathered_then f.flagged_rows-all.result
   gathered_here = f.flagged_rows-all.ensures
 
   abbrev known_here : List Range
@@ -60,27 +59,16 @@ module _ (f : After-flagged_rows-all) where
   nothing_known_lem z = ap (λ (m : ℕ). ranges_at f.args.known.now 0 m) z
 
   -- either queue is fit to be decided by: that in the store's order, and that which is lent
-  in-store-order : ToDecide f.args.rows.now f.args.ids.now f.args.lengths.now f.args.c f.flagged_rows-all.result.count gathered_then f.args.known.now f.args.count f.args.b.most
+  in-store-order : ToDecide f.args.weights.all.rows.now f.args.weights.all.ids.now f.args.weights.lengths.now f.args.weights.column f.flagged_rows-all.result.count gathered_then f.args.known.now f.args.count f.args.b.most
   in-store-order = let g = gathered_here in record { queued = g.queued; few = g.few; short = g.light; carry = f.requires.0.carry }
 
-  as_queued : ToDecide f.args.rows.now f.args.ids.now f.args.lengths.now f.args.c f.args.wanted f.args.queue.now f.args.known.now f.args.count f.args.b.most
+  as_queued : ToDecide f.args.weights.all.rows.now f.args.weights.all.ids.now f.args.weights.lengths.now f.args.weights.column f.args.wanted.count f.args.wanted.queue.now f.args.known.now f.args.count f.args.b.most
   as_queued = let lent = f.requires.0 in record { queued = lent.queued; few = lent.wanted_few; short = lent.short; carry = lent.carry }
 
 pub flagged_rows-all-requires : goal.flagged_rows-all-requires
 flagged_rows-all-requires c = let lent = c.requires.0 in
     let few = lent.few in
-    (lent.stand, few, lent.flagged, omega arith, lent.column, flagged_light (goal.at.flagged_rows-all-requires c).Start)
-
-pub takes_all-requires : goal.takes_all-requires
-takes_all-requires c = let g = gathered_here (goal.at.takes_all-requires c).After-flagged_rows-all in
-    let few = g.few in
-    let small = g.small in
-    let said : c.args.count ≤ most_said = c.requires.0.carry.said in
-    let fixed = c.requires.1 in
-    (omega arith, omega arith, omega arith)
-
-pub decide-requires : goal.decide-requires
-decide-requires c = (in-store-order (goal.at.decide-requires c).After-flagged_rows-all, c.requires.1)
+    (few, lent.flagged, omega arith, lent.column, flagged_light (goal.at.flagged_rows-all-requires c).Start)
 
 pub returns-then-takes_all : goal.returns-then-takes_all
 returns-then-takes_all c = let g = gathered_here (goal.at.returns-then-takes_all c).After-flagged_rows-all in
@@ -92,17 +80,12 @@ returns-then-takes_all c = let g = gathered_here (goal.at.returns-then-takes_all
     let decided = subst (λ (w : List Element). Decides w l a.b c.decide.result a.known.now known') g.are c.decide.ensures in
     all_at_once a.b l c.requires.0.carry.ranges_stand.1 (chosen_then (goal.at.returns-then-takes_all c).After-flagged_rows-all) (queued_then (goal.at.returns-then-takes_all c).After-flagged_rows-all) c.requires.0.same taken c.decide.result a.known.now known' (known_rows (goal.at.returns-then-takes_all c).After-flagged_rows-all) decided
 
-pub tries_all-requires : goal.tries_all-requires
-tries_all-requires c = let small = (gathered_here (goal.at.tries_all-requires c).After-flagged_rows-all).small in
-    let fixed = c.requires.1 in
-    (omega arith, omega arith)
-
 pub try_all-requires : goal.try_all-requires
 try_all-requires c = let a = c.args in
     let test = all_tried _ _ _ _ (sym c.tries_all.ensures ∙ c.if-tries_all.true) in (
       record {
-        first = subst (λ (m : ℕ). ToDecide a.rows.now a.ids.now a.lengths.now a.c c.flagged_rows-all.result.count (gathered_then (goal.at.try_all-requires c).After-flagged_rows-all) a.known.now m a.b.most) test.0 (in-store-order (goal.at.try_all-requires c).After-flagged_rows-all);
-        then = subst (λ (m : ℕ). ToDecide a.rows.now a.ids.now a.lengths.now a.c a.wanted a.queue.now a.known.now m a.b.most) test.0 (as_queued (goal.at.try_all-requires c).After-flagged_rows-all);
+        first = subst (λ (m : ℕ). ToDecide a.weights.all.rows.now a.weights.all.ids.now a.weights.lengths.now a.weights.column c.flagged_rows-all.result.count (gathered_then (goal.at.try_all-requires c).After-flagged_rows-all) a.known.now m a.b.most) test.0 (in-store-order (goal.at.try_all-requires c).After-flagged_rows-all);
+        then = subst (λ (m : ℕ). ToDecide a.weights.all.rows.now a.weights.all.ids.now a.weights.lengths.now a.weights.column a.wanted.count a.wanted.queue.now a.known.now m a.b.most) test.0 (as_queued (goal.at.try_all-requires c).After-flagged_rows-all);
         same = rw (gathered_here (goal.at.try_all-requires c).After-flagged_rows-all).are c.requires.0.same;
         some = test.1;
         few = test.2;
@@ -115,9 +98,6 @@ pub returns-then-tries_all : goal.returns-then-tries_all
 returns-then-tries_all c = let a = c.args in
     let test = all_tried _ _ _ _ (sym c.tries_all.ensures ∙ c.if-tries_all.true) in
     subst (λ (l : List Range). DecidesPage (queued_then (goal.at.returns-then-tries_all c).After-flagged_rows-all) l a.b c.try_all.result c.try_all.new.t) (sym (nothing_known_lem (goal.at.returns-then-tries_all c).After-flagged_rows-all test.0)) c.try_all.ensures
-
-pub decide-requires-2 : goal.decide-requires-2
-decide-requires-2 c = (as_queued (goal.at.decide-requires-2 c).After-flagged_rows-all, c.requires.1)
 
 pub returns : goal.returns
 returns c = let a = c.args in

@@ -12,7 +12,7 @@ use Rattle.pages.proofs.Weighing.{length_weighed_lem}
 use Rattle.pages.proofs.whole.try_all.Goals as goal
 use Rattle.pages.proofs.whole.try_all.Goals.{After-decide-first}
 
-tried_length : (d : After-decide-first) → length (weighed_in d.args.rows.now d.args.ids.now d.args.lengths.now d.args.c d.args.count d.args.tried.now) ≡ d.args.count
+tried_length : (d : After-decide-first) → length (weighed_in d.args.weights.all.rows.now d.args.weights.all.ids.now d.args.weights.lengths.now d.args.weights.column d.args.tried.count d.args.tried.queue.now) ≡ d.args.tried.count
 tried_length d = length_weighed_lem d.requires.0.first.queued
 
 pub returns-then-is_whole : goal.returns-then-is_whole
@@ -22,7 +22,7 @@ returns-then-is_whole c = let a = c.args in
     let n = tried_length (goal.at.returns-then-is_whole c).After-decide-first in
     let some = p.some in
     let few = p.few in
-    tried a.b [] tt (weighed_in a.rows.now a.ids.now a.lengths.now a.c a.count a.tried.now) (weighed_in a.rows.now a.ids.now a.lengths.now a.c a.wanted a.queue.now) p.same p.least (omega arith) (omega arith) c.decide-first.result a.t.now c.decide-first.new.t refl c.decide-first.ensures (sym c.is_whole.ensures ∙ c.if-is_whole.true)
+    tried a.b [] tt (weighed_in a.weights.all.rows.now a.weights.all.ids.now a.weights.lengths.now a.weights.column a.tried.count a.tried.queue.now) (weighed_in a.weights.all.rows.now a.weights.all.ids.now a.weights.lengths.now a.weights.column a.wanted.count a.wanted.queue.now) p.same p.least (omega arith) (omega arith) c.decide-first.result a.t.now c.decide-first.new.t refl c.decide-first.ensures (sym c.is_whole.ensures ∙ c.if-is_whole.true)
 
 pub decide-requires : goal.decide-requires
 unfolding ranges_at Normal
@@ -34,4 +34,4 @@ decide-requires c = let p = c.requires.0.then in
 pub returns : goal.returns
 unfolding ranges_at
 returns c = let a = c.args in
-    one_by_one a.b [] (weighed_in a.rows.now a.ids.now a.lengths.now a.c a.wanted a.queue.now) c.decide.result c.decide-first.new.t c.decide.new.t refl c.decide.ensures
+    one_by_one a.b [] (weighed_in a.weights.all.rows.now a.weights.all.ids.now a.weights.lengths.now a.weights.column a.wanted.count a.wanted.queue.now) c.decide.result c.decide-first.new.t c.decide.new.t refl c.decide.ensures

@@ -1,7 +1,6 @@
 -- `write::lay_elements` meets its contract. The invariant: with the elements still to come laid at p, out is what it is to be.
 -- Assumes nothing.
-use mathlib.Core.Path.{◌≡◌}
-use Prim.Native.Nat.{◌+◌, ◌-◌}
+use Prim.Native.Nat.{◌+◌}
 use lib.ListN.{length}
 use Rattle.laws.specs.Placed.{laid}
 use Rattle.store.specs.Held.{elements_bytes}
@@ -10,8 +9,5 @@ use Rattle.pages.proofs.Laying.{Laying}
 use Rattle.pages.proofs.write.lay_elements.Given as goal
 
 abbrev pub invariant-loop-i : goal.invariant-loop-i
-invariant-loop-i l = (length l.out ≡ length l.initial.out)
-    × Laying l.store l.rows l.ids l.k l.queue (l.at + length (elements_bytes l.store (queued_in l.rows l.ids l.k l.queue))) (laid l.at (elements_bytes l.store (queued_in l.rows l.ids l.k l.queue)) l.initial.out) l.out l.p l.i
-
-abbrev pub decreases-loop-i : goal.decreases-loop-i
-decreases-loop-i l = l.k - l.i
+invariant-loop-i l = let w = elements_bytes l.store (queued_in l.rows l.ids l.k l.queue) in
+    Laying l.store l.rows l.ids l.k l.queue (l.at + length w) (laid l.at w l.initial.out) l.out l.p l.i

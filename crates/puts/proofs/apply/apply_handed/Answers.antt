@@ -1,6 +1,8 @@
 -- `apply::apply_handed` meets its contract.
 -- Assumes nothing.
-use mathlib.Core.Path.{sym, ◌∙◌}
+use Rattle.std.specs.Prelude.{Err}
+use Rattle.std.proofs.Common.{rules}
+use mathlib.Core.Path.{◌≡◌, sym, ◌∙◌}
 use Prim.Native.Nat.{ℕ, ◌*◌}
 use native.Mathlib.Omega.{arith}
 use lib.ListN.{length-replicate}
@@ -11,22 +13,28 @@ use Rattle.puts.proofs.Outcomes.{refused_gives}
 use Rattle.puts.proofs.PutHeld.{put_held, put_long}
 use Rattle.puts.proofs.apply.apply_handed.Goals as goal
 
-pub slice_bounds-expect-end : goal.slice_bounds-expect-end
-slice_bounds-expect-end c = (put_long _ _ _ _ _ _ (length-replicate {A = ℕ} row_numbers 0) (length-replicate {A = ℕ} (most_elements * id_width) 0) c.read_put.ensures).0
+pub slice_bounds-elements-end : goal.slice_bounds-elements-end
+slice_bounds-elements-end c = (put_long _ _ _ _ _ _ (length-replicate {A = ℕ} row_numbers 0) (length-replicate {A = ℕ} (most_elements * id_width) 0) c.read_put.ensures).0
 
-pub slice_bounds-expect-end-in-Handed : goal.slice_bounds-expect-end-in-Handed
-slice_bounds-expect-end-in-Handed c = (put_long _ _ _ _ _ _ (length-replicate {A = ℕ} row_numbers 0) (length-replicate {A = ℕ} (most_elements * id_width) 0) c.read_put.ensures).1
+pub slice_bounds-elements-end-2 : goal.slice_bounds-elements-end-2
+slice_bounds-elements-end-2 c = (put_long _ _ _ _ _ _ (length-replicate {A = ℕ} row_numbers 0) (length-replicate {A = ℕ} (most_elements * id_width) 0) c.read_put.ensures).1
+
+pub invariant_of-elements : goal.invariant_of-elements
+invariant_of-elements c = let q = c.args.request.now in
+    let b : AllBytes q = λ i. (c.type_inv.request i).fits in
+    record { stand = (put_held q _ _ _ _ _ _ _ b (omega (arith, length-replicate {A = ℕ} row_numbers 0)) (omega (arith, length-replicate {A = ℕ} (most_elements * id_width) 0)) (rw c.in_ok-put.was at c.read_put.ensures)).stand }
 
 pub expect-requires : goal.expect-requires
 expect-requires c = let q = c.args.request.now in
     let b : AllBytes q = λ i. (c.type_inv.request i).fits in
-    (c.requires.0, put_held q _ _ _ _ _ _ _ b (omega (arith, length-replicate {A = ℕ} row_numbers 0)) (omega (arith, length-replicate {A = ℕ} (most_elements * id_width) 0)) (rw c.in-Handed.is at c.read_put.ensures))
+    (c.requires.0, put_held q _ _ _ _ _ _ _ b (omega (arith, length-replicate {A = ℕ} row_numbers 0)) (omega (arith, length-replicate {A = ℕ} (most_elements * id_width) 0)) (rw c.in_ok-put.was at c.read_put.ensures))
 
-pub returns-in-Refused : goal.returns-in-Refused
+pub returns-in_err-put : goal.returns-in_err-put
 unfolding on_put
-returns-in-Refused c = let a = c.args in
-    rw (sym c.read_put.ensures.0 ∙ c.in-Refused.is) (refused_gives _ a.newstore.now a.out.now)
+returns-in_err-put c = let residual : c.from_residual.result ≡ Err c.in_err-put.field-0.0 = search rules in
+    rw residual (let a = c.args in
+    rw (sym c.read_put.ensures.0 ∙ c.in_err-put.was) (refused_gives _ a.newstore.now a.out.now))
 
-pub returns-in-Handed : goal.returns-in-Handed
+pub returns : goal.returns
 unfolding on_put
-returns-in-Handed c = rw (sym c.read_put.ensures.0 ∙ c.in-Handed.is) c.expect.ensures
+returns c = rw (sym c.read_put.ensures.0 ∙ c.in_ok-put.was) c.expect.ensures

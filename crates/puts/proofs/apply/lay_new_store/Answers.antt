@@ -3,18 +3,18 @@
 use mathlib.Core.Bool.{true}
 use mathlib.Core.List.{[], ◌∷◌, ◌++◌}
 use native.Mathlib.Omega.{arith}
-use lib.ListN.{take, length-append}
+use lib.ListN.{length-append}
 use Rattle.laws.specs.Placed.{Lays}
 use Rattle.laws.proofs.Placing.{lays_then}
 use Rattle.objects.specs.Header.{start_bytes, end_bytes}
 use Rattle.store.specs.Written.{package_front}
-use Rattle.puts.specs.Plan.{sides, planned_bytes}
+use Rattle.puts.specs.Plan.{sides_of, planned_bytes}
 use Rattle.enter.proofs.PackageLengths.{length_package_front, length_framed}
 use Rattle.puts.proofs.apply.lay_new_store.Goals as goal
 
 pub lay_start-behind_start-requires : goal.lay_start-behind_start-requires
 lay_start-behind_start-requires c = let a = c.args in
-    let w = planned_bytes (sides a.store.now a.rows.now a.ids.now a.request.now a.handedrows.now a.handedids.now a.g a.highest) (take a.count a.plan.now) in
+    let w = planned_bytes (sides_of a.inputs) a.plan.now in
     let e = length_framed w in
     let f = length_package_front in
     let h = c.requires.1 in
@@ -22,7 +22,7 @@ lay_start-behind_start-requires c = let a = c.args in
 
 pub lay_byte-behind_front-requires : goal.lay_byte-behind_front-requires
 lay_byte-behind_front-requires c = let a = c.args in
-    let w = planned_bytes (sides a.store.now a.rows.now a.ids.now a.request.now a.handedrows.now a.handedids.now a.g a.highest) (take a.count a.plan.now) in
+    let w = planned_bytes (sides_of a.inputs) a.plan.now in
     let e = length_framed w in
     let f = length_package_front in
     let h = c.requires.1 in
@@ -31,17 +31,17 @@ lay_byte-behind_front-requires c = let a = c.args in
 
 pub lay_planned-behind_elements-requires : goal.lay_planned-behind_elements-requires
 lay_planned-behind_elements-requires c = let a = c.args in
-    let w = planned_bytes (sides a.store.now a.rows.now a.ids.now a.request.now a.handedrows.now a.handedids.now a.g a.highest) (take a.count a.plan.now) in
+    let w = planned_bytes (sides_of a.inputs) a.plan.now in
     let e = length_framed w in
     let f = length_package_front in
     let h = c.requires.1 in
     let x = c.lay_start-behind_start.ensures.0 in
     let y = c.lay_byte-behind_front.ensures.0 in
-    (c.requires.0.long, (λ k l. ((c.requires.0.fits k l).stands, (c.requires.0.fits k l).left)), omega arith)
+    (c.requires.0, omega arith)
 
 pub lay_end-requires : goal.lay_end-requires
 lay_end-requires c = let a = c.args in
-    let w = planned_bytes (sides a.store.now a.rows.now a.ids.now a.request.now a.handedrows.now a.handedids.now a.g a.highest) (take a.count a.plan.now) in
+    let w = planned_bytes (sides_of a.inputs) a.plan.now in
     let e = length_framed w in
     let f = length_package_front in
     let h = c.requires.1 in
@@ -53,7 +53,7 @@ lay_end-requires c = let a = c.args in
 pub returns : goal.returns
 unfolding package_front
 returns c = let a = c.args in
-    let w = planned_bytes (sides a.store.now a.rows.now a.ids.now a.request.now a.handedrows.now a.handedids.now a.g a.highest) (take a.count a.plan.now) in
+    let w = planned_bytes (sides_of a.inputs) a.plan.now in
     let e = length_framed w in
     let f = length_package_front in
     let h = c.requires.1 in

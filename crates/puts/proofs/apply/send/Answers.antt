@@ -3,22 +3,22 @@
 use mathlib.Core.Path.{◌≡◌, ap, ◌∙◌}
 use mathlib.Core.List.{List, []}
 use native.Mathlib.Omega.{arith}
-use lib.ListN.{length, take}
+use lib.ListN.{length}
 use Rattle.laws.specs.Placed.{Lays}
 use Rattle.talk.specs.declared.range.Range.{Range}
 use Rattle.store.specs.Written.{framed}
-use Rattle.puts.specs.Plan.{sides, planned_bytes, planned_ranges}
+use Rattle.puts.specs.Plan.{sides_of, planned_bytes, planned_ranges}
 use Rattle.puts.specs.Applied.{put_answer_bytes}
 use Rattle.puts.proofs.Outcomes.{refused_gives, answered_short, answered_sent}
 use Rattle.puts.proofs.apply.send.Goals as goal
 
 pub planned_ranges-held-requires : goal.planned_ranges-held-requires
-planned_ranges-held-requires c = let p = c.requires.0 in (p.few, p.long, omega arith, λ k l. ((p.fits k l).stands.kept, (p.fits k l).left))
+planned_ranges-held-requires c = (c.requires.0, omega arith)
 
 pub returns-then-out-needed : goal.returns-then-out-needed
 returns-then-out-needed c = let a = c.args in
-    let new = framed (planned_bytes (sides a.store.now a.rows.now a.ids.now a.request.now a.handedrows.now a.handedids.now a.g a.highest) (take a.count a.plan.now)) in
-    let l = planned_ranges a.rows.now a.ids.now a.g a.highest [] (take a.count a.plan.now) in
+    let new = framed (planned_bytes (sides_of a.inputs) a.plan.now) in
+    let l = planned_ranges a.inputs.stored.elements.rows.now a.inputs.stored.elements.ids.now a.inputs.guid a.inputs.highest [] a.plan.now in
     let n : c.answer_length-needed.result ≡ length (put_answer_bytes a.id l) = c.answer_length-needed.ensures ∙ ap (λ (r : List Range). length (put_answer_bytes a.id r)) c.planned_ranges-held.ensures.1 in
     rw (answered_short a.id new l (length a.out.now) c.answer_length-needed.result n c.if-out-needed.true, c.too_short.ensures) (refused_gives _ a.newstore.now a.out.now)
 
@@ -32,8 +32,8 @@ lay_answer-requires c = let a = c.args in
 
 pub returns : goal.returns
 returns c = let a = c.args in
-    let new = framed (planned_bytes (sides a.store.now a.rows.now a.ids.now a.request.now a.handedrows.now a.handedids.now a.g a.highest) (take a.count a.plan.now)) in
-    let l = planned_ranges a.rows.now a.ids.now a.g a.highest [] (take a.count a.plan.now) in
+    let new = framed (planned_bytes (sides_of a.inputs) a.plan.now) in
+    let l = planned_ranges a.inputs.stored.elements.rows.now a.inputs.stored.elements.ids.now a.inputs.guid a.inputs.highest [] a.plan.now in
     let n : c.answer_length-needed.result ≡ length (put_answer_bytes a.id l) = c.answer_length-needed.ensures ∙ ap (λ (r : List Range). length (put_answer_bytes a.id r)) c.planned_ranges-held.ensures.1 in
     let w : Lays 0 (put_answer_bytes a.id l) a.out.now c.lay_answer.result c.lay_answer.new.out = rw c.planned_ranges-held.ensures.1 at c.lay_answer.ensures in
     answered_sent a.id new l (length a.out.now) c.answer_length-needed.result n c.if-out-needed.false a.newstore.now c.lay_new_store.new.out a.out.now c.lay_answer.new.out a.whole

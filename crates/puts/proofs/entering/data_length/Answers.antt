@@ -3,7 +3,7 @@
 use mathlib.Core.Path.{ap}
 use lib.ListN.{length}
 use Rattle.numbers.specs.ExtendedGuid.{extended_guid_bytes}
-use Rattle.numbers.specs.declared.extended_guid.ExtendedGuid.{ExtendedGuid}
+use Rattle.numbers.specs.Results.ExtendedGuid.{ExtendedGuid}
 use native.Mathlib.Omega.{arith}
 use Rattle.puts.specs.Plan.{data_length}
 use Rattle.puts.proofs.entering.data_length.Goals as goal

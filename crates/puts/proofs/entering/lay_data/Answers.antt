@@ -9,9 +9,8 @@ use Rattle.laws.proofs.Placing.{lays_then}
 use Rattle.numbers.specs.Compact.{compact_bytes}
 use Rattle.numbers.specs.ExtendedGuid.{extended_guid_bytes}
 use Rattle.numbers.specs.Serial.{serial_bytes}
-use Rattle.numbers.specs.declared.extended_guid.ExtendedGuid.{ExtendedGuid}
-use Rattle.numbers.specs.declared.extended_guid.ExtendedGuid.TheVariants.{Named}
-use Rattle.numbers.specs.declared.serial.Serial.TheVariants.{Numbered}
+use Rattle.numbers.specs.Results.ExtendedGuid.{ExtendedGuid, Named}
+use Rattle.numbers.specs.Results.Serial.{Numbered}
 use Rattle.store.specs.Written.{key_guid}
 use Rattle.puts.specs.Plan.{entering_data, data_length}
 use Rattle.puts.proofs.Lengths.{length_serial, length_data}

@@ -1,17 +1,18 @@
 -- `new_store::add_serial` meets its contract.
 -- Assumes nothing.
-use mathlib.Core.Path.{sym, ◌∙◌}
+use mathlib.Core.Path.{◌≡◌, refl, sym, ◌∙◌}
+use Prim.Native.Nat.{ℕ}
+use Rattle.std.specs.Prelude.{Option, Some, None}
 use Rattle.puts.proofs.Ranging.{serial_added, never_full}
 use Rattle.puts.proofs.new_store.add_serial.Goals as goal
 
-pub returns-in-Rows : goal.returns-in-Rows
-returns-in-Rows c = let a = c.args in
-    let r = c.add_range in
-    let e = rw c.key_range.ensures at r.ensures in
-    serial_added a.table.now a.held a.k c.requires.0 c.requires.1 _ r.new.t (sym c.in-Rows.is ∙ e.0) e.1
-
-pub returns-in-Full : goal.returns-in-Full
-returns-in-Full c = let a = c.args in
-    let r = c.add_range in
-    let e = rw c.key_range.ensures at r.ensures in
-    never_full a.table.now a.held a.k c.requires.0 c.requires.1 (sym c.in-Full.is ∙ e.0)
+pub returns : goal.returns
+returns c = by_option c.add_range.result
+    (λ n i. let e = rw c.from.ensures at c.add_range.ensures in
+    rw (c.unwrap_or.ensures, i) (serial_added c.args.table.now c.args.held c.args.k c.requires.0 c.requires.1 n c.add_range.new.t (sym i ∙ e.0) e.1))
+    (λ i. let e = rw c.from.ensures at c.add_range.ensures in
+    never_full c.args.table.now c.args.held c.args.k c.requires.0 c.requires.1 (sym i ∙ e.0))
+  where
+    by_option : {P : Type 0} (o : Option ℕ) → ((n : ℕ) → o ≡ Some n → P) → (o ≡ None → P) → P
+    by_option (Some n) f g = f n refl
+    by_option None f g = g refl

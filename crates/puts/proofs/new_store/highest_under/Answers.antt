@@ -9,7 +9,7 @@ use Rattle.laws.specs.Pick.{pick}
 use Rattle.numbers.specs.declared.guid.Guid.{Guid}
 use Rattle.store.specs.Tables.{element_in_row, elements_in_rows, elements_in}
 use Rattle.store.specs.declared.element.Element.{Element}
-use Rattle.store.proofs.Elements.{rows_up_to, elements_turn, elements_end}
+use Rattle.store.proofs.Elements.{elements_turn, elements_end}
 use Rattle.puts.specs.NewStore.{under_guid, highest_under}
 use Rattle.puts.proofs.new_store.highest_under.Goals as goal
 
@@ -27,18 +27,12 @@ highest_all : (rows ids : List ℕ) (g : Guid) (i n : ℕ) → i ≤ 0 → highe
 highest_all rows ids g i n h = let e : i ≡ 0 = omega arith in let f : n - 0 ≡ n = omega arith in rw (e, f)
 
 pub loop-i-init : goal.loop-i-init
-loop-i-init c = (omega arith, highest_none _ _ _ _)
-
-pub element_in_row-requires : goal.element_in_row-requires
-element_in_row-requires c = rows_up_to c.requires _ (omega arith)
-
-pub higher-highest-requires : goal.higher-highest-requires
-higher-highest-requires c = tt
+loop-i-init c = highest_none _ _ _ _
 
 pub loop-i-preserved : goal.loop-i-preserved
 loop-i-preserved c = let a = c.args in
     let e : c.loop-i.i - 1 + 1 ≡ c.loop-i.i = let h = c.loop-i-test.true in omega arith in
-    (omega arith, c.higher-highest.ensures ∙ highest_turn a.rows.now a.ids.now a.g (c.loop-i.i - 1) a.n c.element_in_row.result c.loop-i.highest (let h = c.loop-i.invariant.0 in omega arith) c.element_in_row.ensures (rw e c.loop-i.invariant.1))
+    c.higher-highest.ensures ∙ highest_turn a.stored.rows.now a.stored.ids.now a.g (c.loop-i.i - 1) a.stored.count c.element.result c.loop-i.highest (omega arith) c.element.ensures (rw e c.loop-i.invariant)
 
 pub returns : goal.returns
-returns c = c.loop-i.invariant.1 ∙ highest_all _ _ _ c.loop-i.i _ c.loop-i-test.false
+returns c = c.loop-i.invariant ∙ highest_all _ _ _ c.loop-i.i _ c.loop-i-test.false

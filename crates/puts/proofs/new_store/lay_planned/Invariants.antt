@@ -1,17 +1,13 @@
 -- `new_store::lay_planned` meets its contract. The invariant: with the elements still to come laid at p, out is what it is to be.
 -- Assumes nothing.
 use mathlib.Core.Path.{◌≡◌}
-use Prim.Native.Nat.{◌+◌, ◌-◌, ◌≤◌}
-use lib.ListN.{length, take}
+use Prim.Native.Nat.{◌+◌}
+use lib.ListN.{length, drop}
 use Rattle.laws.specs.Placed.{laid}
-use Rattle.puts.specs.Plan.{sides, planned_bytes}
-use Rattle.enter.proofs.PlanTurns.{plan_from}
+use Rattle.puts.specs.Plan.{sides_of, planned_bytes}
 use Rattle.puts.proofs.new_store.lay_planned.Given as goal
 
-abbrev pub invariant-loop-k : goal.invariant-loop-k
-invariant-loop-k l = (l.k ≤ l.count) × (length l.out ≡ length l.initial.out)
-    × (l.p + length (planned_bytes (sides l.store l.rows l.ids l.request l.handedrows l.handedids l.g l.highest) (plan_from l.plan l.k l.count)) ≡ l.at + length (planned_bytes (sides l.store l.rows l.ids l.request l.handedrows l.handedids l.g l.highest) (take l.count l.plan)))
-    × (laid l.p (planned_bytes (sides l.store l.rows l.ids l.request l.handedrows l.handedids l.g l.highest) (plan_from l.plan l.k l.count)) l.out ≡ laid l.at (planned_bytes (sides l.store l.rows l.ids l.request l.handedrows l.handedids l.g l.highest) (take l.count l.plan)) l.initial.out)
-
-abbrev pub decreases-loop-k : goal.decreases-loop-k
-decreases-loop-k l = l.count - l.k
+abbrev pub invariant-loop-source : goal.invariant-loop-source
+invariant-loop-source l = (length l.out ≡ length l.initial.out)
+    × (l.p + length (planned_bytes (sides_of l.inputs) (drop l.source-index l.plan)) ≡ l.at + length (planned_bytes (sides_of l.inputs) l.plan))
+    × (laid l.p (planned_bytes (sides_of l.inputs) (drop l.source-index l.plan)) l.out ≡ laid l.at (planned_bytes (sides_of l.inputs) l.plan) l.initial.out)

@@ -1,15 +1,11 @@
 -- `new_store::planned_length` meets its contract. The invariant: the whole is what was counted and what is still to come.
 -- Assumes nothing.
 use mathlib.Core.Path.{◌≡◌}
-use Prim.Native.Nat.{◌+◌, ◌-◌, ◌*◌, ◌^◌, ◌≤◌}
-use lib.ListN.{take}
+use Prim.Native.Nat.{◌+◌, ◌*◌, ◌^◌, ◌≤◌}
+use lib.ListN.{drop}
 use Rattle.puts.specs.Plan.{planned_length}
-use Rattle.enter.proofs.PlanTurns.{plan_from}
 use Rattle.puts.proofs.new_store.planned_length.Given as goal
 
-abbrev pub invariant-loop-k : goal.invariant-loop-k
-invariant-loop-k l = (l.k ≤ l.count) × (l.whole ≤ l.k * (2 ^ 24 + 68))
-    × (l.whole + planned_length l.rows l.ids l.request l.handedrows l.handedids (plan_from l.plan l.k l.count) ≡ planned_length l.rows l.ids l.request l.handedrows l.handedids (take l.count l.plan))
-
-abbrev pub decreases-loop-k : goal.decreases-loop-k
-decreases-loop-k l = l.count - l.k
+abbrev pub invariant-loop-source : goal.invariant-loop-source
+invariant-loop-source l = (l.whole ≤ l.source-index * (2 ^ 24 + 68))
+    × (l.whole + planned_length l.inputs.stored.elements.rows.now l.inputs.stored.elements.ids.now l.inputs.handed.bytes.now l.inputs.handed.elements.rows.now l.inputs.handed.elements.ids.now (drop l.source-index l.plan) ≡ planned_length l.inputs.stored.elements.rows.now l.inputs.stored.elements.ids.now l.inputs.handed.bytes.now l.inputs.handed.elements.rows.now l.inputs.handed.elements.ids.now l.plan)

@@ -2,18 +2,14 @@
 -- Assumes nothing.
 use mathlib.Core.Path.{◌≡◌}
 use mathlib.Core.List.{[]}
-use Prim.Native.Nat.{◌-◌, ◌≤◌}
-use lib.ListN.{length, take}
+use Prim.Native.Nat.{◌≤◌}
+use lib.ListN.{length, drop}
 use Rattle.talk.specs.Ranges.{Normal}
 use Rattle.ranges.specs.RangeTable.{ranges_at}
 use Rattle.puts.specs.Plan.{planned_ranges}
-use Rattle.enter.proofs.PlanTurns.{plan_from}
 use Rattle.puts.proofs.new_store.planned_ranges.Given as goal
 
-abbrev pub invariant-loop-k : goal.invariant-loop-k
-invariant-loop-k l = (l.k ≤ l.count) × (length l.table ≡ length l.initial.table) × (l.held ≤ l.k)
-    × (planned_ranges l.rows l.ids l.g l.highest (ranges_at l.table 0 l.held) (plan_from l.plan l.k l.count) ≡ planned_ranges l.rows l.ids l.g l.highest [] (take l.count l.plan))
+abbrev pub invariant-loop-source : goal.invariant-loop-source
+invariant-loop-source l = (length l.table ≡ length l.initial.table) × (l.held ≤ l.source-index)
+    × (planned_ranges l.inputs.stored.elements.rows.now l.inputs.stored.elements.ids.now l.inputs.guid l.inputs.highest (ranges_at l.table 0 l.held) (drop l.source-index l.plan) ≡ planned_ranges l.inputs.stored.elements.rows.now l.inputs.stored.elements.ids.now l.inputs.guid l.inputs.highest [] l.plan)
     × Normal (ranges_at l.table 0 l.held)
-
-abbrev pub decreases-loop-k : goal.decreases-loop-k
-decreases-loop-k l = l.count - l.k

@@ -8,17 +8,17 @@ use Rattle.puts.specs.Plan.{source_serial}
 use Rattle.puts.proofs.new_store.source_serial.Goals as goal
 
 pub element_in_row-requires : goal.element_in_row-requires
-element_in_row-requires c = c.requires.0 c.if-source-lt-MOST_ELEMENTS.true
+element_in_row-requires c = c.requires.stands.kept c.if-source-lt-MOST_ELEMENTS.true
 
 pub returns-then-source-lt-MOST_ELEMENTS : goal.returns-then-source-lt-MOST_ELEMENTS
 unfolding source_serial
 returns-then-source-lt-MOST_ELEMENTS c = rw (lt-ltb _ _ c.if-source-lt-MOST_ELEMENTS.true) (ap (λ (x : Element). x.serial) c.element_in_row.ensures)
 
-pub overflow_add-highest : goal.overflow_add-highest
-overflow_add-highest c = let h = c.requires.1 c.if-source-lt-MOST_ELEMENTS.false in omega arith
+pub overflow_add-inputs : goal.overflow_add-inputs
+overflow_add-inputs c = let h = c.requires.left c.if-source-lt-MOST_ELEMENTS.false in omega arith
 
-pub overflow_add-highest-2 : goal.overflow_add-highest-2
-overflow_add-highest-2 c = let h = c.requires.1 c.if-source-lt-MOST_ELEMENTS.false in omega arith
+pub overflow_add-inputs-2 : goal.overflow_add-inputs-2
+overflow_add-inputs-2 c = let h = c.requires.left c.if-source-lt-MOST_ELEMENTS.false in omega arith
 
 pub returns : goal.returns
 unfolding source_serial

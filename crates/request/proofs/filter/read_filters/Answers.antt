@@ -1,21 +1,19 @@
--- `filter::read_filters` meets its contract.
+-- `filter::read_filters` meets its contract. The invariant: what is still to be read gives what all would.
 -- Assumes nothing.
-use mathlib.Core.Path.{refl, sym, ◌∙◌}
+use mathlib.Core.Path.{◌≡◌, sym, ◌∙◌}
 use native.Mathlib.Omega.{arith}
 use Rattle.request.proofs.Turns.{filters_more, filters_over, filters_end}
 use Rattle.request.proofs.filter.read_filters.Goals as goal
 
-pub loop-at-init : goal.loop-at-init
-loop-at-init c = (omega arith, refl)
+pub returns-then-not-next_is : goal.returns-then-not-next_is
+returns-then-not-next_is c = c.valued.ensures ∙ sym (c.loop-n.invariant ∙ filters_end c.loop-n.n _ c.loop-n.at (omega arith) (sym c.if-not-next_is.ensures))
 
-pub returns-then-n-eq-MOST_FILTERS : goal.returns-then-n-eq-MOST_FILTERS
-returns-then-n-eq-MOST_FILTERS c = let e = sym c.next_is.ensures ∙ c.loop-at-test.true in
-    c.start.ensures ∙ sym (c.loop-at.invariant.1 ∙ filters_over c.loop-at.n _ c.loop-at.at c.if-n-eq-MOST_FILTERS.true e)
+pub loop-n-preserved : goal.loop-n-preserved
+loop-n-preserved c = rw c.filter_at-at.ensures (c.loop-n.invariant ∙ filters_more c.loop-n.n _ c.loop-n.at (omega arith) (sym c.if-not-next_is.ensures))
 
-pub loop-at-preserved : goal.loop-at-preserved
-loop-at-preserved c = let e = sym c.next_is.ensures ∙ c.loop-at-test.true in
-    (omega arith, rw c.filter_at-at.ensures (c.loop-at.invariant.1 ∙ filters_more c.loop-at.n _ c.loop-at.at (omega arith) e))
+pub returns-then-next_is : goal.returns-then-next_is
+returns-then-next_is c = c.start.ensures ∙ sym (c.loop-n.invariant ∙ filters_over c.loop-n.n _ c.loop-n.at (omega arith) (sym c.if-next_is.ensures))
 
 pub returns : goal.returns
-returns c = let e = sym c.next_is.ensures ∙ c.loop-at-test.false in
-    c.valued.ensures ∙ sym (c.loop-at.invariant.1 ∙ filters_end c.loop-at.n _ c.loop-at.at (omega arith) e)
+returns c = let n : c.loop-n.n ≡ 16 = omega arith in
+    c.valued-2.ensures ∙ rw n at (sym (c.loop-n.invariant ∙ filters_end c.loop-n.n _ c.loop-n.at (omega arith) (sym c.if-next_is.ensures)))

@@ -8,11 +8,11 @@ use native.Mathlib.Numerals.{add-one}
 use lib.Dec.{eqb}
 use borrow.Author.Tests.{eq-eqb, ne_eqb}
 use Rattle.laws.specs.Pick.{pick}
-use Rattle.numbers.specs.declared.extended_guid.ExtendedGuid.TheVariants.{Null, Named}
+use Rattle.numbers.specs.Results.ExtendedGuid.{Named, Null}
 use Rattle.store.specs.Tables.{element_in_row, elements_in_rows, elements_in}
 use Rattle.store.specs.Written.{key_guid}
 use Rattle.store.specs.declared.element.Element.{Element}
-use Rattle.store.proofs.Elements.{rows_up_to, elements_turn, elements_end}
+use Rattle.store.proofs.Elements.{elements_turn, elements_end}
 use Rattle.store.specs.Held.{storage_index}
 use Rattle.store.proofs.held.storage_index.Goals as goal
 
@@ -30,22 +30,16 @@ unfolding storage_index
 index_none rows ids i n h = rw (elements_end rows ids i n h)
 
 pub loop-i-init : goal.loop-i-init
-loop-i-init c = (omega arith, index_start _ _ _)
-
-pub element_in_row-x-requires : goal.element_in_row-x-requires
-element_in_row-x-requires c = rows_up_to c.requires.0 _ (omega arith)
-
-pub named-requires : goal.named-requires
-named-requires c = rw c.element_in_row-x.ensures (c.requires.1 c.loop-i.i (omega arith))
+loop-i-init c = index_start _ _ _
 
 pub returns-then-x-eq-STORAGE_INDEX : goal.returns-then-x-eq-STORAGE_INDEX
 returns-then-x-eq-STORAGE_INDEX c = let a = c.args in
-    c.named.ensures ∙ sym (c.loop-i.invariant.1 ∙ index_turn a.rows.now a.ids.now c.loop-i.i a.n c.element_in_row-x.result c.loop-i-test.true c.element_in_row-x.ensures ∙ rw (eq-eqb _ _ c.if-x-eq-STORAGE_INDEX.true))
+    c.named.ensures ∙ sym (c.loop-i.invariant ∙ index_turn a.all.rows.now a.all.ids.now c.loop-i.i a.all.count c.element-x.result c.loop-i-test.true c.element-x.ensures ∙ rw (eq-eqb _ _ c.if-x-eq-STORAGE_INDEX.true))
 
 pub loop-i-preserved : goal.loop-i-preserved
 loop-i-preserved c = let a = c.args in
-    (omega arith, c.loop-i.invariant.1 ∙ index_turn a.rows.now a.ids.now c.loop-i.i a.n c.element_in_row-x.result c.loop-i-test.true c.element_in_row-x.ensures ∙ rw (ne_eqb _ _ c.if-x-eq-STORAGE_INDEX.false))
+    c.loop-i.invariant ∙ index_turn a.all.rows.now a.all.ids.now c.loop-i.i a.all.count c.element-x.result c.loop-i-test.true c.element-x.ensures ∙ rw (ne_eqb _ _ c.if-x-eq-STORAGE_INDEX.false)
 
 pub returns : goal.returns
 returns c = let a = c.args in
-    sym (c.loop-i.invariant.1 ∙ index_none a.rows.now a.ids.now c.loop-i.i a.n c.loop-i-test.false)
+    sym (c.loop-i.invariant ∙ index_none a.all.rows.now a.all.ids.now c.loop-i.i a.all.count c.loop-i-test.false)

@@ -4,10 +4,10 @@ use borrow.Author.Tests.{lt-ltb, le-ltb, eq-eqb, ne_eqb}
 use Rattle.store.specs.Knowledge.{guid_in}
 use Rattle.store.proofs.item.guid_in.Goals as goal
 
-pub returns-in-At : goal.returns-in-At
+pub returns-in-Ok : goal.returns-in-Ok
 unfolding guid_in
-returns-in-At c = search (lt-ltb, le-ltb, eq-eqb, ne_eqb, c.in-At.is)
+returns-in-Ok c = search (lt-ltb, le-ltb, eq-eqb, ne_eqb, c.in-Ok.is)
 
-pub returns-in-Refused : goal.returns-in-Refused
+pub returns-in-Err : goal.returns-in-Err
 unfolding guid_in
-returns-in-Refused c = search (lt-ltb, le-ltb, eq-eqb, ne_eqb, c.in-Refused.is)
+returns-in-Err c = search (lt-ltb, le-ltb, eq-eqb, ne_eqb, c.in-Err.is)

@@ -8,23 +8,23 @@ use Rattle.store.proofs.knowledge.read_items.Goals as goal
 pub loop-last-init : goal.loop-last-init
 loop-last-init c = (refl, record { room = c.requires.0; normal = c.requires.1; rest = refl })
 
-pub shape_of-table-then-left-eq0 : goal.shape_of-table-then-left-eq0
-shape_of-table-then-left-eq0 c = c.loop-last.invariant.0
+pub shape_of-table-then-k-eq0 : goal.shape_of-table-then-k-eq0
+shape_of-table-then-k-eq0 c = c.loop-last.invariant.0
 
-pub returns-then-left-eq0 : goal.returns-then-left-eq0
-returns-then-left-eq0 c = let e = sym c.item_next.ensures ∙ c.loop-last-test.true in
-    uniting_over _ c.loop-last.invariant.1 e c.if-left-eq0.true _ refl refl (c.start-last.ensures ∙ rw c.item_kind.ensures)
+pub returns-then-k-eq0 : goal.returns-then-k-eq0
+returns-then-k-eq0 c = let e = sym c.item_next.ensures ∙ c.loop-last-test.true in
+    uniting_over _ c.loop-last.invariant.1 e c.if-k-eq0.true _ refl refl (c.start-last.ensures ∙ rw c.item_kind.ensures)
 
-pub unite-n-requires : goal.unite-n-requires
-unite-n-requires c = let u = c.loop-last.invariant.1.room in
+pub unite-requires : goal.unite-requires
+unite-requires c = let u = c.loop-last.invariant.1.room in
     (omega arith, c.loop-last.invariant.1.normal)
 
 pub loop-last-preserved : goal.loop-last-preserved
 loop-last-preserved c = let e = sym c.item_next.ensures ∙ c.loop-last-test.true in
-    let m = uniting_more _ c.loop-last.invariant.1 e c.if-left-eq0.false in
-    let f = uniting_long _ c.loop-last.invariant.1 c.if-left-eq0.false ∙ c.loop-last.invariant.0 in
-    let i = c.unite-n.ensures in
-    rw (c.on-at.ensures, i.0, i.1, c.read_item-item.ensures) (f, m)
+    let m = uniting_more _ c.loop-last.invariant.1 e c.if-k-eq0.false in
+    let f = uniting_long _ c.loop-last.invariant.1 c.if-k-eq0.false ∙ c.loop-last.invariant.0 in
+    let i = c.unite.ensures in
+    rw (c.on.ensures, i.0, i.1, c.read_item-item.ensures) (f, m)
 
 pub shape_of-table : goal.shape_of-table
 shape_of-table c = c.loop-last.invariant.0

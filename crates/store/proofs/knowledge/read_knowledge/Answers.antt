@@ -28,4 +28,4 @@ shape_of-table c = c.loop-table.invariant.0
 pub returns : goal.returns
 unfolding knowledge_at
 returns c = let e = sym c.next_is.ensures ∙ c.loop-table-test.false in
-    rw (← c.start_of_length-at.ensures) (learning_end _ c.loop-table.invariant.1 e _ (c.answer.ensures ∙ rw c.end.ensures))
+    rw (← c.start_of_length.ensures) (learning_end _ c.loop-table.invariant.1 e _ (c.answer.ensures ∙ rw c.end.ensures))

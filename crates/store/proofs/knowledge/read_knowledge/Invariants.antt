@@ -8,7 +8,7 @@ use Rattle.store.proofs.Learning.{Learning}
 use Rattle.store.proofs.knowledge.read_knowledge.Given as goal
 
 abbrev pub invariant-loop-table : goal.invariant-loop-table
-invariant-loop-table l = (length l.table ≡ length l.initial.table) × Learning l.padding l.depth l.s (knowledge_from l.padding l.depth l.s (knowing [] l.initial.table l.allowed l.initial.at)) l.table l.at l.n l.left
+invariant-loop-table l = (length l.table ≡ length l.initial.table) × Learning l.padding l.depth l.s (knowledge_from l.padding l.depth l.s (knowing [] l.initial.table l.allowed l.initial.k.last)) l.table l.k.last l.k.rows l.k.left
 
 abbrev pub decreases-loop-table : goal.decreases-loop-table
-decreases-loop-table l = to_go l.s l.at
+decreases-loop-table l = to_go l.s l.k.last

@@ -23,4 +23,4 @@ returns c = let o = c.start_of_length-o.ensures in
     let d = c.run.ensures in
     let cell = sym (run_cell _ _ _ _ _ o d) ∙ ap is_cell (sym c.guid-g.ensures) ∙ sym c.is_cell.ensures ∙ c.if-is_cell.false in
     let behind = rw (c.on.ensures, c.guid-g.ensures) at c.closed-behind.ensures ∙ run_closed _ _ _ _ _ o d in
-    rw (cell, ← behind) (known_start c.args.table.now c.args.rows c.args.left _ c.requires.0 c.requires.1 _ refl refl c.inside.ensures)
+    rw (cell, ← behind) (known_start c.args.table.now c.args.known.rows c.args.known.left _ c.requires.0 c.requires.1 _ refl refl c.inside.ensures)

@@ -1,29 +1,21 @@
 -- `knowledge::unite` meets its contract.
 -- Assumes nothing.
-use mathlib.Core.Path.{◌≡◌, sym, ◌∙◌}
+use mathlib.Core.Path.{◌∙◌}
 use native.Mathlib.Omega.{arith}
-use Rattle.laws.proofs.Cases.{impossible}
+use Rattle.std.proofs.Common.{rules}
 use Rattle.store.specs.Knowledge.{united}
-use Rattle.ranges.specs.declared.Added.TheVariants.{Rows}
 use Rattle.store.proofs.Uniting.{added_fits, none_added}
 use Rattle.store.proofs.knowledge.unite.Goals as goal
 
-pub returns-in-Nothing : goal.returns-in-Nothing
+pub returns-in_default : goal.returns-in_default
 unfolding united
-returns-in-Nothing c = rw c.in-Nothing.is (none_added c.args.table.now c.args.rows (omega arith))
+returns-in_default c = rw c.in_default.is (none_added c.args.table.now c.args.rows (omega arith))
 
-pub returns-in-Refused : goal.returns-in-Refused
+pub returns-in-None : goal.returns-in-None
 unfolding united
-returns-in-Refused c = rw c.in-Refused.is (none_added c.args.table.now c.args.rows (omega arith))
+returns-in-None c = rw (c.in-Ok.is, c.in-None.is) (none_added c.args.table.now c.args.rows (omega arith))
 
-pub returns-in-Rows : goal.returns-in-Rows
+pub returns-in-Some : goal.returns-in-Some
 unfolding united
-returns-in-Rows c = let f = added_fits c.args.table.now c.args.rows c.in-Adds.x (omega arith) in
-    let e : Rows c.in-Rows.n ≡ Rows _ = sym c.in-Rows.is ∙ c.add_range.ensures.0 ∙ f.0 in
-    rw c.in-Adds.is (cc, c.add_range.ensures.1 ∙ f.1)
-
-pub returns-in-Full : goal.returns-in-Full
-unfolding united
-returns-in-Full c = let f = added_fits c.args.table.now c.args.rows c.in-Adds.x (omega arith) in
-    let e = sym c.in-Full.is ∙ c.add_range.ensures.0 ∙ f.0 in
-    impossible (cc)
+returns-in-Some c = let f = added_fits c.args.table.now c.args.rows c.in-Some.x (omega arith) in
+    rw (c.in-Ok.is, c.in-Some.is) (search (rules, c.unwrap_or.ensures, c.add_range.ensures.0, f.0), c.add_range.ensures.1 ∙ f.1)

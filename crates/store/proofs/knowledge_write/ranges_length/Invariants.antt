@@ -8,7 +8,4 @@ use Rattle.store.specs.KnowledgeWritten.{ranges_bytes}
 use Rattle.store.proofs.knowledge_write.ranges_length.Given as goal
 
 abbrev pub invariant-loop-i : goal.invariant-loop-i
-invariant-loop-i l = (l.i ≤ l.rows) × (l.n + length (ranges_bytes (ranges_at l.table l.i (l.rows - l.i))) ≡ length (ranges_bytes (ranges_at l.table l.first (l.rows - l.first)))) × (l.n ≤ l.i * 36)
-
-abbrev pub decreases-loop-i : goal.decreases-loop-i
-decreases-loop-i l = l.rows - l.i
+invariant-loop-i l = (l.n + length (ranges_bytes (ranges_at l.table l.i (l.rows - l.i))) ≡ length (ranges_bytes (ranges_at l.table l.first (l.rows - l.first)))) × (l.n ≤ l.i * 36)

@@ -10,19 +10,18 @@ use lib.Seq.{paste-zero, paste-suc, take-length}
 use Rattle.store.proofs.lay.lay_part.Goals as goal
 
 pub loop-i-init : goal.loop-i-init
-loop-i-init c = let a = c.args in (omega arith, refl, paste-zero a.out.now a.at a.part.now)
+loop-i-init c = let a = c.args in (refl, paste-zero a.out.now a.at a.part.now)
 
 pub loop-i-preserved : goal.loop-i-preserved
 loop-i-preserved c = let a = c.args in (
-  omega arith,
-  simp length-set c.loop-i.invariant.1,
-  rw (add-one, c.loop-i.invariant.2) (paste-suc a.out.now a.at a.part.now c.loop-i.i 0 (omega arith) (omega arith)),
+  simp length-set c.loop-i.invariant.0,
+  rw (add-one, c.loop-i.invariant.1) (paste-suc a.out.now a.at a.part.now c.loop-i.i 0 (omega arith) (omega arith)),
 )
 
 pub shape_of-out : goal.shape_of-out
-shape_of-out c = c.loop-i.invariant.1
+shape_of-out c = c.loop-i.invariant.0
 
 pub returns : goal.returns
 returns c = let a = c.args in
     let e : c.loop-i.i ≡ length a.part.now = omega arith in
-    (refl, c.loop-i.invariant.2 ∙ rw (e, take-length a.part.now) (append_assoc (take a.at a.out.now) a.part.now (drop (a.at + length a.part.now) a.out.now)))
+    (refl, c.loop-i.invariant.1 ∙ rw (e, take-length a.part.now) (append_assoc (take a.at a.out.now) a.part.now (drop (a.at + length a.part.now) a.out.now)))

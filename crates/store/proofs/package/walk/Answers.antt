@@ -1,7 +1,9 @@
 -- `package::walk` meets its contract. The invariant: the tables hold the elements read so far, and the walk from the start is
 -- the walk from here.
 -- Assumes nothing.
-use mathlib.Core.Path.{sym, ap, ◌∙◌}
+use Rattle.std.specs.Prelude.{Err}
+use Rattle.std.proofs.Common.{rules}
+use mathlib.Core.Path.{◌≡◌, sym, ap, ◌∙◌}
 use Prim.Native.Nat.{◌≤◌, ◌<◌}
 use lib.ListN.{length}
 use native.Mathlib.Omega.{arith}
@@ -27,10 +29,11 @@ room c = omega arith
 pub read_element-requires : goal.read_element-requires
 read_element-requires c = held_lent _ c.loop-strict.invariant.1 (omega arith) (omega arith)
 
-pub returns-in-Refused : goal.returns-in-Refused
-returns-in-Refused c = let e = sym c.next_is.ensures ∙ c.loop-strict-test.true in
-    let q = sym c.read_element.ensures ∙ c.in-Refused.is in
-    held_answer _ c.loop-strict.invariant.1 _ _ (held_refused _ c.loop-strict.invariant.1 e c.if-n-eq-MOST_ELEMENTS.false _ q) (packaged_refused _ _)
+pub returns-in_err-x : goal.returns-in_err-x
+returns-in_err-x c = let residual : c.from_residual.result ≡ Err c.in_err-x.field-0.0 = search rules in
+    rw residual (let e = sym c.next_is.ensures ∙ c.loop-strict-test.true in
+    let q = sym c.read_element.ensures ∙ c.in_err-x.was in
+    held_answer _ c.loop-strict.invariant.1 _ _ (held_refused _ c.loop-strict.invariant.1 e c.if-n-eq-MOST_ELEMENTS.false _ q) (packaged_refused _ _))
 
 pub put_row-requires : goal.put_row-requires
 put_row-requires c = let r = room (goal.at.put_row-requires c).Else-n-eq-MOST_ELEMENTS in omega arith
@@ -42,8 +45,8 @@ pub overflow_add-n : goal.overflow_add-n
 overflow_add-n c = let r = room (goal.at.overflow_add-n c).Else-n-eq-MOST_ELEMENTS in omega arith
 
 pub overflow_add-at : goal.overflow_add-at
-overflow_add-at c = let q = sym c.read_element.ensures ∙ c.in-Is.is in
-    omega (arith, element_within _ _ _ _ c.in-Is.x q c.loop-strict.invariant.1.good)
+overflow_add-at c = let q = sym c.read_element.ensures ∙ c.in_ok-x.was in
+    omega (arith, element_within _ _ _ _ c.in_ok-x.x q c.loop-strict.invariant.1.good)
 
 pub loop-strict-smaller : goal.loop-strict-smaller
 loop-strict-smaller c = let r = room (goal.at.loop-strict-smaller c).Else-n-eq-MOST_ELEMENTS in omega arith
@@ -51,9 +54,9 @@ loop-strict-smaller c = let r = room (goal.at.loop-strict-smaller c).Else-n-eq-M
 pub loop-strict-preserved : goal.loop-strict-preserved
 loop-strict-preserved c = let r = room (goal.at.loop-strict-preserved c).Else-n-eq-MOST_ELEMENTS in
     let e = sym c.next_is.ensures ∙ c.loop-strict-test.true in
-    let q = sym c.read_element.ensures ∙ c.in-Is.is in
+    let q = sym c.read_element.ensures ∙ c.in_ok-x.was in
     let lent : key_marks ≤ length c.loop-strict.marks = omega arith in
-    let m = held_more _ c.loop-strict.invariant.1 e c.if-n-eq-MOST_ELEMENTS.false lent c.in-Is.x q in (
+    let m = held_more _ c.loop-strict.invariant.1 e c.if-n-eq-MOST_ELEMENTS.false lent c.in_ok-x.x q in (
       omega arith,
       rw (c.put_row.ensures, c.put_id.ensures, c.put_mark.ensures) m,
     )

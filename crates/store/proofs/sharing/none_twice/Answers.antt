@@ -15,10 +15,7 @@ use Rattle.store.proofs.SharedSerials.{serial_in_row, NoneTwice, none_twice_star
 use Rattle.store.proofs.sharing.none_twice.Goals as goal
 
 pub loop-i-init : goal.loop-i-init
-loop-i-init c = (omega arith, refl, none_twice_start c.args.rows.now _)
-
-pub seen_key-requires : goal.seen_key-requires
-seen_key-requires c = (omega arith, omega arith, omega arith, c.loop-i.invariant.2.marked)
+loop-i-init c = (refl, none_twice_start c.args.rows.now _)
 
 pub returns-then-seen_key : goal.returns-then-seen_key
 returns-then-seen_key c = let a = c.args in
@@ -36,13 +33,12 @@ loop-i-preserved c = let a = c.args in
     ∙ sym c.seen_key.ensures ∙ c.if-seen_key.false in
     let m : c.put_mark.new.marks ≡ set c.loop-i.marks (mark_of key_marks k) 1 =
     c.put_mark.ensures ∙ ap (λ (k : Key). set c.loop-i.marks (mark_of key_marks k) 1) c.key_at-k.ensures in (
-      omega arith,
-      ap length m ∙ length-set c.loop-i.marks (mark_of key_marks k) 1 ∙ c.loop-i.invariant.1,
+      ap length m ∙ length-set c.loop-i.marks (mark_of key_marks k) 1 ∙ c.loop-i.invariant.0,
       subst (λ (t : List ℕ). NoneTwice a.rows.now t (c.loop-i.i + 1)) (sym m)
-          (none_twice_more a.rows.now c.loop-i.marks c.loop-i.i (let w = c.loop-i.invariant.1 in omega arith) c.loop-i.invariant.2 e),
+          (none_twice_more a.rows.now c.loop-i.marks c.loop-i.i (let w = c.loop-i.invariant.0 in omega arith) c.loop-i.invariant.1 e),
     )
 
 pub returns : goal.returns
 returns c = let a = c.args in
     let e : c.loop-i.i ≡ a.n = omega arith in
-    sym (ap (λ (m : ℕ). once same_key (serial_keys a.rows.now m)) (sym e) ∙ c.loop-i.invariant.2.so_far)
+    sym (ap (λ (m : ℕ). once same_key (serial_keys a.rows.now m)) (sym e) ∙ c.loop-i.invariant.1.so_far)

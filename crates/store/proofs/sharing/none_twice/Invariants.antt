@@ -2,14 +2,10 @@
 -- its mark.
 -- Assumes nothing.
 use mathlib.Core.Path.{◌≡◌}
-use Prim.Native.Nat.{◌-◌, ◌≤◌}
 use lib.ListN.{length}
 use Rattle.store.specs.Tables.{key_marks}
 use Rattle.store.proofs.SharedSerials.{NoneTwice}
 use Rattle.store.proofs.sharing.none_twice.Given as goal
 
 abbrev pub invariant-loop-i : goal.invariant-loop-i
-invariant-loop-i l = (l.i ≤ l.n) × (length l.marks ≡ key_marks) × NoneTwice l.rows l.marks l.i
-
-abbrev pub decreases-loop-i : goal.decreases-loop-i
-decreases-loop-i l = l.n - l.i
+invariant-loop-i l = (length l.marks ≡ key_marks) × NoneTwice l.rows l.marks l.i

@@ -1,8 +1,0 @@
--- `put_handed` meets its contract.
--- Assumes nothing.
-use Rattle.hub.specs.BenchPut.{put_report_after}
-use Rattle.hub.proofs.put_handed.Goals as goal
-
-pub returns : goal.returns
-unfolding put_report_after
-returns c = rw (c.put_report.ensures, c.done.ensures.1)

@@ -1,0 +1,16 @@
+-- `reading::ReadingReadFields::extended_guid` meets its contract.
+-- Assumes nothing.
+use mathlib.Core.Path.{sym, ◌∙◌}
+use native.Mathlib.Omega.{arith}
+use Rattle.laws.proofs.Parts.{tail_part}
+use Rattle.objects.specs.Steps.{id_here}
+use Rattle.objects.proofs.ItemsAt.{id_fits, id_past}
+use Rattle.objects.proofs.reading.ReadingReadFields.extended_guid.Goals as goal
+
+pub returns-then-s-at : goal.returns-then-s-at
+unfolding id_here
+returns-then-s-at c = rw (c.in_ok-at.was, id_past _ _ c.if-s-at.true, c.at_place.ensures)
+
+pub overflow_add-result : goal.overflow_add-result
+overflow_add-result c = let e = rw tail_part at (sym c.item.ensures ∙ c.in-Ok.is) in
+    omega (arith, id_fits c.args.s.now c.in_ok-at.at c.in-Ok.x c.in-Ok.n e)

@@ -1,0 +1,10 @@
+-- What the calls answer, each as an Option or a Result of its parts; the constructors are named in the words of the documents.
+-- Assumes nothing.
+pub mod Found
+pub mod ReadingKey
+pub mod ReadElement
+pub mod Packaged
+pub mod Stored
+pub mod Beginning
+pub mod ReadKnowledge
+pub mod Item
