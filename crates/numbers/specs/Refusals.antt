@@ -1,5 +1,5 @@
 -- What a call tells, in document 01's terms: "Each refusal gives number, input .., place, and the needed length for 14 (else 0)."
--- For each enum that a call answers, one definition `tell..` gives number, input, place, needed length and values case by case.
+-- For each type that a call answers, one definition `tell..` gives number, input, place, needed length and values case by case.
 -- Assumes nothing.
 use Rattle.std.specs.Prelude.{ℕ, List, [], ◌∷◌, eqb}
 use Rattle.laws.specs.Pick.{pick}

@@ -9,7 +9,6 @@ use crate::bytes::{put_le, read_le};
 use crate::refusal::{Fault, Refusal, Wrote, at_front, too_short, within_limit};
 
 // A compact integer: the value, the bytes used, and the mark that it was padded, as a shorter form would do.
-// The value, the bytes used, and the mark that it was padded, as a shorter form would do.
 pub type Compact = Result<(u64, usize, bool), Refusal>;
 
 // Whether a caller takes a padded number; where it is refused, it is 3.

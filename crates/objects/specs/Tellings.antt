@@ -1,4 +1,4 @@
--- What the answers of readers along a layout tell, in document 01's terms: the values in the order of the enum, or the refusal.
+-- What the answers of readers along a layout tell, in document 01's terms: the values in the order of the type, or the refusal.
 -- Assumes nothing.
 use Rattle.std.specs.Prelude.{[], ◌∷◌}
 use Rattle.numbers.specs.Refusals.{Told, gives, refuses}

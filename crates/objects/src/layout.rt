@@ -223,7 +223,7 @@ fn short_is(w: u64, kind: u64, compound: bool) -> bool
     w % 4 == 0 && w / 8 % 64 == kind && (w / 4 % 2 == 1) == compound
 }
 
-// The start that `Reading::start` asks for, by its two bytes where they are one; a length of over 127 does not come in two bytes.
+// The start that `start` of `ReadObjects` asks for, by its two bytes where they are one; a length of over 127 does not come in two bytes.
 fn start_at(
     s: &[u8],
     at: usize,

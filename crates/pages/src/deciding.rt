@@ -48,7 +48,7 @@ pub struct Asked {
     pub known: usize,
 }
 
-// The flags of n elements: 1 where one is wanted, 0 where not.
+// The flag of each of all elements: 1 where it is wanted, 0 where not.
 fn mark_wanted(request: &[u8], a: Asked, all: Elements, known: &[u64], flags: &mut [u8])
     requires { (all.count ≤ length flags.old) × RangesStand known.now a.known }
     ensures { flags.new ≡ wanted_flags request.now a (ranges_at known.now 0 a.known) (elements_in all.entry.rows.now all.entry.ids.now all.entry.count) (drop all.entry.count flags.old) }

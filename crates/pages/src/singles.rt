@@ -14,7 +14,7 @@ use crate::whole::decide_queued;
 use order::queue::queue_rows;
 use store::table::Elements;
 
-// The longest page of those of n elements whose flag is not 0, queued in row order, each as long as its row says.
+// The longest page of those of all elements whose flag is not 0, queued in row order, each as long as its row says.
 pub(crate) fn decide_singles(
     all: Elements,
     flags: &[u8],

@@ -19,7 +19,7 @@ fn knows_element(table: &[u64], count: usize, x: Element) -> bool
     is_known(table, count, Guid::from(serial), serial.number)
 }
 
-// The flag of each of n elements whose serial number is known is put to 0. Ruled out (proofs/WrongAnswers): a known one that stays
+// The flag of each of all elements whose serial number is known is put to 0. Ruled out (proofs/WrongAnswers): a known one that stays
 // wanted; an unknown one that does not.
 pub(crate) fn clear_known(all: Elements, table: &[u64], count: usize, flags: &mut [u8])
     requires { (all.count ≤ length flags.old) × RangesStand table.now count }

@@ -20,7 +20,7 @@ pub struct Flagged {
     pub stored: usize,
 }
 
-// The positions of those of n rows whose flag is not 0, in the store's order, at the front of a queue. Only these need a length that is
+// The positions of those rows whose flag is not 0, in the store's order, at the front of a queue. Only these need a length that is
 // not long: of another row the column may hold anything.
 fn flagged_rows(weights: Weights, flags: &[u8], queue: &mut [u8]) -> Flagged
     requires { (weights.all.count ≤ most_elements) × (weights.all.count ≤ length flags.now) × (weights.all.count ≤ length queue.old) × ((i : ℕ) → i < weights.all.count → length_place weights.column i < length weights.lengths.now) × ((i : ℕ) → i < weights.all.count → 0 < get_or flags.now i 0 → (weighed weights.all.rows.now weights.all.ids.now weights.lengths.now weights.column i).length ≤ 2 ^ 32) }
@@ -85,7 +85,7 @@ fn try_all(weights: Weights, tried: Wanted, wanted: Wanted, t: &mut [u64], b: Bo
     decide(weights, wanted, t, 0, b)
 }
 
-// The longest page of those of n rows whose flag is not 0, each as long as the column has it, in the order of a queue of their positions.
+// The longest page of those rows whose flag is not 0, each as long as the column has it, in the order of a queue of their positions.
 // They are tried in the store's order first, where all of them may be taken at once.
 pub(crate) fn decide_queued(
     weights: Weights,

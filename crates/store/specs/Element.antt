@@ -112,7 +112,7 @@ element_at strict ids s c =
     element_on (place_of c) (fields_of strict ids (run_here s (opened strict.padding s c))) (value_of (data_of strict ids s c))
     (inside strict.padding s strict.levels element_type (data_of strict ids s c))
 
--- ---- what the answers tell: the values in the order of the enum, or the refusal
+-- ---- what the answers tell: the values in the order of the type, or the refusal
 
 -- the place behind, and the key
 abbrev pub tell_reading_key : ReadingKey → Told
