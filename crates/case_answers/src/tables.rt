@@ -54,7 +54,7 @@ fn filled(n: usize, count: usize) -> Option<Ends>
 }
 
 impl Tables {
-    pub fn new() -> Tables {
+    pub(crate) fn new() -> Tables {
         Tables {
             rows: [stores::UNTOUCHED; TABLE_NUMBERS],
             ranges: [stores::UNTOUCHED; TABLE_NUMBERS],
@@ -70,7 +70,7 @@ impl Tables {
 
     // What `first` tells, and behind it the rows of both tables; or that something behind these was changed. More rows than there
     // can be count as that. The GUIDs of ranges are little-endian numbers, which are told as they stand.
-    pub fn told<W: Write, F: FnOnce(&mut W) -> io::Result<()>>(
+    pub(crate) fn told<W: Write, F: FnOnce(&mut W) -> io::Result<()>>(
         &self,
         to: &mut W,
         n: usize,
@@ -92,7 +92,7 @@ impl Tables {
     }
 
     // A refusal; or that something in the tables was changed.
-    pub fn refused<W: Write>(&self, to: &mut W, r: Refusal) -> io::Result<()> {
+    pub(crate) fn refused<W: Write>(&self, to: &mut W, r: Refusal) -> io::Result<()> {
         if !self.kept(Ends { rows: 0, ranges: 0 }) {
             return say::touched(to);
         }

@@ -105,7 +105,7 @@ second_unlimited : true ≡ is_sendable 512 91 1000 2 92 1 178 → ⊥
 unfolding is_sendable
 second_unlimited h = impossible (cc)
 
--- ---- weighed_row, where the columns are of one number: the length that stands in the row; that of the next row
+-- ---- Weights::row, where the columns are of one number: the length that stands in the row; that of the next row
 
 abbrev length_weighed : ℕ
 length_weighed = (weighed (3 ∷ 46 ∷ 5 ∷ 0 ∷ 0 ∷ 7 ∷ []) (0 ∷ 0 ∷ 7 ∷ []) (100 ∷ 200 ∷ []) (record { width = 1; at = 0 }) 0).length

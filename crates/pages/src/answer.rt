@@ -20,7 +20,7 @@ use store::table::{Elements, ID_NUMBERS, MOST_ELEMENTS, ROW_NUMBERS};
 // How many numbers the lent table of ranges has at least.
 pub const KNOWLEDGE_NUMBERS: usize = 2048;
 
-// The answer's length, how many rows the store's table has, and how many the knowledge's; or the refusal.
+// The answer's length, how many rows the store's table has, and how many the knowledge's.
 #[derive(Drop)]
 pub struct Filled {
     pub length: usize,
@@ -28,6 +28,7 @@ pub struct Filled {
     pub ranges: usize,
 }
 
+// What was filled, or the refusal.
 pub type Answered = Result<Filled, Refusal>;
 
 // Whether a lent table has too few numbers.

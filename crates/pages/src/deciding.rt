@@ -4,7 +4,7 @@
 ghost use Rattle.std.specs.Prelude.{◌≡◌, ◌≤◌, length, drop};
 ghost use Rattle.ranges.specs.RangeTable.{ranges_at, RangesStand};
 ghost use Rattle.store.specs.Knowledge.{said_numbers};
-ghost use Rattle.store.specs.Tables.{elements_in};
+ghost use Rattle.store.specs.Elements.{elements_of};
 ghost use Rattle.pages.specs.Tables.{ToChoose, DecidesGroups};
 ghost use Rattle.pages.specs.Held.{SomeStore, WorkingTables, RequestHeld, wanted_flags, groups_wanted, bounds_for, PageReckoned, RequestReckoned, StoreReckoned};
 
@@ -26,7 +26,7 @@ use store::table::{Elements, ID_NUMBERS, MOST_ELEMENTS, ROW_NUMBERS};
 // A page carries at most so many ranges.
 pub const MOST_CARRIED: usize = 512;
 
-// The page that is sent, how long its answer is, and how many elements the store has; or the refusal.
+// The page that is sent, how long its answer is, and how many elements the store has.
 #[derive(Drop)]
 pub struct Reckoning {
     pub page: Sending,
@@ -34,6 +34,7 @@ pub struct Reckoning {
     pub elements: usize,
 }
 
+// What was reckoned, or the refusal.
 pub type Reckoned = Result<Reckoning, Refusal>;
 
 // A request that was read: its id, how many ranges a page for it may carry, its limit, where its filters stand, how many they are,
@@ -51,7 +52,7 @@ pub struct Asked {
 // The flag of each of all elements: 1 where it is wanted, 0 where not.
 fn mark_wanted(request: &[u8], a: Asked, all: Elements, known: &[u64], flags: &mut [u8])
     requires { (all.count ≤ length flags.old) × RangesStand known.now a.known }
-    ensures { flags.new ≡ wanted_flags request.now a (ranges_at known.now 0 a.known) (elements_in all.entry.rows.now all.entry.ids.now all.entry.count) (drop all.entry.count flags.old) }
+    ensures { flags.new ≡ wanted_flags request.now a (ranges_at known.now 0 a.known) (elements_of all.entry) (drop all.entry.count flags.old) }
 {
     choose(request, Ok((a.place, 0)), a.count, all, flags);
     clear_known(all, known, a.known, flags);
@@ -80,7 +81,7 @@ fn decide_page(
     room: usize,
 ) -> Chosen
     requires { ToChoose all.rows.now all.ids.now all.count queue.old known.old a.known a.most }
-    ensures { DecidesGroups all.entry.rows.now all.entry.ids.now (groups_wanted request.now a (ranges_at known.old 0 a.known) (elements_in all.entry.rows.now all.entry.ids.now all.entry.count)) (ranges_at known.old 0 a.known) (bounds_for a index room) result.decided result.rows queue.new known.new }
+    ensures { DecidesGroups all.entry.rows.now all.entry.ids.now (groups_wanted request.now a (ranges_at known.old 0 a.known) (elements_of all.entry)) (ranges_at known.old 0 a.known) (bounds_for a index room) result.decided result.rows queue.new known.new }
 {
     let mut flags = [0u8; MOST_ELEMENTS];
     mark_wanted(request, a, all, known, &mut flags);

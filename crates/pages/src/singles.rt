@@ -3,7 +3,7 @@
 ghost use Rattle.std.specs.Prelude.{◌≡◌, ◌^◌, ◌≤◌, length};
 ghost use Rattle.laws.specs.Placed.{laid};
 ghost use Rattle.ranges.specs.RangeTable.{ranges_at};
-ghost use Rattle.store.specs.Tables.{elements_in};
+ghost use Rattle.store.specs.Elements.{elements_of};
 ghost use Rattle.order.specs.Order.{ordered};
 ghost use Rattle.order.specs.Queue.{chosen, queue_of};
 ghost use Rattle.pages.specs.Tables.{ToChoose, DecidesPage};
@@ -24,7 +24,7 @@ pub(crate) fn decide_singles(
     bounds: Bounds,
 ) -> Decided
     requires { ToChoose all.rows.now all.ids.now all.count queue.old known.old count bounds.most × (all.count ≤ length flags.now) × (bounds.fixed ≤ 2 ^ 32) }
-    ensures { (queue.new ≡ laid 0 (queue_of (elements_in all.entry.rows.now all.entry.ids.now all.entry.count) flags.now) queue.old) × DecidesPage (ordered (chosen (elements_in all.entry.rows.now all.entry.ids.now all.entry.count) flags.now)) (ranges_at known.old 0 count) bounds result known.new }
+    ensures { (queue.new ≡ laid 0 (queue_of (elements_of all.entry) flags.now) queue.old) × DecidesPage (ordered (chosen (elements_of all.entry) flags.now)) (ranges_at known.old 0 count) bounds result known.new }
 {
     let wanted = queue_rows(all, flags, queue);
     let weights = Weights {
