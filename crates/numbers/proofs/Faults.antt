@@ -1,6 +1,6 @@
 -- Each fault has its own number, from 1 to 16, and each of these is a fault's.
 -- Assumes nothing.
-use mathlib.Core.Path.{◌≡◌, refl}
+use mathlib.Core.Path.{◌≡◌, ap, refl, sym, ◌∙◌}
 use Prim.Native.Nat.{ℕ, ◌≤◌}
 use native.Mathlib.Omega.{arith}
 use lib.Dec.{eqb}
@@ -28,6 +28,10 @@ fault_of_number TablesTooShort = refl
 fault_of_number OutputTooShort = refl
 fault_of_number OtherIndex = refl
 fault_of_number NoSerialLeft = refl
+
+-- faults of one number are the same
+pub same_fault : (f g : Fault) → number_of f ≡ number_of g → f ≡ g
+same_fault f g e = sym (fault_of_number f) ∙ (ap fault_of e ∙ fault_of_number g)
 
 -- the choice of one more fault
 one_more : (k n : ℕ) (f g : Fault) → number_of f ≡ n → ((k ≡ n → ⊥) → number_of g ≡ k) → number_of (pick (eqb k n) f g) ≡ k

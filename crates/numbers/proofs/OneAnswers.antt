@@ -1,16 +1,17 @@
 -- Each call for a single item determines its answer, and the buffer that it is lent: any two that its promise allows are equal.
 -- Assumes nothing.
-use mathlib.Core.Path.{◌≡◌, ap, sym, ◌∙◌}
+use mathlib.Core.Path.{◌≡◌, ap, sym, refl, ◌∙◌}
 use mathlib.Core.Bool.{true, false}
-use Prim.Native.Nat.{ℕ}
+use mathlib.Core.Logic.{◌↔◌}
+use Prim.Native.Nat.{ℕ, ◌≤◌, ◌<◌}
 use mathlib.Core.List.{List, [], ◌∷◌}
-use Rattle.laws.proofs.Cases.{impossible}
+use lib.ListN.{length}
+use Rattle.std.specs.Prelude.{Result, Ok, Err, IsOk, IsErrOf, ⊤}
+use Rattle.laws.proofs.Cases.{by_lt, impossible}
 use Rattle.laws.proofs.OneAnswer.{Telling, one_answer, one_outcome}
-use Rattle.numbers.specs.Refusals.{Told, refuses, tell_wrote, number_of, fault_of}
+use Rattle.numbers.specs.Refusals.{Told, refuses, tell_wrote, longest_input, over_long}
 use Rattle.numbers.specs.Calls.{tell_compact, tell_extended_guid, tell_serial, ReadsCompact, ReadsExtendedGuid, ReadsSerial, Writes}
-use Rattle.numbers.specs.declared.refusal.Fault.{Fault}
 use Rattle.numbers.specs.declared.refusal.Refusal.{Refusal}
-use Rattle.numbers.proofs.Faults.{fault_of_number}
 use Rattle.numbers.specs.declared.guid.Guid.{Guid}
 use Rattle.numbers.specs.Results.Wrote.{Wrote}
 use Rattle.numbers.specs.Results.Wrote as wrote
@@ -29,15 +30,11 @@ use Rattle.numbers.specs.Results.ReadSerial as serial
 pub values_of : (a b : Told) → a ≡ b → a.values ≡ b.values
 values_of a b e = ap (λ (t : Told). t.values) e
 
--- what holds a fault and three numbers, or two numbers, is known by them
-abbrev refusal_of : Fault → ℕ → ℕ → ℕ → Refusal
-refusal_of f i p d = record { fault = f; input = i; place = p; needed = d }
+-- what holds four numbers, or two, is known by them
+abbrev refusal_of : ℕ → ℕ → ℕ → ℕ → Refusal
+refusal_of n i p d = record { number = n; input = i; place = p; needed = d }
 
--- faults of one number are the same
-same_fault : (f g : Fault) → number_of f ≡ number_of g → f ≡ g
-same_fault f g e = sym (fault_of_number f) ∙ (ap fault_of e ∙ fault_of_number g)
-
-same_refusal : {f f' : Fault} {i p d i' p' d' : ℕ} → f ≡ f' → i ≡ i' → p ≡ p' → d ≡ d' → refusal_of f i p d ≡ refusal_of f' i' p' d'
+same_refusal : {n i p d n' i' p' d' : ℕ} → n ≡ n' → i ≡ i' → p ≡ p' → d ≡ d' → refusal_of n i p d ≡ refusal_of n' i' p' d'
 same_refusal a b c d = cc
 
 abbrev pub guid_of_lem : ℕ → ℕ → Guid
@@ -48,7 +45,7 @@ same_guid a b = cc
 
 pub refuses_telling : Telling refuses
 refuses_telling r q e =
-    same_refusal (same_fault r.fault q.fault (ap (λ (t : Told). t.number) e)) (ap (λ (t : Told). t.input) e) (ap (λ (t : Told). t.place) e) (ap (λ (t : Told). t.needed) e)
+    same_refusal (ap (λ (t : Told). t.number) e) (ap (λ (t : Told). t.input) e) (ap (λ (t : Told). t.place) e) (ap (λ (t : Told). t.needed) e)
 
 pub wrote_telling : Telling tell_wrote
 wrote_telling (wrote.Done n) (wrote.Done m) e = let v = values_of _ _ e in cc
@@ -108,3 +105,14 @@ read_serial_one s r q a b = one_answer serial_telling a b
 -- of any item's bytes w, so of every call that writes one
 pub writes_one : (w entry : List ℕ) (r q : Wrote) (x y : List ℕ) → Writes w entry r x → Writes w entry q y → (r ≡ q) × (x ≡ y)
 writes_one w entry r q x y a b = one_outcome wrote_telling a b
+
+-- what is answered of an input within the limit is nothing more
+within_is : (r : Result ⊤ Refusal) → IsOk r → r ≡ Ok tt
+within_is (Ok x) h = refl
+within_is (Err e) h = impossible (cc)
+
+pub within_limit_one : (s : List ℕ) (r q : Result ⊤ Refusal)
+    → (IsOk r ↔ (length s ≤ longest_input)) × (IsErrOf r over_long ↔ (longest_input < length s))
+    → (IsOk q ↔ (length s ≤ longest_input)) × (IsErrOf q over_long ↔ (longest_input < length s)) → r ≡ q
+within_limit_one s r q a b =
+    by_lt longest_input (length s) (λ l. a.1.1 l ∙ sym (b.1.1 l)) (λ l. within_is r (a.0.1 l) ∙ sym (within_is q (b.0.1 l)))

@@ -47,7 +47,7 @@ fault_of k =
     (pick (eqb k 15) OtherIndex NoSerialLeft))))))))))))))
 
 abbrev pub refusal_number : Refusal → ℕ
-refusal_number r = number_of r.fault
+refusal_number r = r.number
 
 pub record Told : Type 0 where
   pub number : ℕ  -- 0: no refusal
@@ -62,26 +62,26 @@ gives values = record { number = 0; input = 0; place = 0; needed = 0; values = v
 
 -- a refusal, in the paper's four numbers
 abbrev pub refuses : Refusal → Told
-refuses r = record { number = refusal_number r; input = r.input; place = r.place; needed = r.needed; values = [] }
+refuses r = record { number = r.number; input = r.input; place = r.place; needed = r.needed; values = [] }
 
 -- a fault of the item at the front of the first input
 abbrev pub fault : ℕ → Refusal
-fault k = record { fault = fault_of k; input = 0; place = 0; needed = 0 }
+fault k = record { number = k; input = 0; place = 0; needed = 0 }
 
 -- a fault at a place of the first input
 abbrev pub fault_at : ℕ → ℕ → Refusal
-fault_at k p = record { fault = fault_of k; input = 0; place = p; needed = 0 }
+fault_at k p = record { number = k; input = 0; place = p; needed = 0 }
 
 -- 1: "an input is over 16,777,216 bytes"; "the limit as its place"
 abbrev pub longest_input : ℕ
 longest_input = 16777216
 
 abbrev pub over_long : Refusal
-over_long = record { fault = InputTooLong; input = 0; place = longest_input; needed = 0 }
+over_long = record { number = 1; input = 0; place = longest_input; needed = 0 }
 
 -- 14: the output is shorter "than the page of 1 .., or than the single item to be written"; it "names the store, place 0"
 abbrev pub too_short : ℕ → Refusal
-too_short n = record { fault = OutputTooShort; input = 0; place = 0; needed = n }
+too_short n = record { number = 14; input = 0; place = 0; needed = n }
 
 -- writing a single item: how many bytes it took
 abbrev pub tell_wrote : Wrote → Told

@@ -41,7 +41,7 @@ fn read_form(s: &[u8], k: usize) -> Compact
 {
     let n = size_of(k);
     if s.len() < n {
-        return Err(at_front(Fault::RunsPast));
+        return Err(at_front(Fault::RunsPast as u8));
     }
     let v = value_of(s, k, n);
     let least: u64 = 1 << (7 * k);
@@ -53,7 +53,7 @@ fn form_at(s: &[u8]) -> Compact
     ensures { result ≡ read_compact s.now }
 {
     if s.len() == 0 {
-        return Err(at_front(Fault::RunsPast));
+        return Err(at_front(Fault::RunsPast as u8));
     }
     let b = s[0];
     if b == 0 {
@@ -70,7 +70,7 @@ pub fn item(s: &[u8], padding: bool) -> Compact
 {
     let (v, n, padded) = form_at(s)?;
     if padded && !padding {
-        return Err(at_front(Fault::NoForm));
+        return Err(at_front(Fault::NoForm as u8));
     }
     Ok((v, n, padded))
 }

@@ -22,11 +22,11 @@ fn read_short(s: &[u8], k: usize, m: usize, least: u64) -> ReadExtendedGuid
 {
     let n = m + 16;
     if s.len() < n {
-        return Err(at_front(Fault::RunsPast));
+        return Err(at_front(Fault::RunsPast as u8));
     }
     let x = read_le(s, m) >> (k + 1);
     if x < least {
-        return Err(at_front(Fault::NoForm));
+        return Err(at_front(Fault::NoForm as u8));
     }
     let g = guid_at(&s[m..]);
     Ok((Some((g, x as u32)), n))
@@ -37,11 +37,11 @@ fn read_long(s: &[u8]) -> ReadExtendedGuid
     ensures { result ≡ long_form s.now }
 {
     if s.len() < 21 {
-        return Err(at_front(Fault::RunsPast));
+        return Err(at_front(Fault::RunsPast as u8));
     }
     let x = read_le(&s[17..], 4);
     if x < 0x20000 {
-        return Err(at_front(Fault::NoForm));
+        return Err(at_front(Fault::NoForm as u8));
     }
     let g = guid_at(&s[1..]);
     Ok((Some((g, x as u32)), 21))
@@ -52,7 +52,7 @@ pub fn item(s: &[u8]) -> ReadExtendedGuid
     ensures { result ≡ read_extended_guid s.now }
 {
     if s.len() == 0 {
-        return Err(at_front(Fault::RunsPast));
+        return Err(at_front(Fault::RunsPast as u8));
     }
     let b = s[0];
     if b == 0 {
@@ -64,7 +64,7 @@ pub fn item(s: &[u8]) -> ReadExtendedGuid
         5 => read_short(s, 5, 2, 0x20),
         6 => read_short(s, 6, 3, 0x400),
         7 => read_long(s),
-        _ => Err(at_front(Fault::NoForm)),
+        _ => Err(at_front(Fault::NoForm as u8)),
     }
 }
 

@@ -1,6 +1,6 @@
 // How every call of the project refuses, and what a call that writes one item answers.
 ghost use Rattle.std.specs.Prelude.{◌≡◌, ◌≤◌, ◌<◌, ◌↔◌, length, IsOk, IsErrOf};
-ghost use Rattle.numbers.specs.Refusals.{number_of, fault_at, longest_input, over_long, too_short};
+ghost use Rattle.numbers.specs.Refusals.{number_of, fault, fault_at, longest_input, over_long, too_short};
 
 // Why a call refuses, by document 01's numbers.
 #[derive(Clone, Copy, PartialEq, Eq, Debug)]
@@ -32,11 +32,11 @@ impl Fault {
     }
 }
 
-// Document 01, 'Why it says no': the fault, the input (0: the store, or the first), the place, and the needed length
+// Document 01, 'Why it says no': the number, the input (0: the store, or the first), the place, and the needed length
 // for 14 (else 0).
 #[derive(Clone, Copy)]
 pub struct Refusal {
-    pub fault: Fault,
+    pub number: u8,
     pub input: u8,
     pub place: usize,
     pub needed: usize,
@@ -46,19 +46,18 @@ pub struct Refusal {
 pub const LONGEST_INPUT: usize = 16777216;
 
 // A fault of the item at the front of the first input.
-pub fn at_front(fault: Fault) -> Refusal
-    ensures { result ≡ fault_at (number_of fault) 0 }
+pub fn at_front(number: u8) -> Refusal
+    ensures { result ≡ fault number }
 {
-    at_place(fault, 0)
+    at_place(number, 0)
 }
 
 // The same at a place.
-#[tactic(auto, using(crate::proofs::Faults::fault_of_number))]
-pub fn at_place(fault: Fault, place: usize) -> Refusal
-    ensures { result ≡ fault_at (number_of fault) place }
+pub fn at_place(number: u8, place: usize) -> Refusal
+    ensures { result ≡ fault_at number place }
 {
     Refusal {
-        fault,
+        number,
         input: 0,
         place,
         needed: 0,
@@ -70,7 +69,7 @@ pub fn over_long() -> Refusal
     ensures { result ≡ over_long }
 {
     Refusal {
-        fault: Fault::InputTooLong,
+        number: Fault::InputTooLong as u8,
         input: 0,
         place: LONGEST_INPUT,
         needed: 0,
@@ -93,7 +92,7 @@ pub fn too_short(needed: usize) -> Refusal
     ensures { result ≡ too_short needed }
 {
     Refusal {
-        fault: Fault::OutputTooShort,
+        number: Fault::OutputTooShort as u8,
         input: 0,
         place: 0,
         needed,

@@ -19,7 +19,7 @@ fn read_numbered(s: &[u8]) -> ReadSerial
     ensures { result ≡ numbered s.now }
 {
     if s.len() < 25 {
-        return Err(at_front(Fault::RunsPast));
+        return Err(at_front(Fault::RunsPast as u8));
     }
     let g = guid_at(&s[1..]);
     let x = read_le(&s[17..], 8);
@@ -31,7 +31,7 @@ pub fn item(s: &[u8]) -> ReadSerial
     ensures { result ≡ read_serial s.now }
 {
     if s.len() == 0 {
-        return Err(at_front(Fault::RunsPast));
+        return Err(at_front(Fault::RunsPast as u8));
     }
     let b = s[0];
     if b == 0 {
@@ -40,7 +40,7 @@ pub fn item(s: &[u8]) -> ReadSerial
     if b == 128 {
         return read_numbered(s);
     }
-    Err(at_front(Fault::NoForm))
+    Err(at_front(Fault::NoForm as u8))
 }
 
 // A single serial number. Ruled out (proofs/WrongAnswers): telling 2 of `81`, a first byte in no form; telling 3 of `80`
