@@ -26,7 +26,6 @@ use Rattle.numbers.specs.Results.ReadExtendedGuid as extended
 use Rattle.numbers.specs.Results.ReadSerial.{ReadSerial}
 use Rattle.numbers.specs.Results.ReadSerial as serial
 use Rattle.numbers.proofs.Within.{ItemFault, CompactWithin, compact_within, ExtendedGuidWithin, extended_guid_within, SerialWithin, serial_within}
-use Rattle.numbers.proofs.Faults.{number_of_fault}
 use Rattle.objects.specs.Header.{header_at, length_at}
 use Rattle.objects.specs.Nesting.{run_at}
 use Rattle.objects.specs.Steps.{then, no, place_of, valued, need, fixed_in, number_on, number, number_is_on, number_is, null_id_on, null_id, skip, guid_here, id_on, id_here, serial_on, serial_here, same_bit, length_to, start_on, start_here, length_is, start_of_length, end_on, end_here, start_is, next_is, inside_on, inside, finish, run_here, closed_at, closed, Behind, FaultNumber, FaultWithin, Good, on_field}
@@ -57,7 +56,7 @@ onto f g = record { behind = λ p h. g.behind p (f.behind p h); good = λ h. g.g
 
 -- a fault that a step gives
 pub fault_within : (m k p : ℕ) → FaultNumber k → p ≤ m → FaultWithin m (fault_at k p)
-fault_within m k p n h = record { number = let e = number_of_fault k (omega arith) (omega arith) in (omega arith, omega arith); input = refl; place = h; needed = refl }
+fault_within m k p n h = record { number = n; input = refl; place = h; needed = refl }
 
 fails : (d : List ℕ) (c : Reading) (k p : ℕ) → FaultNumber k → (Good d c → p ≤ length d) → Onward d c (no k p)
 fails d c k p n h = record { behind = λ q b. tt; good = λ g. fault_within (length d) k p n (h g) }

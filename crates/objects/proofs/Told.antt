@@ -7,7 +7,7 @@ use mathlib.Core.List.{List}
 use Prim.Native.Nat.{ℕ, ◌+◌, ◌-◌, ◌≤◌, ◌<◌}
 use native.Mathlib.Omega.{arith}
 use lib.ListN.{length}
-use Rattle.numbers.specs.Refusals.{fault_at, refusal_number, number_of, fault_of}
+use Rattle.numbers.specs.Refusals.{fault_at, refusal_number}
 use Rattle.numbers.specs.declared.refusal.Refusal.{Refusal}
 use Rattle.objects.specs.Header.{header_at}
 use Rattle.objects.specs.Nesting.{and_on, object_at, run_at}
@@ -51,7 +51,7 @@ told_stops padding s at d placed go n short t h = t ∙ stops s at placed (objec
 
 -- ---- a refusal, by both
 
-fault_is : (r : Refusal) → NestingFault r → (r ≡ fault_at (number_of (fault_of (refusal_number r))) r.place) × (refusal_number r ≤ 6)
+fault_is : (r : Refusal) → NestingFault r → (r ≡ fault_at (refusal_number r) r.place) × (refusal_number r ≤ 6)
 fault_is r (two p) = (refl, omega arith)
 fault_is r (three p) = (refl, omega arith)
 fault_is r (four p) = (refl, omega arith)
@@ -59,7 +59,7 @@ fault_is r (six p) = (refl, omega arith)
 
 -- what is told by number is a byte; what is told by place is a refusal too; and the fault is known by both
 abbrev pub Both : Passed → ℕ → ℕ → Type 0
-Both p n q = (n - refused_from ≤ 6) × (refused_from ≤ q) × (p ≡ Refused (fault_at (number_of (fault_of (n - refused_from))) (q - refused_from)))
+Both p n q = (n - refused_from ≤ 6) × (refused_from ≤ q) × (p ≡ Refused (fault_at (n - refused_from) (q - refused_from)))
 
 both : (s : List ℕ) (at : ℕ) (p : Passed) → length s < refused_from → Ahead s at p → refused_from ≤ told_number false p → Both p (told_number false p) (told_number true p)
 unfolding told_number told_refusal

@@ -211,7 +211,7 @@ finish s c = then c (λ at. pick (ltb at (length s)) (no 5 at) c)
 
 -- a refusal carried back to the whole input
 abbrev pub carried : ℕ → Refusal → Refusal
-carried from r = record { fault = r.fault; input = r.input; place = from + r.place; needed = r.needed }
+carried from r = record { number = r.number; input = r.input; place = from + r.place; needed = r.needed }
 
 -- the run that begins here, or as much of it as there is
 unfoldable pub run_here : List ℕ → Reading → List ℕ

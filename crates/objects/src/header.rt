@@ -51,7 +51,7 @@ fn start_of(t: &[u8], at: usize, n: usize, span: u64) -> ReadHeader
     ensures { result ≡ sized at n (start_of span) t.now }
 {
     if t.len() < n {
-        return Err(at_place(Fault::RunsPast, at));
+        return Err(at_place(Fault::RunsPast as u8, at));
     }
     let w = read_le(t, n);
     let rest = w / 8;
@@ -64,7 +64,7 @@ fn end_of(t: &[u8], at: usize, n: usize) -> ReadHeader
     ensures { result ≡ sized at n end_of t.now }
 {
     if t.len() < n {
-        return Err(at_place(Fault::RunsPast, at));
+        return Err(at_place(Fault::RunsPast as u8, at));
     }
     Ok(Header::End(read_le(t, n) / 4, n))
 }
@@ -74,7 +74,7 @@ fn header_of(t: &[u8], at: usize) -> ReadHeader
     ensures { result ≡ header_of at t.now }
 {
     if t.len() == 0 {
-        return Err(at_place(Fault::RunsPast, at));
+        return Err(at_place(Fault::RunsPast as u8, at));
     }
     let low = t[0] % 4;
     match low {
@@ -90,7 +90,7 @@ pub(crate) fn header_at(s: &[u8], at: usize) -> ReadHeader
     ensures { result ≡ header_at s.now at }
 {
     if s.len() < at {
-        return Err(at_place(Fault::RunsPast, at));
+        return Err(at_place(Fault::RunsPast as u8, at));
     }
     header_of(&s[at..], at)
 }
@@ -103,11 +103,11 @@ pub(crate) fn length_at(s: &[u8], at: usize, n: u64, padding: bool) -> Length
         return Ok((n, at));
     }
     if s.len() < at {
-        return Err(at_place(Fault::RunsPast, at));
+        return Err(at_place(Fault::RunsPast as u8, at));
     }
     match numbers::compact::item(&s[at..], padding) {
         Ok((v, m, _)) => Ok((v, at + m)),
-        Err(r) => Err(at_place(r.fault, at)),
+        Err(r) => Err(at_place(r.number, at)),
     }
 }
 

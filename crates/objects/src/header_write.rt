@@ -94,7 +94,7 @@ pub fn write_start(out: &mut [u8], kind: u64, compound: bool, length: u64) -> Wr
     ensures { WritesStart kind compound length out.old result out.new }
 {
     if 0x3FFF < kind {
-        return Err(at_front(Fault::NoForm));
+        return Err(at_front(Fault::NoForm as u8));
     }
     if is_short(kind, length) {
         let x = start_number(0, 64, compound, kind, length);
@@ -109,7 +109,7 @@ pub fn write_end(out: &mut [u8], kind: u64) -> Wrote
     ensures { WritesEnd kind out.old result out.new }
 {
     if 0x3FFF < kind {
-        return Err(at_front(Fault::NoForm));
+        return Err(at_front(Fault::NoForm as u8));
     }
     if kind < 64 {
         return write_number(out, 1, 1 + kind * 4);

@@ -141,7 +141,7 @@ impl ReadObjects for Reading {
     {
         let (at, v) = self?;
         if at < s.len() {
-            return Err(at_place(Fault::WrongLayout, at));
+            return Err(at_place(Fault::WrongLayout as u8, at));
         }
         Ok((at, v))
     }
@@ -175,7 +175,7 @@ fn length_is(c: Reading, n: u64, p: usize) -> Reading
 {
     let (from, v) = c?;
     if v != n {
-        return Err(at_place(Fault::WrongLayout, p));
+        return Err(at_place(Fault::WrongLayout as u8, p));
     }
     Ok((from, v))
 }
@@ -205,12 +205,12 @@ fn end_at(s: &[u8], at: usize, kind: u64) -> Reading
         }
     }
     match header_at(s, at)? {
-        Header::Start(_, _, _, _) => Err(at_place(Fault::WrongLayout, at)),
+        Header::Start(_, _, _, _) => Err(at_place(Fault::WrongLayout as u8, at)),
         Header::End(k, used) => {
             if k == kind {
                 return Ok((at + used, 0));
             }
-            Err(at_place(Fault::WrongEnd, at))
+            Err(at_place(Fault::WrongEnd as u8, at))
         }
     }
 }
@@ -261,16 +261,16 @@ fn start_by_header(
     match header_at(s, at)? {
         Header::End(k, _) => {
             if k == outer {
-                return Err(at_place(Fault::WrongLayout, at));
+                return Err(at_place(Fault::WrongLayout as u8, at));
             }
-            Err(at_place(Fault::WrongEnd, at))
+            Err(at_place(Fault::WrongEnd as u8, at))
         }
         Header::Start(k, b, n, used) => {
             if k != kind || b != compound {
-                return Err(at_place(Fault::WrongLayout, at));
+                return Err(at_place(Fault::WrongLayout as u8, at));
             }
             if !room {
-                return Err(at_place(Fault::TooMany, at));
+                return Err(at_place(Fault::TooMany as u8, at));
             }
             length_to(s, at + used, n, padding)
         }
@@ -298,7 +298,7 @@ fn carry(from: usize, r: Refusal) -> Refusal
     ensures { result ≡ carried from r }
 {
     Refusal {
-        fault: r.fault,
+        number: r.number,
         input: r.input,
         place: from + r.place,
         needed: r.needed,
@@ -313,10 +313,10 @@ fn closed_at(from: usize, n: u64, m: usize, f: Reading) -> Reading
         Err(r) => Err(carry(from, r)),
         Ok((p, v)) => {
             if p < m {
-                return Err(at_place(Fault::WrongLayout, from + p));
+                return Err(at_place(Fault::WrongLayout as u8, from + p));
             }
             if (m as u64) < n {
-                return Err(at_place(Fault::RunsPast, from + m));
+                return Err(at_place(Fault::RunsPast as u8, from + m));
             }
             Ok((from + m, v))
         }

@@ -5,7 +5,6 @@
 // is one number, since an enum would come back through memory from every compound object; `pass_object` and `pass_run` make a `Passed` of
 // it, once.
 ghost use Rattle.std.specs.Prelude.{◌≡◌, ◌≤◌, ◌<◌, length};
-ghost use Rattle.numbers.specs.Refusals.{fault_of};
 ghost use Rattle.objects.specs.Nesting.{data_past, object_at, run_at};
 ghost use Rattle.objects.specs.Next.{short_number, next_at, opened_at, met_by, met_at, refused_from, told_refusal, told_number};
 ghost use Rattle.objects.specs.Header.{header_at};
@@ -25,7 +24,7 @@ fn data_past(s: &[u8], at: usize, n: u64, padding: bool) -> Passed
     let (v, from) = length_at(s, at, n, padding)?;
     let left = left_of(s.len(), from);
     if (left as u64) < v {
-        return Err(at_place(Fault::RunsPast, from));
+        return Err(at_place(Fault::RunsPast as u8, from));
     }
     Ok(from + v as usize)
 }
@@ -48,7 +47,7 @@ fn next_by_header(s: &[u8], at: usize, depth: usize, padding: bool) -> Result<Ne
         Header::End(kind, used) => Ok(Next::Ends(kind, at + used)),
         Header::Start(kind, compound, n, used) => {
             if compound && depth == 0 {
-                return Err(at_place(Fault::TooDeep, at));
+                return Err(at_place(Fault::TooDeep as u8, at));
             }
             let end = data_past(s, at + used, n, padding)?;
             if compound {
@@ -98,31 +97,7 @@ fn told_refusal(r: Refusal, placed: bool) -> usize
     if placed {
         return REFUSED + r.place;
     }
-    REFUSED + r.fault.number() as usize
-}
-
-// The fault of a number from 1 to 16; of any other the last.
-fn fault_of(number: u8) -> Fault
-    ensures { result ≡ fault_of number }
-{
-    match number {
-        1 => Fault::InputTooLong,
-        2 => Fault::RunsPast,
-        3 => Fault::NoForm,
-        4 => Fault::WrongEnd,
-        5 => Fault::WrongLayout,
-        6 => Fault::TooDeep,
-        7 => Fault::WrongVersion,
-        8 => Fault::NotServed,
-        9 => Fault::TooMany,
-        10 => Fault::NullName,
-        11 => Fault::SeenBefore,
-        12 => Fault::FromAboveTo,
-        13 => Fault::TablesTooShort,
-        14 => Fault::OutputTooShort,
-        15 => Fault::OtherIndex,
-        _ => Fault::NoSerialLeft,
-    }
+    REFUSED + r.number as usize
 }
 
 // The object at a place of the input, with so many compound objects still to be opened: the run inside it has one level fewer. What comes
@@ -140,7 +115,10 @@ fn read_object(s: &[u8], at: usize, depth: usize, placed: bool, padding: bool) -
         match next_by_header(s, at, depth, padding) {
             Err(r) => return told_refusal(r, placed),
             Ok(Next::Past(e)) => return e,
-            Ok(Next::Ends(_, _)) => return told_refusal(at_place(Fault::WrongEnd, at), placed),
+            Ok(Next::Ends(_, _)) => return told_refusal(
+                at_place(Fault::WrongEnd as u8, at),
+                placed,
+            ),
             Ok(Next::Opens(k, e)) => {
                 kind = k;
                 inside = e;
@@ -239,14 +217,14 @@ pub fn pass_object(s: &[u8], at: usize, depth: usize, padding: bool) -> Passed
     ensures { result ≡ object_at padding s.now at depth }
 {
     if s.len() < at {
-        return Err(at_place(Fault::RunsPast, at));
+        return Err(at_place(Fault::RunsPast as u8, at));
     }
     let e = read_object(s, at, depth, false, padding);
     if e < REFUSED {
         return Ok(e);
     }
     let place = read_object(s, at, depth, true, padding) - REFUSED;
-    Err(at_place(fault_of((e - REFUSED) as u8), place))
+    Err(at_place((e - REFUSED) as u8, place))
 }
 
 // A run, as a `Passed`, like an object: the same lines around another reader, which would be called twice in a closure, too. Ruled out (proofs/WrongAnswers): `09`, an end of type 2, taken for one of type 1; a run without
@@ -255,12 +233,12 @@ pub(crate) fn pass_run(s: &[u8], at: usize, depth: usize, kind: u64, padding: bo
     ensures { result ≡ run_at padding s.now at depth kind }
 {
     if s.len() < at {
-        return Err(at_place(Fault::RunsPast, at));
+        return Err(at_place(Fault::RunsPast as u8, at));
     }
     let e = read_run(s, at, depth, kind, false, padding);
     if e < REFUSED {
         return Ok(e);
     }
     let place = read_run(s, at, depth, kind, true, padding) - REFUSED;
-    Err(at_place(fault_of((e - REFUSED) as u8), place))
+    Err(at_place((e - REFUSED) as u8, place))
 }

@@ -2,7 +2,6 @@
 // first fault from left to right stays.
 ghost use Rattle.std.specs.Prelude.{◌≡◌, ◌+◌, ◌-◌, ◌≤◌, ◌<◌, length, take, drop};
 ghost use Rattle.laws.specs.Bytes.{le};
-ghost use Rattle.numbers.specs.Refusals.{number_of};
 ghost use Rattle.objects.specs.Steps.{place_of, value_of, valued, need, fixed_in, number, number_is, null_id, skip, guid_here, id_here, serial_here, on_field};
 
 use crate::header::left_of;
@@ -38,18 +37,18 @@ pub trait ReadFields {
     // The number to carry on.
     fn valued(self, v: u64) -> Reading;
 
-    // The fault at p, unless a test holds.
-    fn need(self, fine: bool, fault: Fault, p: usize) -> Reading;
+    // Refusal k at p, unless a test holds.
+    fn need(self, fine: bool, k: u8, p: usize) -> Reading;
 
-    // A little-endian number of n bytes, from least to most; else the fault at its place.
-    fn fixed_in(self, s: &[u8], n: usize, least: u64, most: u64, fault: Fault) -> Reading
+    // A little-endian number of n bytes, from least to most; else k at its place.
+    fn fixed_in(self, s: &[u8], n: usize, least: u64, most: u64, k: u8) -> Reading
         requires { n ≤ 8 };
 
     // A compact integer, with its own 2 and 3, which is for padding that is not taken.
     fn number(self, s: &[u8], padding: bool) -> Reading;
 
-    // A compact integer that must be x; else the fault at its place.
-    fn number_is(self, s: &[u8], x: u64, fault: Fault, padding: bool) -> Reading;
+    // A compact integer that must be x; else k at its place.
+    fn number_is(self, s: &[u8], x: u64, k: u8, padding: bool) -> Reading;
 
     // n bytes that are not divided.
     fn skip(self, s: &[u8], n: u64) -> Reading;
@@ -60,8 +59,8 @@ pub trait ReadFields {
     // An extended GUID, with its own 2 and 3.
     fn extended_guid(self, s: &[u8]) -> ReadingId;
 
-    // An extended GUID that must be null; else the fault at its place.
-    fn null_id(self, s: &[u8], fault: Fault) -> Reading;
+    // An extended GUID that must be null; else k at its place.
+    fn null_id(self, s: &[u8], k: u8) -> Reading;
 
     // A serial number, with its own 2 and 3.
     fn serial(self, s: &[u8]) -> ReadingSerial;
@@ -97,32 +96,32 @@ impl ReadFields for Reading {
     }
 
     #[tactic(auto, unfolding(crate::specs::Steps::need))]
-    fn need(self, fine: bool, fault: Fault, p: usize) -> Reading
-        ensures { result ≡ need fine (number_of fault) p self }
+    fn need(self, fine: bool, k: u8, p: usize) -> Reading
+        ensures { result ≡ need fine k p self }
     {
         let (at, v) = self?;
         if fine {
             return Ok((at, v));
         }
-        Err(at_place(fault, p))
+        Err(at_place(k, p))
     }
 
     #[tactic(auto, unfolding(crate::specs::Steps::fixed_in))]
-    fn fixed_in(self, s: &[u8], n: usize, least: u64, most: u64, fault: Fault) -> Reading
+    fn fixed_in(self, s: &[u8], n: usize, least: u64, most: u64, k: u8) -> Reading
         requires { n ≤ 8 }
-        ensures { result ≡ fixed_in s.now n least most (number_of fault) self }
+        ensures { result ≡ fixed_in s.now n least most k self }
     {
         let (at, _) = self?;
         let left = left_of(s.len(), at);
         if left < n {
-            return Err(at_place(Fault::RunsPast, at));
+            return Err(at_place(Fault::RunsPast as u8, at));
         }
         let v = fixed_at(s, at, n);
         if v < least {
-            return Err(at_place(fault, at));
+            return Err(at_place(k, at));
         }
         if most < v {
-            return Err(at_place(fault, at));
+            return Err(at_place(k, at));
         }
         Ok((at + n, v))
     }
@@ -133,21 +132,21 @@ impl ReadFields for Reading {
     {
         let (at, _) = self?;
         if s.len() < at {
-            return Err(at_place(Fault::RunsPast, at));
+            return Err(at_place(Fault::RunsPast as u8, at));
         }
         match compact::item(&s[at..], padding) {
             Ok((v, n, _)) => Ok((at + n, v)),
-            Err(r) => Err(at_place(r.fault, at)),
+            Err(r) => Err(at_place(r.number, at)),
         }
     }
 
     #[tactic(auto, unfolding(crate::specs::Steps::number_is))]
-    fn number_is(self, s: &[u8], x: u64, fault: Fault, padding: bool) -> Reading
-        ensures { result ≡ number_is padding s.now x (number_of fault) self }
+    fn number_is(self, s: &[u8], x: u64, k: u8, padding: bool) -> Reading
+        ensures { result ≡ number_is padding s.now x k self }
     {
         let (end, v) = self.number(s, padding)?;
         if v != x {
-            return Err(at_place(fault, self.place()));
+            return Err(at_place(k, self.place()));
         }
         Ok((end, v))
     }
@@ -159,7 +158,7 @@ impl ReadFields for Reading {
         let (at, _) = self?;
         let left = left_of(s.len(), at);
         if (left as u64) < n {
-            return Err(at_place(Fault::RunsPast, at));
+            return Err(at_place(Fault::RunsPast as u8, at));
         }
         Ok((at + n as usize, 0))
     }
@@ -171,7 +170,7 @@ impl ReadFields for Reading {
         let (at, _) = self?;
         let left = left_of(s.len(), at);
         if left < 16 {
-            return Err(at_place(Fault::RunsPast, at));
+            return Err(at_place(Fault::RunsPast as u8, at));
         }
         Ok((at + 16, guid_at(&s[at..])))
     }
@@ -182,21 +181,21 @@ impl ReadFields for Reading {
     {
         let (at, _) = self?;
         if s.len() < at {
-            return Err(at_place(Fault::RunsPast, at));
+            return Err(at_place(Fault::RunsPast as u8, at));
         }
         match extended_guid::item(&s[at..]) {
             Ok((x, n)) => Ok((at + n, x)),
-            Err(r) => Err(at_place(r.fault, at)),
+            Err(r) => Err(at_place(r.number, at)),
         }
     }
 
     #[tactic(auto, unfolding(crate::specs::Steps::null_id))]
-    fn null_id(self, s: &[u8], fault: Fault) -> Reading
-        ensures { result ≡ null_id s.now (number_of fault) self }
+    fn null_id(self, s: &[u8], k: u8) -> Reading
+        ensures { result ≡ null_id s.now k self }
     {
         let (at, x) = self.extended_guid(s)?;
         if x.is_some() {
-            return Err(at_place(fault, self.place()));
+            return Err(at_place(k, self.place()));
         }
         Ok((at, 0))
     }
@@ -207,11 +206,11 @@ impl ReadFields for Reading {
     {
         let (at, _) = self?;
         if s.len() < at {
-            return Err(at_place(Fault::RunsPast, at));
+            return Err(at_place(Fault::RunsPast as u8, at));
         }
         match serial::item(&s[at..]) {
             Ok((x, n)) => Ok((at + n, x)),
-            Err(r) => Err(at_place(r.fault, at)),
+            Err(r) => Err(at_place(r.number, at)),
         }
     }
 }

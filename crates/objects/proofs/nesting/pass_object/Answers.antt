@@ -25,4 +25,4 @@ overflow_cast-e c = let l = c.well_formed.0.1 in
 pub returns : goal.returns
 returns c = let l = c.well_formed.0.1 in
     let w = (told_both _ _ _ _ _ (omega arith) (object_ahead _ _ _ _) c.read_object-e.ensures c.read_object-place.ensures c.if-e-lt-REFUSED.false).2 in
-    ap Refused (rw c.fault_of.ensures at c.at_place-2.ensures) ∙ sym w
+    ap Refused c.at_place-2.ensures ∙ sym w

@@ -9,4 +9,4 @@ returns-then-placed c = rw c.if-placed.true
 
 pub returns : goal.returns
 unfolding told_refusal
-returns c = rw (c.if-placed.false, c.number.ensures)
+returns c = rw c.if-placed.false
