@@ -19,7 +19,7 @@ pub fn find_element(s: &[u8], position: usize) -> Found
     let mut ids = [0u64; ID_NUMBERS];
     let n = read_store(s, &mut rows, &mut ids)?;
     if n <= position {
-        return Err(at_place(Fault::TooMany, 0));
+        return Err(at_place(Fault::TooMany as u8, 0));
     }
     let x = element_in_row(&rows, &ids, position);
     Ok((x.place, x.length))

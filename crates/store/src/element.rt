@@ -81,7 +81,7 @@ fn named_key(c: ReadingId, p: usize) -> ReadingKey
 {
     let (q, x) = c?;
     match x {
-        None => Err(at_place(Fault::NullName, p)),
+        None => Err(at_place(Fault::NullName as u8, p)),
         Some((g, number)) => Ok((q, key_of(g, number as u64))),
     }
 }
@@ -94,7 +94,7 @@ fn numbered_key(c: ReadingSerial, p: usize) -> ReadingKey
 {
     let (q, x) = c?;
     match x {
-        None => Err(at_place(Fault::NullName, p)),
+        None => Err(at_place(Fault::NullName as u8, p)),
         Some((g, number)) => Ok((q, key_of(g, number))),
     }
 }
@@ -125,7 +125,7 @@ fn fresh_key(c: ReadingKey, p: usize, was: bool) -> ReadingKey
 {
     let (q, k) = c?;
     if was {
-        return Err(at_place(Fault::SeenBefore, p));
+        return Err(at_place(Fault::SeenBefore as u8, p));
     }
     Ok((q, k))
 }

@@ -51,7 +51,7 @@ fn range_fields(d: &[u8], padding: bool) -> RangeFields
     let second = to.value();
     RangeFields {
         range: range_of(guid_in(g), first, second),
-        last: to.need(first <= second, Fault::FromAboveTo, from.place()),
+        last: to.need(first <= second, Fault::FromAboveTo as u8, from.place()),
     }
 }
 
