@@ -111,7 +111,7 @@ request_knowing s t = pick (ltb longest_input (length s)) (knowing [] t most_sai
 -- ---- what reading answers: a fault of the request is one of the second input
 
 abbrev pub in_request : Refusal → Refusal
-in_request r = record { fault = r.fault; input = 1; place = r.place; needed = r.needed }
+in_request r = record { number = r.number; input = 1; place = r.place; needed = r.needed }
 
 -- the id, the limit, where the filters stand, how many they are, and how many ranges are known
 unfoldable pub request_answer : Reading → ℕ → ℕ → ℕ → ℕ → ℕ → Request

@@ -134,7 +134,7 @@ impl Index<'_> {
             let id = at.extended_guid(d);
             let next = id.on();
             if i == MOST_IDS {
-                return next.need(false, Fault::TooMany, at.place());
+                return next.need(false, Fault::TooMany as u8, at.place());
             }
             self.set_id(id, flags, to);
             at = next;

@@ -52,8 +52,8 @@ fn kind_taken(k: u64) -> bool
 fn kind_field(d: &[u8]) -> Reading
     ensures { result ≡ kind_field d.now }
 {
-    let k = FRONT.fixed_in(d, 1, 0, 255, Fault::NotServed);
-    k.need(kind_taken(k.value()), Fault::NotServed, 0)
+    let k = FRONT.fixed_in(d, 1, 0, 255, Fault::NotServed as u8);
+    k.need(kind_taken(k.value()), Fault::NotServed as u8, 0)
 }
 
 // Both bytes.
@@ -62,7 +62,7 @@ pub(crate) fn filter_fields(d: &[u8]) -> FilterFields
     ensures { result ≡ filter_fields d.now }
 {
     let k = kind_field(d);
-    let last = k.fixed_in(d, 1, 0, 1, Fault::NotServed);
+    let last = k.fixed_in(d, 1, 0, 1, Fault::NotServed as u8);
     FilterFields {
         kind: k.value(),
         operation: last.value(),
@@ -124,7 +124,7 @@ fn ids_from(d: &[u8], n: u64, c: Reading) -> Reading
     for i in 0..n {
         let next = past_id(d, at);
         if i == MOST_IDS {
-            return next.need(false, Fault::TooMany, at.place());
+            return next.need(false, Fault::TooMany as u8, at.place());
         }
         at = next;
     }

@@ -54,9 +54,9 @@ pub fn versions(s: &[u8], signature: u64) -> Reading
     ensures { result ≡ versions signature s.now }
 {
     FRONT
-        .fixed_in(s, 2, 12, 0xFFFF, Fault::WrongVersion)
-        .fixed_in(s, 2, 0, 12, Fault::WrongVersion)
-        .fixed_in(s, 8, signature, signature, Fault::WrongVersion)
+        .fixed_in(s, 2, 12, 0xFFFF, Fault::WrongVersion as u8)
+        .fixed_in(s, 2, 0, 12, Fault::WrongVersion as u8)
+        .fixed_in(s, 8, signature, signature, Fault::WrongVersion as u8)
 }
 
 // The extended GUID that was read; null after a fault.
@@ -86,7 +86,7 @@ fn sub_request_fields(d: &[u8], kind: u64) -> Reading
     ensures { result ≡ sub_request_fields kind d.now }
 {
     let id = FRONT.number(d, REQUEST_PADDING);
-    id.number_is(d, kind, Fault::NotServed, REQUEST_PADDING)
+    id.number_is(d, kind, Fault::NotServed as u8, REQUEST_PADDING)
         .number(d, REQUEST_PADDING)
         .valued(id.value())
 }
@@ -120,11 +120,11 @@ fn query_changes(s: &[u8], c: Reading) -> Reading
 fn argument_fields(d: &[u8]) -> Reading
     ensures { result ≡ argument_fields d.now }
 {
-    let flags = FRONT.fixed_in(d, 1, 0, 255, Fault::NotServed);
+    let flags = FRONT.fixed_in(d, 1, 0, 255, Fault::NotServed as u8);
     flags
-        .need(flags.value() % 4 == 3, Fault::NotServed, 0)
-        .null_id(d, Fault::NotServed)
-        .null_id(d, Fault::NotServed)
+        .need(flags.value() % 4 == 3, Fault::NotServed as u8, 0)
+        .null_id(d, Fault::NotServed as u8)
+        .null_id(d, Fault::NotServed as u8)
 }
 
 #[tactic(auto, using(crate::proofs::Inside::good_argument_fields), unfolding(crate::specs::Message::arguments))]
@@ -230,7 +230,7 @@ pub fn in_request(r: Refusal) -> Refusal
     ensures { result ≡ in_request r }
 {
     Refusal {
-        fault: r.fault,
+        number: r.number,
         input: 1,
         place: r.place,
         needed: r.needed,
