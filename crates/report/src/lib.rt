@@ -27,7 +27,7 @@ pub fn refuse(report: &mut [u8], r: Refusal) -> u64
     ensures { (result ≡ refusal_number r) × (report.new ≡ placed (refusal_report r) report.old) }
 {
     put_report(report, &[r.input as u64, r.place as u64, r.needed as u64]);
-    r.fault.number() as u64
+    r.number as u64
 }
 
 // What is told on success: 0, a place and a length; and 0, the number that such a call returns.
