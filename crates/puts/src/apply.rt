@@ -103,7 +103,7 @@ fn size(inputs: Inputs, id: u64, plan: &[u16], newstore: &mut [u8], out: &mut [u
 {
     let whole = PACKAGE_LENGTH + planned_length(inputs, plan);
     if LONGEST_INPUT < whole {
-        return Err(at_place(Fault::InputTooLong, 0));
+        return Err(at_place(Fault::InputTooLong as u8, 0));
     }
     if newstore.len() < whole {
         return Err(too_short(whole));
@@ -127,7 +127,7 @@ fn count(inputs: Inputs, id: u64, newstore: &mut [u8], out: &mut [u8]) -> Applie
         &mut plan,
     );
     if MOST_ELEMENTS < planned {
-        return Err(at_place(Fault::TooMany, 0));
+        return Err(at_place(Fault::TooMany as u8, 0));
     }
     size(inputs, id, &plan[..planned], newstore, out)
 }
@@ -146,7 +146,7 @@ fn number(
 {
     let highest = highest_under(stored.elements, g);
     if LAST - highest < handed.elements.count as u64 {
-        return Err(at_place(Fault::NoSerialLeft, 0));
+        return Err(at_place(Fault::NoSerialLeft as u8, 0));
     }
     let inputs = Inputs {
         stored,
@@ -186,7 +186,7 @@ fn expect(
     if same_id(expected, index) {
         return number(stored, handed, id, g, newstore, out);
     }
-    Err(at_place(Fault::OtherIndex, 0))
+    Err(at_place(Fault::OtherIndex as u8, 0))
 }
 
 // The faults of the put's package, then what it does.
