@@ -136,7 +136,7 @@ pub fn length(
     ensures { TellsLength store.now request.now offered result rows.old rows.new ranges.old ranges.new }
 {
     if too_few(rows, ranges) {
-        return Err(at_place(Fault::TablesTooShort, 0));
+        return Err(at_place(Fault::TablesTooShort as u8, 0));
     }
     tell_length(store, request, offered, rows, ranges)
 }
@@ -154,7 +154,7 @@ pub fn write(
     ensures { WritesAnswer store.now request.now result rows.old rows.new ranges.old ranges.new out.old out.new }
 {
     if too_few(rows, ranges) {
-        return Err(at_place(Fault::TablesTooShort, 0));
+        return Err(at_place(Fault::TablesTooShort as u8, 0));
     }
     send_answer(store, request, rows, ranges, out)
 }

@@ -42,7 +42,7 @@ impl From<Unsent> for Refusal {
 
     fn from(u: Unsent) -> Refusal {
         match u {
-            Unsent::Crowded => at_place(Fault::TooMany, 0),
+            Unsent::Crowded => at_place(Fault::TooMany as u8, 0),
             Unsent::Short(needed) => too_short(needed),
         }
     }
