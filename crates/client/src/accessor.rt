@@ -19,7 +19,7 @@ pub fn find_received(s: &[u8], position: usize) -> Found
     let mut ids = [0u64; ID_NUMBERS];
     let x = read_rows(s, &mut rows, &mut ids)?;
     if x.count <= position {
-        return Err(at_place(Fault::TooMany, 0));
+        return Err(at_place(Fault::TooMany as u8, 0));
     }
     let e = element_in_row(&rows, &ids, position);
     Ok((e.place, e.length))

@@ -55,8 +55,8 @@ pub type ReadAnswer = Result<Received, Refusal>;
 fn status_byte(d: &[u8], c: Reading) -> Reading
     ensures { result ≡ status_byte d.now c }
 {
-    let b = c.fixed_in(d, 1, 0, 255, Fault::WrongLayout);
-    b.need(b.value() % 2 == 0, Fault::WrongLayout, c.place())
+    let b = c.fixed_in(d, 1, 0, 255, Fault::WrongLayout as u8);
+    b.need(b.value() % 2 == 0, Fault::WrongLayout as u8, c.place())
 }
 
 // The status, in the part that the response's data run is.
@@ -79,7 +79,11 @@ fn sub_response_fields(d: &[u8], kind: u64) -> Reading
     ensures { result ≡ sub_response_fields kind d.now }
 {
     let id = FRONT.number(d, ANSWER_PADDING);
-    status_byte(d, id.number_is(d, kind, Fault::NotServed, ANSWER_PADDING)).valued(id.value())
+    status_byte(
+        d,
+        id.number_is(d, kind, Fault::NotServed as u8, ANSWER_PADDING),
+    )
+    .valued(id.value())
 }
 
 pub(crate) fn sub_response(s: &[u8], c: Reading, kind: u64) -> Reading
@@ -96,7 +100,7 @@ fn changes_fields(d: &[u8]) -> Reading
     FRONT
         .extended_guid(d)
         .on()
-        .fixed_in(d, 1, 0, 255, Fault::WrongLayout)
+        .fixed_in(d, 1, 0, 255, Fault::WrongLayout as u8)
 }
 
 // On from behind the knowledge, whose ranges are not asked for here.
@@ -148,7 +152,7 @@ pub fn read_rows(s: &[u8], rows: &mut [u64; ROW_NUMBERS], ids: &mut [u64; ID_NUM
     ensures { (result ≡ answer_in s.now) × (rows.new ≡ rows_received s.now rows.old) × (ids.new ≡ ids_received s.now ids.old) }
 {
     if LONGEST_ANSWER < s.len() {
-        return Err(at_place(Fault::InputTooLong, LONGEST_ANSWER));
+        return Err(at_place(Fault::InputTooLong as u8, LONGEST_ANSWER));
     }
     let c = response_start(s);
     let first = package_start(s, c, RESPONSE, ANSWER_PADDING).place();

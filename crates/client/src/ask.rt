@@ -185,7 +185,7 @@ pub(crate) fn room_for(out: &[u8], needed: usize) -> Wrote
     ensures { result ≡ room_for (length out.now) needed }
 {
     if LONGEST_INPUT < needed {
-        return Err(at_place(Fault::InputTooLong, 0));
+        return Err(at_place(Fault::InputTooLong as u8, 0));
     }
     if out.len() < needed {
         return Err(too_short(needed));

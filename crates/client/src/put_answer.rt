@@ -43,7 +43,7 @@ pub fn read_put_answer(s: &[u8]) -> ReadPutAnswer
     ensures { ReadsPutAnswer s.now result }
 {
     if LONGEST_ANSWER < s.len() {
-        return Err(at_place(Fault::InputTooLong, LONGEST_ANSWER));
+        return Err(at_place(Fault::InputTooLong as u8, LONGEST_ANSWER));
     }
     let mut rows = [0u64; ROW_NUMBERS];
     let mut ids = [0u64; ID_NUMBERS];
