@@ -29,7 +29,7 @@ fn size(book: Held, answer: Held, plan: &[u16], newbook: &mut [u8]) -> Keeping
 {
     let whole = PACKAGE_LENGTH + planned_length(book, answer, plan);
     if LONGEST_INPUT < whole {
-        return Err(at_place(Fault::InputTooLong, 0));
+        return Err(at_place(Fault::InputTooLong as u8, 0));
     }
     if newbook.len() < whole {
         return Err(too_short(whole));
@@ -48,7 +48,7 @@ fn count(book: Held, answer: Held, newbook: &mut [u8]) -> Keeping
     let came = answer.elements;
     let planned = plan_elements(there.ids, there.count, came.ids, came.count, &mut plan);
     if MOST_ELEMENTS < planned {
-        return Err(at_place(Fault::TooMany, 0));
+        return Err(at_place(Fault::TooMany as u8, 0));
     }
     size(book, answer, &plan[..planned], newbook)
 }
