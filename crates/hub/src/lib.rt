@@ -279,7 +279,7 @@ fn ask_put(
     }
     // The number of an extended GUID has 32 bits.
     let Ok(number) = u32::try_from(number) else {
-        return Err(at_place(Fault::NoForm, 0));
+        return Err(at_place(Fault::NoForm as u8, 0));
     };
     write_put(out, id, Some((Guid { low, high }, number)), elements)
 }
