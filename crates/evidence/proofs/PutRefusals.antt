@@ -10,7 +10,6 @@ use native.Mathlib.Omega.{arith}
 use lib.ListN.{length}
 use borrow.Author.Tests.{lt-ltb, le-ltb}
 use Rattle.laws.proofs.Cases.{by_bool, by_lt, pick_all, impossible}
-use Rattle.numbers.proofs.Faults.{number_of_fault}
 use Rattle.numbers.specs.Refusals.{fault_at, too_short, longest_input}
 use Rattle.numbers.specs.declared.guid.Guid.{Guid}
 use Rattle.numbers.specs.declared.refusal.Refusal.{Refusal}
@@ -69,9 +68,7 @@ of_put s q r t =
 
 -- at the front of the store: it falls on no item
 of_none : (s q : List ℕ) (k : ℕ) → 1 ≤ k → k ≤ 16 → (k ≡ 13 → ⊥) → PutFault (s ∷ q ∷ []) (fault_at k 0)
-of_none s q k a b n =
-    let e = number_of_fault k a b in
-    record { least = omega arith; most = omega arith; no_table = λ h. n (sym e ∙ h); input = omega arith; place = omega arith; needed = λ z. refl }
+of_none s q k a b n = record { least = a; most = b; no_table = n; input = omega arith; place = omega arith; needed = λ z. refl }
 
 of_short : (s q : List ℕ) (n : ℕ) → PutFault (s ∷ q ∷ []) (too_short n)
 of_short s q n =

@@ -9,7 +9,6 @@ use native.Mathlib.Omega.{arith}
 use lib.ListN.{length}
 use borrow.Author.Tests.{lt-ltb, le-ltb, eq-eqb, ne_eqb}
 use Rattle.laws.proofs.Cases.{by_lt, by_eq, impossible}
-use Rattle.numbers.proofs.Faults.{number_of_fault}
 use Rattle.numbers.specs.Refusals.{fault_at, too_short, longest_input, tell_wrote, refusal_number}
 use Rattle.numbers.specs.declared.refusal.Refusal.{Refusal}
 use Rattle.numbers.specs.Results.Wrote.{Wrote}
@@ -117,9 +116,7 @@ second_fault x y r t =
 
 -- at the front of the first: it falls on no item
 pub front_fault : (x : List ℕ) (more : List (List ℕ)) (k : ℕ) → 1 ≤ k → k ≤ 14 → Fault (x ∷ more) (fault_at k 0)
-front_fault x more k a b =
-    let e = number_of_fault k a (omega arith) in
-    record { least = omega arith; most = omega arith; input = omega arith; place = omega arith; needed = λ z. refl }
+front_fault x more k a b = record { least = a; most = b; input = omega arith; place = omega arith; needed = λ z. refl }
 
 pub short_fault : (x : List ℕ) (more : List (List ℕ)) (n : ℕ) → Fault (x ∷ more) (too_short n)
 short_fault x more n = record { least = omega arith; most = omega arith; input = omega arith; place = omega arith; needed = λ z. absurd (z refl) }
