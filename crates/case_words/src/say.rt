@@ -45,12 +45,11 @@ pub fn number<W: Write>(to: &mut W, n: u64) -> io::Result<()> {
 
 pub fn refusal<W: Write>(to: &mut W, r: Refusal) -> io::Result<()> {
     let Refusal {
-        fault,
+        number,
         input,
         place,
         needed,
     } = r;
-    let number = fault.number();
     write!(to, "no {number} {input} {place} {needed}")
 }
 
