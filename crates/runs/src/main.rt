@@ -30,7 +30,7 @@ fn put_headers(s: &mut [u8], first: u8) {
 fn show<W: Write>(to: &mut W, r: Passed) -> io::Result<()> {
     match r {
         Ok(e) => writeln!(to, "past {e}"),
-        Err(r) => writeln!(to, "refused {} at {}", r.fault.number(), r.place),
+        Err(r) => writeln!(to, "refused {} at {}", r.number, r.place),
     }
 }
 
