@@ -1,4 +1,4 @@
--- The index of the elements' ids, built row by row: what both tables hold after each row. It is for `choice::Index`; nothing that is
+-- The index of the elements' ids, built row by row: what both tables hold after each row. It is for `choice::index_ids`; nothing that is
 -- promised of a choice speaks of it.
 -- Assumes nothing.
 use mathlib.Core.Path.{◌≡◌, refl, sym, ◌∙◌}

@@ -2,7 +2,7 @@
 ghost use Rattle.std.specs.Prelude.{◌≡◌, IfSome};
 ghost use Rattle.request.specs.Filter.{kind_taken, kind_field, filter_start, filter_opened, filter_fields, one_number, type_part, id_step, ids_from, ids_field, ids_part, kind_part, filter_at, filters_from};
 ghost use Rattle.objects.specs.Steps.{run_here};
-ghost use Rattle.request.specs.ShortId.{Seen};
+ghost use Rattle.request.specs.ShortId.{short_id, Seen};
 
 use numbers::compact::PADDING_REFUSED;
 use numbers::refusal::Fault;
@@ -89,9 +89,10 @@ pub(crate) fn type_part(s: &[u8], c: Reading) -> Reading
 
 // How long the id at the front of a part of 18 bytes or more is, where that is seen without reading it: in the form of 17 bytes, and in
 // that of 18 where the number is in the form's range, as it is 32 or more if its upper byte is 8 or more.
-#[tactic(auto, using(crate::proofs::ShortIds::seen_17, crate::proofs::ShortIds::seen_18))]
+#[tactic(auto, using(crate::proofs::ShortIds::seen_17, crate::proofs::ShortIds::seen_18), unfolding(crate::specs::ShortId::short_id))]
 fn short_id(s: &[u8]) -> Option<usize>
-    ensures { IfSome result (Seen s.now) }
+    ensures told { result ≡ short_id s.now }
+    ensures seen { IfSome result (Seen s.now) }
 {
     if s.len() < 18 {
         return None;

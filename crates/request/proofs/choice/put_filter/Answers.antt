@@ -11,7 +11,7 @@ use Rattle.request.proofs.choice.put_filter.Goals as goal
 
 pub returns : goal.returns
 unfolding filter_at filter_read flag_of
-returns c = let e = filter_of_kind c.args.s.now c.args.c (elements_of c.args.index.now.all) c.args.flags.now in (
+returns c = let e = filter_of_kind c.args.s.now c.args.c (elements_of c.args.index.all) c.args.flags.now in (
   rw (c.end.ensures, c.put_kind.ensures.0, c.open_filter-f.ensures),
   c.put_kind.ensures.1 ∙ rw (c.from-to.ensures, byte_picked, c.open_filter-f.ensures) e,
 )

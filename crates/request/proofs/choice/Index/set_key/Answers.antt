@@ -8,13 +8,13 @@ use Rattle.request.proofs.choice.Index.set_key.Goals as goal
 use Rattle.request.proofs.choice.Index.set_key.Goals.{then-matches, else-matches}
 
 pub loop-left-init : goal.loop-left-init
-loop-left-init c = following_start (c.args.self.now.linked c.if-self-gt-MOST_ELEMENTS.false) _ _ _ _ _ c.mark_of.ensures.0
+loop-left-init c = following_start (c.args.self.linked c.if-self-gt-MOST_ELEMENTS.false) _ _ _ _ _ c.mark_of.ensures.0
 
 pub loop-left-smaller : goal.loop-left-smaller
-loop-left-smaller c = following_less (c.args.self.now.linked c.if-self-gt-MOST_ELEMENTS.false) _ _ _ c.loop-left.invariant _ (omega arith)
+loop-left-smaller c = following_less (c.args.self.linked c.if-self-gt-MOST_ELEMENTS.false) _ _ _ c.loop-left.invariant _ (omega arith)
 
 pub loop-left-preserved : goal.loop-left-preserved
-loop-left-preserved c = let w = c.args.self.now.linked c.if-self-gt-MOST_ELEMENTS.false in
+loop-left-preserved c = let w = c.args.self.linked c.if-self-gt-MOST_ELEMENTS.false in
     let e = rw c.element.ensures at (sym c.matches.ensures) in
     elim c.if-matches.branch [
       | then-matches x ↦ rw x.flags-is (following_matched w _ _ _ c.loop-left.invariant _ (omega arith) (e ∙ x.if-matches.true))

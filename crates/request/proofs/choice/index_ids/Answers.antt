@@ -1,14 +1,14 @@
--- `choice::Index::new` meets its contract. The invariant: the rows so far are in both tables.
+-- `choice::index_ids` meets its contract. The invariant: the rows so far are in both tables.
 -- Assumes nothing.
 use mathlib.Core.Path.{◌∙◌}
 use native.Mathlib.Omega.{arith}
-use lib.ListN.{length-set, get_or-replicate}
+use lib.ListN.{length-set}
 use Rattle.request.specs.Index.{index_marks}
 use Rattle.request.proofs.Indexing.{linked_start, linked_more}
-use Rattle.request.proofs.choice.Index.new.Goals as goal
+use Rattle.request.proofs.choice.index_ids.Goals as goal
 
 pub loop-i-init : goal.loop-i-init
-loop-i-init c = (omega arith, omega arith, linked_start _ _ _ (λ mark low. get_or-replicate index_marks mark 0 0 low))
+loop-i-init c = (omega arith, omega arith, linked_start _ _ _ c.requires.2)
 
 pub loop-i-preserved : goal.loop-i-preserved
 loop-i-preserved c = let u = c.loop-i.invariant in (
