@@ -41,7 +41,8 @@ fn refused<W: Write>(to: &mut W, r: Refusal, out: &[u8], t: &Tables) -> io::Resu
 }
 
 // The call, lent as much as the case says, and what it answers. Output and tables are looked at whole, what is not lent of them
-// too.
+// too. The tables are new for each case, in a function of their own, as the output below.
+#[inline(never)]
 fn asked<W: Write>(
     to: &mut W,
     store: &[u8],
@@ -65,14 +66,11 @@ fn asked<W: Write>(
     }
 }
 
-// `write STOREHEX REQUESTHEX OUTLEN STORETABLELEN KNOWTABLELEN`: the bytes of both inputs stand in one space, the request's
-// behind the store's.
-pub fn written<W: Write>(to: &mut W, line: &[u8], space: &mut [u8]) -> io::Result<()> {
+// The output, new for each case. It stands in a function of its own behind the words that are read first, so that neither a line
+// without these nor another mode pays for it.
+#[inline(never)]
+fn output_lent<W: Write>(to: &mut W, line: &[u8], store: &[u8], request: &[u8]) -> io::Result<()> {
     let mut out = say::output_space::<OUTPUT_ROOM>();
-    let Some((store, request)) = words::two(words::word(line, 1), words::word(line, 2), space)
-    else {
-        return say::bad(to);
-    };
     let Some(room) = words::lent(words::word(line, 3), &out) else {
         return say::bad(to);
     };
@@ -80,4 +78,14 @@ pub fn written<W: Write>(to: &mut W, line: &[u8], space: &mut [u8]) -> io::Resul
         return say::bad(to);
     };
     asked(to, store, request, room, l, &mut out)
+}
+
+// `write STOREHEX REQUESTHEX OUTLEN STORETABLELEN KNOWTABLELEN`: the bytes of both inputs stand in one space, the request's
+// behind the store's.
+pub fn written<W: Write>(to: &mut W, line: &[u8], space: &mut [u8]) -> io::Result<()> {
+    let Some((store, request)) = words::two(words::word(line, 1), words::word(line, 2), space)
+    else {
+        return say::bad(to);
+    };
+    output_lent(to, line, store, request)
 }

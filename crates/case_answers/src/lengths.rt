@@ -9,7 +9,9 @@ use std::io;
 use std::io::Write;
 
 // The call, lent as much as the case says: the length and the rows of both tables. These are looked at whole, what is not lent of them
-// too.
+// too. They are new for each case, in a function that stays one of its own when it is compiled, so that another mode does not pay for
+// their room.
+#[inline(never)]
 fn asked<W: Write>(
     to: &mut W,
     store: &[u8],

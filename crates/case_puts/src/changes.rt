@@ -81,10 +81,26 @@ fn applied<W: Write>(
     }
 }
 
-// `put STOREHEX REQUESTHEX HUBGUIDHEX NEWSTORELEN OUTLEN`: the bytes of both inputs stand in one space, the put's behind the store's.
-pub fn handed<W: Write>(to: &mut W, line: &[u8], space: &mut [u8]) -> io::Result<()> {
+// Both buffers, new for each case. They stand in a function of their own behind the words that are read first, so that neither a line
+// without these nor another mode pays for them.
+#[inline(never)]
+fn buffers_lent<W: Write>(
+    to: &mut W,
+    line: &[u8],
+    store: &[u8],
+    request: &[u8],
+    hub: Guid,
+) -> io::Result<()> {
     let mut newstore = say::output_space::<BUFFER_ROOM>();
     let mut out = say::output_space::<BUFFER_ROOM>();
+    let Some(l) = lent(line, &newstore, &out) else {
+        return say::bad(to);
+    };
+    applied(to, store, request, hub, l, &mut newstore, &mut out)
+}
+
+// `put STOREHEX REQUESTHEX HUBGUIDHEX NEWSTORELEN OUTLEN`: the bytes of both inputs stand in one space, the put's behind the store's.
+pub fn handed<W: Write>(to: &mut W, line: &[u8], space: &mut [u8]) -> io::Result<()> {
     let Some((store, request)) = words::two(words::word(line, 1), words::word(line, 2), space)
     else {
         return say::bad(to);
@@ -92,8 +108,5 @@ pub fn handed<W: Write>(to: &mut W, line: &[u8], space: &mut [u8]) -> io::Result
     let Some(hub) = words::guid(words::word(line, 3)) else {
         return say::bad(to);
     };
-    let Some(l) = lent(line, &newstore, &out) else {
-        return say::bad(to);
-    };
-    applied(to, store, request, hub, l, &mut newstore, &mut out)
+    buffers_lent(to, line, store, request, hub)
 }

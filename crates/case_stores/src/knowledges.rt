@@ -43,7 +43,7 @@ fn ranges_in(s: &[u8]) -> usize
 
 // Whether no number was changed behind the rows of as many ranges as the bytes of s have room for. Before that a row may be left
 // from before it was joined with another.
-fn kept(s: &[u8], t: &[u64; SAID_NUMBERS]) -> bool {
+pub fn kept(s: &[u8], t: &[u64; SAID_NUMBERS]) -> bool {
     untouched(&t[ranges_in(s) * RANGE_WIDTH..])
 }
 
@@ -140,7 +140,8 @@ fn read_and_written<W: Write>(to: &mut W, s: &[u8], out: &mut [u8], room: usize)
 }
 
 // `rewritten HEX OUTLEN`. There is room for the longest knowledge that is written, and more: 512 ranges of 36 bytes, with 28 around
-// them.
+// them. It is a function of its own when it is compiled, so that another mode does not pay for its room.
+#[inline(never)]
 pub fn rewritten<W: Write>(to: &mut W, line: &[u8], space: &mut [u8]) -> io::Result<()> {
     let mut out = say::output_space::<20000>();
     let Some((s, _)) = words::bytes(words::word(line, 1), space) else {

@@ -1,9 +1,10 @@
 // What a case's line of output is made of.
-ghost use Rattle.std.specs.Prelude.{true, ◌≡◌, ℕ, ◌^◌, ◌<◌, length, get_or};
+ghost use Rattle.std.specs.Prelude.{true, ◌≡◌, ℕ, ◌^◌, ◌≤◌, ◌<◌, length, get_or};
 
 use crate::words;
 use numbers::guid::Guid;
 use numbers::refusal::{Refusal, Wrote};
+use std::convert::AsSlice;
 use std::io;
 use std::io::Write;
 
@@ -15,8 +16,9 @@ pub fn output_space<const N: usize>() -> [u8; N] {
     [UNTOUCHED; N]
 }
 
-pub fn text<W: Write>(to: &mut W, s: &str) -> io::Result<()> {
-    to.write_all(s.as_bytes())
+// Bytes or text.
+pub fn text<W: Write, S: AsSlice<u8> + Drop>(to: &mut W, s: S) -> io::Result<()> {
+    to.write_all(s.as_slice())
 }
 
 // The line is no case of this program.
@@ -53,10 +55,25 @@ pub fn refusal<W: Write>(to: &mut W, r: Refusal) -> io::Result<()> {
     write!(to, "no {number} {input} {place} {needed}")
 }
 
-// The bytes of s in hex.
+// The digits of hex.
+const DIGITS: [u8; 16] = *b"0123456789abcdef";
+
+// The bytes of s in hex, written at once by way of pairs.
+fn piece<W: Write>(to: &mut W, s: &[u8], pairs: &mut [[u8; 2]]) -> io::Result<()>
+    requires { length s.now ≤ length pairs.old }
+{
+    let (spelled, _) = pairs.split_at_mut(s.len());
+    for (b, pair) in s.iter().zip(spelled.iter_mut()) {
+        *pair = [DIGITS[usize::from(*b / 16)], DIGITS[usize::from(*b % 16)]];
+    }
+    to.write_all(spelled.as_flattened())
+}
+
+// The bytes of s in hex, many at a time: a call of the writer for each byte takes more time than what is written.
 fn hex<W: Write>(to: &mut W, s: &[u8]) -> io::Result<()> {
-    for b in s {
-        write!(to, "{b:02x}")?;
+    let mut pairs = [[b'0'; 2]; 128];
+    for part in s.chunks(128) {
+        piece(to, part, &mut pairs)?;
     }
     Ok(())
 }
@@ -127,7 +144,8 @@ pub fn written<W: Write>(to: &mut W, wrote: Wrote, out: &[u8]) -> io::Result<()>
 }
 
 // A call that writes an item to as many of N bytes as a word lends, and what it answered. All N are looked at, what is not lent
-// of them too.
+// of them too. It is a function of its own when it is compiled, so that what is not lent anything does not pay for the room.
+#[inline(never)]
 pub fn lent<const N: usize, W: Write, F: FnOnce(&mut [u8]) -> Wrote>(
     to: &mut W,
     room: &[u8],

@@ -48,7 +48,9 @@ fn decode(pairs: &[[u8; 2]], space: &mut [u8]) -> Option<()> {
 }
 
 // The bytes that a word spells, which then stand at the front of space, and what is left of space.
-pub fn bytes<'a>(text: &[u8], space: &'a mut [u8]) -> Option<(&'a [u8], &'a mut [u8])> {
+pub fn bytes<'a>(text: &[u8], space: &'a mut [u8]) -> Option<(&'a [u8], &'a mut [u8])>
+    ensures { IfSome result (λ parts. length parts.0.now + length parts.1.now ≤ length space.old) }
+{
     if text == b"-".as_slice() {
         return Some((&[], space));
     }
