@@ -41,7 +41,7 @@ pub fn lent(line: &[u8]) -> Option<Ends>
 }
 
 // What so many rows take, if there can be so many.
-fn filled(n: usize, count: usize) -> Option<Ends>
+pub fn filled(n: usize, count: usize) -> Option<Ends>
     ensures { IfSome result (λ e. (e.rows ≤ ranked_numbers) × (e.ranges ≤ knowledge_numbers)) }
 {
     if MOST_ELEMENTS < n || MOST_CARRIED < count {

@@ -91,7 +91,7 @@ pub fn rows<W: Write>(to: &mut W, s: &[u8]) -> io::Result<()> {
 }
 
 // Whether a part of s is the one of n bytes at this place.
-fn stands_at(s: &[u8], at: usize, n: usize, part: &[u8]) -> bool {
+pub fn stands_at(s: &[u8], at: usize, n: usize, part: &[u8]) -> bool {
     let Some(from_there) = s.get(at..) else {
         return false;
     };

@@ -59,6 +59,13 @@ pub place_none : (k : Key) → place_among k [] ≡ 0
 unfolding place_among
 place_none k = refl
 
+-- a place among keys is at most how many they are
+pub place_most : (k : Key) (keys : List Key) → place_among k keys ≤ length keys
+unfolding place_among
+place_most k [] = omega arith
+place_most k (x ∷ keys) =
+    by_bool (same_key k x) (λ e. rw e (omega arith)) (λ e. rw e (let h = place_most k keys in omega arith))
+
 -- it was found, or not
 pub found_there : (k : Key) (keys : List Key) (j : ℕ) → place_of k keys ≡ Some j → (is_among k keys ≡ true) × (place_among k keys ≡ j) × (j < length keys)
 found_there k keys j e =

@@ -43,7 +43,7 @@ row_stands {queue = queue} q p h = let z = row_inside q p h in rows_up_to q.stan
 -- all rows, as they were queued
 module _ (rows ids : List ℕ) (n : ℕ) (queue : List ℕ) (w : ℕ) (queue' : List ℕ) (stand : RowsStand rows ids n) (few : n ≤ most_elements)
     (l : Lays 0 (queue_of (elements_in rows ids n) (replicate most_elements 1)) queue w queue') where
-  all_count : w ≡ n
+  pub all_count : w ≡ n
   all_count = (all_queued rows ids n queue w queue' few l).0
 
   pub all_are : queued_from rows ids n queue' 0 ≡ ordered (elements_in rows ids n)

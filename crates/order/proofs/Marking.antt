@@ -5,7 +5,7 @@ use mathlib.Core.List.{List, [], ◌∷◌, ◌++◌, map}
 use Prim.Native.Nat.{ℕ, zero, suc, ◌+◌, ◌≤◌, ◌<◌}
 use native.Mathlib.Numerals.{add-one}
 use native.Mathlib.Omega.{arith}
-use lib.ListN.{length, take, get_or, set, replicate, length-set, length-replicate, get_or-replicate}
+use lib.ListN.{length, take, drop, get_or, set, replicate, length-set, length-replicate, get_or-replicate, drop_of_length-le, length-take}
 use lib.Seq.{take-suc, get_or-set_other}
 use Rattle.std.proofs.lemmas.List.{set_comm}
 use lib.Dec.{eqb}
@@ -27,6 +27,11 @@ marking_other [] flags i h = refl
 marking_other (j ∷ places) flags i h = get_or-set_other (marking places flags) j i 1 0 h.0 ∙ marking_other places flags i h.1
 
 -- ---- one more at a turn
+
+-- from the last on, none is marked yet
+pub marking_start : (queue flags : List ℕ) (n : ℕ) → flags ≡ marking (drop n (take n queue)) flags
+unfolding marking
+marking_start queue flags n = let l : length (take n queue) ≤ n = omega (arith, length-take n queue) in rw (drop_of_length-le (take n queue) l)
 
 -- in whichever order two flags are set
 set_either : (flags : List ℕ) (i j : ℕ) → set (set flags i 1) j 1 ≡ set (set flags j 1) i 1

@@ -9,7 +9,7 @@ use native.Mathlib.Nat.{zero-add}
 use native.Mathlib.Omega.{arith}
 use native.Mathlib.Numerals.{add-one}
 use lib.ListN.{length, take, drop, get_or, length-append, length-drop, take-append-drop}
-use lib.Seq.{drop-cons, drop-drop, take_at, drop_at, length-take-le, paste}
+use lib.Seq.{drop-cons, drop-drop, take_at, drop_at, get_or-drop, length-take-le, paste}
 use Rattle.std.proofs.lemmas.List.{take-take, take-append-le}
 use borrow.Author.Tests.{le-leb, lt-leb}
 use Rattle.laws.proofs.Cases.{impossible}
@@ -138,6 +138,14 @@ numbers_rows t k (suc n) h =
     rw (e, drop4 t (k * 4) (omega arith))
     (ap (λ (l : List ℕ). get_or t (k * 4) 0 ∷ get_or t (k * 4 + 1) 0 ∷ get_or t (k * 4 + 2) 0 ∷ get_or t (k * 4 + 3) 0 ∷ l)
     (numbers_rows t (suc k) n (omega arith) ∙ ap (λ (m : ℕ). take (n * 4) (drop m t)) (sym f)))
+
+-- a row past what was written is as it was
+pub row_kept : (t t₀ : List ℕ) (k n : ℕ) → k ≤ n → drop (k * 4) t ≡ drop (k * 4) t₀ → range_at t n ≡ range_at t₀ n
+row_kept t t₀ k n h e =
+    let at : (m : ℕ) → k * 4 ≤ m → get_or t m 0 ≡ get_or t₀ m 0 = λ m p.
+    let f : k * 4 + (m - k * 4) ≡ m = omega arith in
+    rw f at (sym (get_or-drop (k * 4) t (m - k * 4) 0) ∙ ap (λ (l : List ℕ). get_or l (m - k * 4) 0) e ∙ get_or-drop (k * 4) t₀ (m - k * 4) 0) in
+    rw (at (n * 4) (omega arith), at (n * 4 + 1) (omega arith), at (n * 4 + 2) (omega arith), at (n * 4 + 3) (omega arith))
 
 -- ---- `shift`
 
